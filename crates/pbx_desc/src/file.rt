@@ -1,0 +1,32 @@
+ghost use Rattle.std.specs.Prelude.{◌≡◌, None, []};
+
+use crate::message::DescriptorProto;
+use pbx_wire::{List, Recs, Text};
+use std::alloc::Global;
+
+/// A source file, `google.protobuf.FileDescriptorProto`.
+#[derive(Drop)]
+pub struct FileDescriptorProto {
+    /// The name under which the file is imported.
+    pub name: Option<Text>,
+    /// The messages at the top of the file, in the order of the source.
+    pub message_type: List<DescriptorProto>,
+    /// `proto3`, or absent in a file of `proto2`.
+    pub syntax: Option<Text>,
+    /// The records of numbers that are no field of this one, in order of arrival.
+    pub unknown: Recs,
+}
+
+impl FileDescriptorProto {
+    /// The record with each field absent; takes no memory.
+    pub fn new(alloc: Global) -> FileDescriptorProto
+        ensures { result ≡ record { name = None; message_type = []; syntax = None; unknown = [] } }
+    {
+        FileDescriptorProto {
+            name: None,
+            message_type: List::new(alloc),
+            syntax: None,
+            unknown: Recs::new(alloc),
+        }
+    }
+}

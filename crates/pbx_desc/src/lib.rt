@@ -1,0 +1,13 @@
+//! Descriptor records: the schema of a file as plain values.
+//!
+//! The records are those of `google/protobuf/descriptor.proto`, fields named as there, save that the
+//! field `type` is called `kind`. So far they have the fields that the thin source language fills.
+#![tactic(auto)]
+
+mod field;
+mod file;
+mod message;
+
+pub use field::FieldDescriptorProto;
+pub use file::FileDescriptorProto;
+pub use message::DescriptorProto;
