@@ -1,0 +1,12 @@
+pub mod Content
+pub mod Records
+pub mod Shape
+pub mod Meaning
+pub mod Encoding
+pub mod Same
+pub mod Sound
+pub mod View
+pub mod Merging
+pub mod Places
+pub mod Placing
+pub mod Laws
