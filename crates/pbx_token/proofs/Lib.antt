@@ -1,0 +1,4 @@
+pub mod Ascii
+pub mod Classes
+pub mod Laws
+pub mod Steps

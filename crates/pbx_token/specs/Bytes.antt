@@ -1,0 +1,72 @@
+-- Classes of bytes: "Letters and digits", "Integer literals" and "String literals" of the language specification.
+use Rattle.std.specs.Prelude.{ℕ, ◌+◌, ◌-◌, ◌*◌, ◌^◌, List, [], ◌∷◌, Bool, true, false, ◌==◌, ◌&&◌, ◌||◌, nat_le, nat_lt, Option, Some, None, if◌then◌else◌}
+use Rattle.pbx_token.specs.declared.piece.Run.{Run}
+use Rattle.pbx_token.specs.declared.piece.Run.TheVariants as runs
+use Rattle.pbx_token.specs.declared.piece.Class.{Class}
+use Rattle.pbx_token.specs.declared.piece.Class.TheVariants as classes
+
+abbrev pub not : Bool → Bool
+not true = false
+not false = true
+
+-- space, tab, line feed, vertical tab, form feed and carriage return
+abbrev pub is_blank : ℕ → Bool
+is_blank b = (b == 32) || (nat_le 9 b && nat_le b 13)
+
+abbrev pub is_digit : ℕ → Bool
+is_digit b = nat_le 48 b && nat_le b 57
+
+-- a letter or `_`, with which an identifier begins
+abbrev pub is_start : ℕ → Bool
+is_start b = (nat_le 65 b && nat_le b 90) || (nat_le 97 b && nat_le b 122) || (b == 95)
+
+-- ; { } [ ] ( ) < > = , . -
+abbrev pub is_mark : ℕ → Bool
+is_mark b = (b == 59) || (b == 123) || (b == 125) || (b == 91) || (b == 93) || (b == 40) || (b == 41) || (b == 60) || (b == 62) || (b == 61) || (b == 44) || (b == 46) || (b == 45)
+
+-- the bytes of a word, of a number and what may follow it by mistake, of a comment's line
+abbrev pub passes : Run → ℕ → Bool
+passes runs.Word b = is_start b || is_digit b
+passes runs.Number b = is_start b || is_digit b || (b == 46)
+passes runs.Line b = not (b == 10)
+
+-- a byte that stands for itself in a string: no line feed and no zero, and no escape is read
+abbrev pub is_plain : ℕ → Bool
+is_plain b = not (b == 10) && not (b == 0) && not (b == 92)
+
+-- what a byte begins
+abbrev pub first_class_of : ℕ → Class
+first_class_of b = if is_blank b then classes.Blank else (if is_start b then classes.Word else (if is_digit b then classes.Number else (if (b == 34) || (b == 39) then classes.Quote else (if is_mark b then classes.Mark else classes.Bad))))
+
+-- what two bytes begin: `//` and `/*` begin comments
+abbrev pub class_with : ℕ → List ℕ → Class
+class_with a [] = first_class_of a
+class_with a (b ∷ bs) = if (a == 47) && (b == 47) then classes.Line else (if (a == 47) && (b == 42) then classes.Block else first_class_of a)
+
+abbrev pub class_of : List ℕ → Class
+class_of [] = classes.Bad
+class_of (a ∷ bs) = class_with a bs
+
+-- ---- numbers
+
+-- the value of a hexadecimal digit, and 99 for any other byte
+abbrev pub digit_of : ℕ → ℕ
+digit_of b = if is_digit b then b - 48 else (if nat_le 97 b && nat_le b 102 then b - 87 else (if nat_le 65 b && nat_le b 70 then b - 55 else 99))
+
+-- the value of digits after a front of that value
+unfoldable pub digits_from : ℕ → ℕ → List ℕ → Option ℕ
+digits_from base n [] = Some n
+digits_from base n (b ∷ bs) = if nat_lt (digit_of b) base && nat_lt (n * base + digit_of b) (2 ^ 64) then digits_from base (n * base + digit_of b) bs else None
+
+abbrev pub hexadecimal : List ℕ → Option ℕ
+hexadecimal [] = None
+hexadecimal (b ∷ bs) = digits_from 16 0 (b ∷ bs)
+
+abbrev pub after_zero : List ℕ → Option ℕ
+after_zero [] = Some 0
+after_zero (x ∷ bs) = if (x == 120) || (x == 88) then hexadecimal bs else digits_from 8 0 (x ∷ bs)
+
+-- decimal, octal after a 0, hexadecimal after 0x or 0X, below 2 ^ 64
+abbrev pub int_value : List ℕ → Option ℕ
+int_value [] = None
+int_value (b ∷ bs) = if b == 48 then after_zero bs else digits_from 10 0 (b ∷ bs)

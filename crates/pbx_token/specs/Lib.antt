@@ -1,0 +1,6 @@
+pub mod Tokens
+pub mod Bytes
+pub mod Places
+pub mod Pieces
+pub mod Scan
+pub mod View
