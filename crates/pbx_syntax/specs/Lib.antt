@@ -1,0 +1,5 @@
+pub mod Words
+pub mod Tree
+pub mod Grammar
+pub mod Conditions
+pub mod View
