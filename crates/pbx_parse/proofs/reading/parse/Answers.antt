@@ -1,0 +1,34 @@
+use Rattle.std.proofs.Common.{◌∙◌, ap, sym}
+use Rattle.pbx_token.specs.View.{tokens_of, FailsNot as lexed}
+use Rattle.pbx_syntax.specs.View.{file_of, FailsNot as spelled}
+use Rattle.pbx_parse.specs.Translation.{translate}
+use Rattle.pbx_parse.proofs.Refusals.{refuses_for, only_memory}
+use Rattle.pbx_parse.proofs.reading.parse.Goals as goal
+
+pub returns-in-Err-clause-only : goal.returns-in-Err-clause-only
+returns-in-Err-clause-only c = λ f r. only_memory f c.args.name.now (lexed c.in-Err.error) c.of_lexing.result (c.in-Err.ensures.only r.0 r.1) c.of_lexing.ensures
+
+pub returns-in-Err-clause-refused : goal.returns-in-Err-clause-refused
+returns-in-Err-clause-refused c = refuses_for c.args.name.now _ _ c.of_lexing.result (λ faulty f r. faulty (c.in-Err.ensures.only r.0 r.1)) c.of_lexing.ensures
+
+pub returns-in-Err-read_file-clause-only : goal.returns-in-Err-read_file-clause-only
+returns-in-Err-read_file-clause-only c = λ f r.
+    let spells = ap tokens_of c.as_slice.ensures.value ∙ c.in-Ok.ensures.only r.0 r.1 ∙ r.3 in
+    only_memory f c.args.name.now (spelled c.in-Err-read_file.error) c.of_reading.result (c.in-Err-read_file.ensures.only r.2 r.4 spells) c.of_reading.ensures
+
+pub returns-in-Err-read_file-clause-refused : goal.returns-in-Err-read_file-clause-refused
+returns-in-Err-read_file-clause-refused c =
+    refuses_for c.args.name.now _ _ c.of_reading.result
+    (λ faulty f r. let spells = ap tokens_of c.as_slice.ensures.value ∙ c.in-Ok.ensures.only r.0 r.1 ∙ r.3 in faulty (c.in-Err-read_file.ensures.only r.2 r.4 spells))
+    c.of_reading.ensures
+
+pub returns-in-Ok-file_record-clause-found : goal.returns-in-Ok-file_record-clause-found
+returns-in-Ok-file_record-clause-found c =
+    let tokens = tokens_of c.in-Ok.tokens.items in
+    let read = c.in-Ok-read_file.ensures in
+    (tokens, c.in-Ok.ensures.found, file_of c.in-Ok-read_file.file, ap tokens_of (sym c.as_slice.ensures.value) ∙ read.found, read.fits, c.in-Ok-file_record.ensures)
+
+pub returns-in-Ok-file_record-clause-only : goal.returns-in-Ok-file_record-clause-only
+returns-in-Ok-file_record-clause-only c = λ f r.
+    let spells = ap tokens_of c.as_slice.ensures.value ∙ c.in-Ok.ensures.only r.0 r.1 ∙ r.3 in
+    c.in-Ok-file_record.ensures ∙ ap (translate c.args.name.now) (c.in-Ok-read_file.ensures.only r.2 r.4 spells) ∙ sym r.5

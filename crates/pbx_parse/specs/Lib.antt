@@ -1,0 +1,3 @@
+pub mod Translation
+pub mod Reads
+pub mod Errors

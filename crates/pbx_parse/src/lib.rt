@@ -1,0 +1,12 @@
+//! From the text of a source file to its descriptor record.
+#![tactic(auto)]
+
+mod error;
+mod reading;
+mod refusal;
+#[cfg(test)]
+mod tests;
+mod translation;
+
+pub use error::ParseError;
+pub use reading::{at_most_one, parse};
