@@ -1,0 +1,71 @@
+-- The shape of the types that a file record declares (Protocol Buffers `descriptor.proto`: FileDescriptorProto, DescriptorProto,
+-- FieldDescriptorProto). So far a file has no package, its messages nest none, and a field is as the thin source language has it.
+use Rattle.std.specs.Prelude.{ℕ, suc, ℤ, pos, negsuc, nat_lt, ◌==◌, List, [], ◌∷◌, map, false, if◌then◌else◌, Option, Some, None}
+use Rattle.std.specs.List.{fold}
+use Rattle.pbx_content.specs.declared.shape.Kind.{Kind}
+use Rattle.pbx_content.specs.declared.shape.Kind.TheVariants as kind
+use Rattle.pbx_content.specs.declared.shape.Cardinality.{Cardinality}
+use Rattle.pbx_content.specs.declared.shape.Cardinality.TheVariants.{Singular, Repeated}
+use Rattle.pbx_content.specs.declared.shape.FieldShape.{FieldShape}
+use Rattle.pbx_content.specs.declared.shape.MessageShape.{MessageShape}
+use Rattle.pbx_content.specs.declared.shape.Shape.{Shape}
+use Rattle.pbx_desc.specs.declared.field.FieldDescriptorProto.{FieldDescriptorProto}
+use Rattle.pbx_desc.specs.declared.message.DescriptorProto.{DescriptorProto}
+use Rattle.pbx_desc.specs.declared.file.FileDescriptorProto.{FileDescriptorProto}
+
+-- a text, or the empty one where there is none
+abbrev pub text_or_empty : Option (List ℕ) → List ℕ
+text_or_empty None = []
+text_or_empty (Some text) = text
+
+-- a field number; one that is absent or negative is 0, which no field has
+abbrev pub number_or_zero : Option ℤ → ℕ
+number_or_zero None = 0
+number_or_zero (Some (pos n)) = n
+number_or_zero (Some (negsuc n)) = 0
+
+-- the kind of a `FieldDescriptorProto.Type`: 5 is int32, 9 string; all others are kept unread so far
+abbrev pub kind_of_number : ℕ → Kind
+kind_of_number n = if n == 5 then kind.Int32 else if n == 9 then kind.String else kind.Float
+
+abbrev pub kind_of : Option ℤ → Kind
+kind_of t = kind_of_number (number_or_zero t)
+
+-- a `FieldDescriptorProto.Label` of 3 is repeated
+abbrev pub cardinality_of : Option ℤ → Cardinality
+cardinality_of label = if number_or_zero label == 3 then Repeated else Singular
+
+-- a field of a proto3 file, without presence and under its own name in JSON
+abbrev pub field_shape : FieldDescriptorProto → FieldShape
+field_shape f = record {
+  number = number_or_zero f.number;
+  name = text_or_empty f.name;
+  json_name = text_or_empty f.name;
+  kind = kind_of f.kind;
+  cardinality = cardinality_of f.label;
+  presence = false;
+  oneof = None;
+  packed = false;
+  default = None;
+}
+
+-- the field before the first of a greater number
+abbrev pub inserted : FieldShape → List FieldShape → List FieldShape
+inserted f [] = f ∷ []
+inserted f (g ∷ gs) = if nat_lt f.number g.number then f ∷ g ∷ gs else g ∷ inserted f gs
+
+-- the fields by number, those of one number in their order
+abbrev pub by_number : List FieldShape → List FieldShape
+by_number fs = fold (λ sorted f. inserted f sorted) [] fs
+
+abbrev pub message_shape : DescriptorProto → MessageShape
+message_shape m = record { full_name = text_or_empty m.name; fields = by_number (map field_shape m.field) }
+
+-- the shape of the types of a file
+abbrev pub shape_of : FileDescriptorProto → Shape
+shape_of file = record { messages = map message_shape file.message_type }
+
+-- how many fields stand before the first of a greater number
+abbrev pub place_of : ℕ → List FieldShape → ℕ
+place_of n [] = 0
+place_of n (f ∷ fs) = if nat_lt n f.number then 0 else suc (place_of n fs)
