@@ -1,0 +1,6 @@
+pub mod Parts
+pub mod Counts
+pub mod Keys
+pub mod Walk
+pub mod Under
+pub mod Examples

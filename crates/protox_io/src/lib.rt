@@ -1,0 +1,21 @@
+//! What stands outside a program: a disk, a source and sinks, in memory and real.
+#![tactic(auto)]
+
+mod disk;
+mod key;
+mod memory_disk;
+mod memory_stream;
+mod read;
+mod real;
+mod stream;
+#[cfg(test)]
+mod tests;
+mod write;
+
+pub use disk::{Disk, DiskAnswer, DiskError};
+pub use memory_disk::MemoryDisk;
+pub use memory_stream::{MemorySink, MemorySource};
+pub use read::{ReadFault, read_to_end};
+pub use real::{RealDisk, RealSink, RealSource};
+pub use stream::{Failed, Sink, SinkError, Source};
+pub use write::{write_all, write_pieces};
