@@ -1,0 +1,6 @@
+pub mod Words
+pub mod Class
+pub mod Outcome
+pub mod Stops
+pub mod Parts
+pub mod Laws
