@@ -1,7 +1,7 @@
 -- The shape of the types that a file record declares (Protocol Buffers `descriptor.proto`: FileDescriptorProto, DescriptorProto,
 -- FieldDescriptorProto). So far a file has no package, its messages nest none, and a field is as the thin source language has it.
-use Rattle.std.specs.Prelude.{ℕ, suc, ℤ, pos, negsuc, nat_lt, ◌==◌, List, [], ◌∷◌, map, false, if◌then◌else◌, Option, Some, None}
-use Rattle.std.specs.List.{fold}
+use Rattle.std.specs.Prelude.{Bool, ℕ, suc, ℤ, pos, negsuc, ◌==◌, List, [], ◌∷◌, map, false, if◌then◌else◌, Option, Some, None, ◌≡◌, ◌≤◌, nat_le, drop, slice_get}
+use Rattle.std.specs.List.{fold, list_any}
 use Rattle.pbx_content.specs.declared.shape.Kind.{Kind}
 use Rattle.pbx_content.specs.declared.shape.Kind.TheVariants as kind
 use Rattle.pbx_content.specs.declared.shape.Cardinality.{Cardinality}
@@ -49,10 +49,14 @@ field_shape f = record {
   default = None;
 }
 
--- the field before the first of a greater number
+-- whether one of the fields has no greater number
+abbrev pub has_up_to : ℕ → List FieldShape → Bool
+has_up_to n fs = list_any (λ f. nat_le f.number n) fs
+
+-- the field behind the last of no greater number
 abbrev pub inserted : FieldShape → List FieldShape → List FieldShape
 inserted f [] = f ∷ []
-inserted f (g ∷ gs) = if nat_lt f.number g.number then f ∷ g ∷ gs else g ∷ inserted f gs
+inserted f (g ∷ gs) = if has_up_to f.number (g ∷ gs) then g ∷ inserted f gs else f ∷ g ∷ gs
 
 -- the fields by number, those of one number in their order
 abbrev pub by_number : List FieldShape → List FieldShape
@@ -65,7 +69,7 @@ message_shape m = record { full_name = text_or_empty m.name; fields = by_number 
 abbrev pub shape_of : FileDescriptorProto → Shape
 shape_of file = record { messages = map message_shape file.message_type }
 
--- how many fields stand before the first of a greater number
-abbrev pub place_of : ℕ → List FieldShape → ℕ
-place_of n [] = 0
-place_of n (f ∷ fs) = if nat_lt n f.number then 0 else suc (place_of n fs)
+-- the place behind the last field of no greater number
+pub record IsPlace (n : ℕ) (fs : List FieldShape) (place : ℕ) : Type 0 where
+  pub above : has_up_to n (drop place fs) ≡ false
+  pub below : (k : ℕ) (f : FieldShape) → suc k ≡ place → slice_get fs k ≡ Some f → f.number ≤ n

@@ -1,5 +1,5 @@
 ghost use Rattle.std.specs.Prelude.{◌≡◌, ◌≤◌, IfOk, OnOk, length};
-ghost use Rattle.pbx_link.specs.Shapes.{text_or_empty as text_or_empty_of, number_or_zero as number_or_zero_of, kind_of as kind_of_number_of, cardinality_of as cardinality_of_label, field_shape as field_shape_of, inserted, message_shape as message_shape_of, shape_of as shape_of_file, place_of as place_of_number};
+ghost use Rattle.pbx_link.specs.Shapes.{text_or_empty as text_or_empty_of, number_or_zero as number_or_zero_of, kind_of as kind_of_number_of, cardinality_of as cardinality_of_label, field_shape as field_shape_of, inserted, message_shape as message_shape_of, shape_of as shape_of_file, IsPlace};
 
 use pbx_content::{Cardinality, FieldShape, Kind, MessageShape, Shape};
 use pbx_desc::{DescriptorProto, FieldDescriptorProto, FileDescriptorProto};
@@ -60,28 +60,25 @@ fn field_shape(alloc: Global, field: &FieldDescriptorProto) -> Result<FieldShape
     })
 }
 
-/// How many fields stand before the first of a greater number.
+/// The place behind the last field of no greater number, which mostly is the end.
 fn place_of(fields: &[FieldShape], number: u32) -> usize
-    ensures place { result ≡ place_of_number number fields.now }
+    ensures place { IsPlace number fields.now result }
     ensures within { result ≤ length fields.now }
 {
-    let mut at = 0;
-    for field in fields {
-        if number < field.number {
-            return at;
-        }
-        at += 1;
+    let mut at = fields.len();
+    while at > 0 && number < fields[at - 1].number {
+        at -= 1;
     }
     at
 }
 
-#[tactic(auto, using(crate::proofs::Inserted::inserted_at))]
-/// Puts a field in before the first of a greater number.
+/// Puts a field in behind the last of no greater number.
 fn insert(fields: &mut List<FieldShape>, field: FieldShape) -> Result<(), NoMemory>
     ensures { OnOk result (fields.new ≡ inserted field fields.old) }
 {
     let at = place_of(fields.as_slice(), field.number);
-    fields.insert(at, field)
+    fields.insert(at, field)?;
+    Ok(())
 }
 
 fn message_shape(alloc: Global, message: &DescriptorProto) -> Result<MessageShape, NoMemory>

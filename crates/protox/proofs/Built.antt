@@ -15,7 +15,7 @@ use Rattle.pbx_json.specs.Found.{HasNoOneof}
 use Rattle.pbx_json.specs.Named.{IsWellNamed}
 use Rattle.pbx_json.specs.Names.{json_name_is, or_else, name_is}
 use Rattle.pbx_link.specs.Rules.{are_distinct, is_field_number, ascend, keeps_field_rules, keeps_rules}
-use Rattle.pbx_link.specs.Shapes.{field_shape, inserted, message_shape, shape_of}
+use Rattle.pbx_link.specs.Shapes.{field_shape, has_up_to, inserted, message_shape, shape_of}
 use Rattle.protox.specs.Parts.{IsBuilt}
 
 both : (a b : Bool) → (a && b) ≡ true → (a ≡ true) × (b ≡ true)
@@ -47,11 +47,11 @@ AreSimple (f ∷ fs) = (f.oneof ≡ None) × (f.json_name ≡ f.name) × AreSimp
 
 simple_inserted : (f : FieldShape) (gs : List FieldShape) → f.oneof ≡ None → f.json_name ≡ f.name → AreSimple gs → AreSimple (inserted f gs)
 simple_inserted f [] o n h = (o, n, tt)
-simple_inserted f (g ∷ gs) o n h = at (nat_lt f.number g.number) (simple_inserted f gs o n h.2)
+simple_inserted f (g ∷ gs) o n h = at (has_up_to f.number (g ∷ gs)) (simple_inserted f gs o n h.2)
   where
-    at : (b : Bool) → AreSimple (inserted f gs) → AreSimple (if b then f ∷ g ∷ gs else g ∷ inserted f gs)
-    at true ih = (o, n, h)
-    at false ih = (h.0, h.1, ih)
+    at : (b : Bool) → AreSimple (inserted f gs) → AreSimple (if b then g ∷ inserted f gs else f ∷ g ∷ gs)
+    at true ih = (h.0, h.1, ih)
+    at false ih = (o, n, h)
 
 simple_sorted : (fs : List FieldDescriptorProto) (done : List FieldShape) → AreSimple done → AreSimple (fold (λ sorted f. inserted f sorted) done (map field_shape fs))
 simple_sorted [] done h = h

@@ -223,7 +223,7 @@ fn refuses(rt: HostRuntime) -> Result<(), Fail> {
         case(
             "\u{feff}syntax = \"proto3\";",
             "{}",
-            "1||error: m.proto:1:1: expected a token, but found '\u{feff}'\n|-",
+            "1||error: m.proto:1:1: expected 'syntax', but found '\u{feff}'\n|-",
         ),
         case(
             "syntax = \"proto3\";\r\nmessage M { int32 foo = 1 }",

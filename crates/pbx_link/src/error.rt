@@ -1,0 +1,24 @@
+use pbx_wire::{DecodeError, List, Text};
+
+/// Why a file is not added to a pool.
+#[derive(Debug, Drop)]
+pub enum DescriptorError {
+    /// A rule of linking is broken.
+    Rule {
+        /// The name of the file whose record breaks it.
+        file: Text,
+        /// Where, as a path of field numbers and indexes into the file's record, as source locations have them.
+        place: List<i32>,
+        /// The number of the rule, 1 to 16.
+        rule: u8,
+    },
+    /// The bytes do not decode to a record.
+    Decode(DecodeError),
+    /// Memory ran out.
+    NoMemory,
+    /// The record of the file has what is not built yet.
+    NotBuilt {
+        /// The name of the file.
+        file: Text,
+    },
+}
