@@ -1,0 +1,5 @@
+pub mod Split
+pub mod Bodies
+pub mod Names
+pub mod Again
+pub mod Said

@@ -1,0 +1,4 @@
+pub mod Paths
+pub mod Left
+pub mod Errors
+pub mod Lines
