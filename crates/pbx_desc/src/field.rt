@@ -14,6 +14,8 @@ pub struct FieldDescriptorProto {
     pub label: Option<i32>,
     /// The number of `FieldDescriptorProto.Type`, as 5 for `int32` and 9 for `string`.
     pub kind: Option<i32>,
+    /// The field's key in canonical JSON.
+    pub json_name: Option<Text>,
     /// The records of numbers that are no field of this one, in order of arrival.
     pub unknown: Recs,
 }
@@ -21,13 +23,14 @@ pub struct FieldDescriptorProto {
 impl FieldDescriptorProto {
     /// The record with each field absent; takes no memory.
     pub fn new(alloc: Global) -> FieldDescriptorProto
-        ensures { result ≡ record { name = None; number = None; label = None; kind = None; unknown = [] } }
+        ensures { result ≡ record { name = None; number = None; label = None; kind = None; json_name = None; unknown = [] } }
     {
         FieldDescriptorProto {
             name: None,
             number: None,
             label: None,
             kind: None,
+            json_name: None,
             unknown: Recs::new(alloc),
         }
     }

@@ -1,7 +1,7 @@
 ghost use Rattle.std.specs.Prelude.{◌≡◌, None, []};
 
 use crate::message::DescriptorProto;
-use pbx_wire::{List, Recs, Text};
+use pbx_wire::{List, Recs, Text, Texts};
 use std::alloc::Global;
 
 /// A source file, `google.protobuf.FileDescriptorProto`.
@@ -9,6 +9,8 @@ use std::alloc::Global;
 pub struct FileDescriptorProto {
     /// The name under which the file is imported.
     pub name: Option<Text>,
+    /// The names of the files that it imports, in the order of the source.
+    pub dependency: Texts,
     /// The messages at the top of the file, in the order of the source.
     pub message_type: List<DescriptorProto>,
     /// `proto3`, or absent in a file of `proto2`.
@@ -20,10 +22,11 @@ pub struct FileDescriptorProto {
 impl FileDescriptorProto {
     /// The record with each field absent; takes no memory.
     pub fn new(alloc: Global) -> FileDescriptorProto
-        ensures { result ≡ record { name = None; message_type = []; syntax = None; unknown = [] } }
+        ensures { result ≡ record { name = None; dependency = []; message_type = []; syntax = None; unknown = [] } }
     {
         FileDescriptorProto {
             name: None,
+            dependency: Texts::new(alloc),
             message_type: List::new(alloc),
             syntax: None,
             unknown: Recs::new(alloc),

@@ -14,7 +14,7 @@ kind_number scalars.String = 9
 
 -- a field without a label is optional, which is 1
 abbrev pub field_record : Field → FieldDescriptorProto
-field_record f = record { name = Some f.name.text; number = Some (pos f.number.value); label = Some (pos 1); kind = Some (pos (kind_number f.kind.scalar)); unknown = [] }
+field_record f = record { name = Some f.name.text; number = Some (pos f.number.value); label = Some (pos 1); kind = Some (pos (kind_number f.kind.scalar)); json_name = None; unknown = [] }
 
 -- the fields of a body, in source order
 abbrev pub field_records : Body → List FieldDescriptorProto
@@ -31,4 +31,4 @@ message_records (t ∷ ts) = message_record t ∷ message_records ts
 
 -- the record of a file of this name
 abbrev pub translate : List ℕ → File → FileDescriptorProto
-translate name f = record { name = Some name; message_type = message_records f.tops; syntax = Some f.syntax.text; unknown = [] }
+translate name f = record { name = Some name; dependency = []; message_type = message_records f.tops; syntax = Some f.syntax.text; unknown = [] }
