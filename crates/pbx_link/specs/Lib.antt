@@ -1,2 +1,5 @@
 pub mod Shapes
+pub mod Linked
 pub mod Rules
+pub mod Built
+pub mod Pool

@@ -1,7 +1,8 @@
 -- The shape of the types that a file record declares (Protocol Buffers `descriptor.proto`: FileDescriptorProto, DescriptorProto,
--- FieldDescriptorProto). So far a file has no package, its messages nest none, and a field is as the thin source language has it.
-use Rattle.std.specs.Prelude.{Bool, ℕ, suc, ℤ, pos, negsuc, ◌==◌, List, [], ◌∷◌, map, false, if◌then◌else◌, Option, Some, None, ◌≡◌, ◌≤◌, nat_le, drop, slice_get}
-use Rattle.std.specs.List.{fold, list_any}
+-- FieldDescriptorProto). So far a file has no package, its messages nest none, and a field is as the source language so far has it.
+use Rattle.std.specs.Prelude.{Bool, ℕ, suc, ℤ, pos, negsuc, ◌==◌, List, [], ◌∷◌, map, false, if◌then◌else◌, Option, Some, None, ◌≡◌, ◌≤◌, nat_le, drop, slice_get, position}
+use Rattle.std.specs.List.{fold, list_any, flat_map}
+use Rattle.std.specs.Str.{bytes_eq}
 use Rattle.pbx_content.specs.declared.shape.Kind.{Kind}
 use Rattle.pbx_content.specs.declared.shape.Kind.TheVariants as kind
 use Rattle.pbx_content.specs.declared.shape.Cardinality.{Cardinality}
@@ -35,12 +36,12 @@ kind_of t = kind_of_number (number_or_zero t)
 abbrev pub cardinality_of : Option ℤ → Cardinality
 cardinality_of label = if number_or_zero label == 3 then Repeated else Singular
 
--- a field of a proto3 file, without presence and under its own name in JSON
+-- a field of a proto3 file, without presence
 abbrev pub field_shape : FieldDescriptorProto → FieldShape
 field_shape f = record {
   number = number_or_zero f.number;
   name = text_or_empty f.name;
-  json_name = text_or_empty f.name;
+  json_name = text_or_empty f.json_name;
   kind = kind_of f.kind;
   cardinality = cardinality_of f.label;
   presence = false;
@@ -65,9 +66,13 @@ by_number fs = fold (λ sorted f. inserted f sorted) [] fs
 abbrev pub message_shape : DescriptorProto → MessageShape
 message_shape m = record { full_name = text_or_empty m.name; fields = by_number (map field_shape m.field) }
 
--- the shape of the types of a file
-abbrev pub shape_of : FileDescriptorProto → Shape
-shape_of file = record { messages = map message_shape file.message_type }
+-- the shape of the types of a pool: the messages of its files, file by file
+abbrev pub shape_of : List FileDescriptorProto → Shape
+shape_of files = record { messages = map message_shape (flat_map (λ f. f.message_type) files) }
+
+-- the place of the message of exactly that full name
+abbrev pub message_named : List ℕ → Shape → Option ℕ
+message_named name shape = position (λ m. bytes_eq m.full_name name) shape.messages
 
 -- the place behind the last field of no greater number
 pub record IsPlace (n : ℕ) (fs : List FieldShape) (place : ℕ) : Type 0 where
