@@ -1,11 +1,12 @@
 -- The descriptor records of a syntax tree: descriptor.proto, as the compiler of the language fills it.
-use Rattle.std.specs.Prelude.{ℕ, List, [], ◌∷◌, Some, pos}
+use Rattle.std.specs.Prelude.{ℕ, List, [], ◌∷◌, Option, Some, None, pos}
+use Rattle.std.specs.List.{filter_map}
 use Rattle.pbx_desc.specs.declared.field.FieldDescriptorProto.{FieldDescriptorProto}
 use Rattle.pbx_desc.specs.declared.message.DescriptorProto.{DescriptorProto}
 use Rattle.pbx_desc.specs.declared.file.FileDescriptorProto.{FileDescriptorProto}
 use Rattle.pbx_syntax.specs.declared.tree.Scalar.{Scalar}
 use Rattle.pbx_syntax.specs.declared.tree.Scalar.TheVariants as scalars
-use Rattle.pbx_syntax.specs.Tree.{Field, field, Body, end, item, Top, message, File}
+use Rattle.pbx_syntax.specs.Tree.{Field, field, Body, end, item, Top, import, message, File}
 
 -- the number of FieldDescriptorProto.Type
 abbrev pub kind_number : Scalar → ℕ
@@ -21,14 +22,16 @@ abbrev pub field_records : Body → List FieldDescriptorProto
 field_records end = []
 field_records (item (field f) b) = field_record f ∷ field_records b
 
-abbrev pub message_record : Top → DescriptorProto
-message_record (message h b close) = record { name = Some h.name.text; field = field_records b; unknown = [] }
+-- the name of the file that is imported, where it is an import
+abbrev pub import_name : Top → Option (List ℕ)
+import_name (import i) = Some i.name.text
+import_name (message h b close) = None
 
--- the messages of a file, in source order
-abbrev pub message_records : List Top → List DescriptorProto
-message_records [] = []
-message_records (t ∷ ts) = message_record t ∷ message_records ts
+-- the record of the message, where it is one
+abbrev pub message_record : Top → Option DescriptorProto
+message_record (import i) = None
+message_record (message h b close) = Some (record { name = Some h.name.text; field = field_records b; unknown = [] })
 
--- the record of a file of this name
+-- the record of a file of this name, with its imports and its messages in source order
 abbrev pub translate : List ℕ → File → FileDescriptorProto
-translate name f = record { name = Some name; dependency = []; message_type = message_records f.tops; syntax = Some f.syntax.text; unknown = [] }
+translate name f = record { name = Some name; dependency = filter_map import_name f.tops; message_type = filter_map message_record f.tops; syntax = Some f.syntax.text; unknown = [] }

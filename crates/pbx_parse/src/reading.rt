@@ -15,11 +15,12 @@ use std::alloc::Global;
 
 /// The descriptor record of a source file, which is given the name.
 ///
-/// The source is in the proto3 language of the Protocol Buffers language specification, as far as messages of
-/// `int32` and `string` fields go: a syntax statement, and then messages of such fields without labels, whose
-/// names are lower-case letters and digits and whose numbers are at most 2,147,483,647. Whether the number may
-/// be used, and whether names are distinct, is not tested here. `Syntax` comes exactly where the source is no
-/// such file, and `NoMemory` for want of memory.
+/// The source is in the proto3 language of the Protocol Buffers language specification, as far as imports and
+/// messages of `int32` and `string` fields go: a syntax statement, and then imports, neither public nor weak, and
+/// messages of such fields without labels, whose names are lower-case letters and digits and whose numbers are at
+/// most 2,147,483,647. The names of the imports are the record's dependencies, in the order of the source. Whether
+/// a number may be used, whether names are distinct, and whether an imported file is there, is not tested here.
+/// `Syntax` comes exactly where the source is no such file, and `NoMemory` for want of memory.
 pub fn parse(alloc: Global, name: &str, source: &str) -> Result<FileDescriptorProto, ParseError>
     requires { length source.now ≤ 2147483647 }
     // What is given is what the source reads as.

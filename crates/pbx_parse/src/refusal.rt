@@ -16,7 +16,8 @@ fn expected_text(alloc: Global, expected: Expected) -> Result<Text, NoMemory> {
     match expected {
         Expected::Syntax => Text::from_str(alloc, "'syntax'"),
         Expected::Proto3 => Text::from_str(alloc, "\"proto3\""),
-        Expected::Message => Text::from_str(alloc, "'message'"),
+        Expected::Top => Text::from_str(alloc, "'import' or 'message'"),
+        Expected::ImportName => Text::from_str(alloc, "an import name in quotes"),
         Expected::Identifier => Text::from_str(alloc, "an identifier"),
         Expected::Item => Text::from_str(alloc, "'int32', 'string' or '}'"),
         Expected::FieldName => {
@@ -107,11 +108,11 @@ fn stop(alloc: Global, front: &str) -> Result<(Option<Span>, Expected), NoMemory
         Ok(tokens) => tokens,
         Err(LexError::NoMemory) => return Err(NoMemory),
         // It does not come, since the fault that was met first begins where the front ends.
-        Err(LexError::Fault { .. }) => return Ok((None, Expected::Message)),
+        Err(LexError::Fault { .. }) => return Ok((None, Expected::Top)),
     };
     match read_file(alloc, tokens.as_slice()) {
-        // A message could follow a whole file.
-        Ok(_) => Ok((None, Expected::Message)),
+        // An import or a message could follow a whole file.
+        Ok(_) => Ok((None, Expected::Top)),
         Err(ReadError::NoMemory) => Err(NoMemory),
         Err(ReadError::Unexpected { at, expected }) => {
             let token = tokens.as_slice().get(at);

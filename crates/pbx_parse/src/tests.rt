@@ -41,6 +41,10 @@ fn show(alloc: Global, file: &FileDescriptorProto) -> Result<String, Fail> {
     let mut out = String::from_str(alloc, text_or_none(&file.name))?;
     out.push_str(" ")?;
     out.push_str(text_or_none(&file.syntax))?;
+    for name in file.dependency.as_slice() {
+        let name = name.as_str();
+        out.push_str(format!(in alloc; " <{name}>")?.as_str())?;
+    }
     for message in file.message_type.as_slice() {
         show_message(alloc, &mut out, message)?;
     }
@@ -68,6 +72,18 @@ fn gives_records(rt: HostRuntime) -> Result<(), Fail> {
         (
             "syntax = \"proto3\"; message M { int32 foo = 1; }",
             "m.proto proto3 M foo=Some(1) Some(1) Some(5)",
+        ),
+        (
+            "syntax = \"proto3\"; import \"a.proto\";",
+            "m.proto proto3 <a.proto>",
+        ),
+        (
+            "syntax = 'proto3'; import 'b/a.proto'; import \"a.proto\"; import 'a.proto';",
+            "m.proto proto3 <b/a.proto> <a.proto> <a.proto>",
+        ),
+        (
+            "syntax='proto3';message M{}import/* 'a' */'b/c d.proto'// ;\n;import \"é 日本.proto\";message import{}import\"\";import\"'\";",
+            "m.proto proto3 <b/c d.proto> <é 日本.proto> <> <'> M import",
         ),
         (
             "syntax='proto3';\r\nmessage A {\r\n  string s1 = 0x1;\r\n  int32 n = 01; // é\r\n}\r\nmessage B{}",
@@ -103,7 +119,7 @@ fn refuses(
 #[test]
 fn refuses_statements(rt: HostRuntime) -> Result<(), Fail> {
     let syntax = "'syntax'";
-    let message = "'message'";
+    let top = "'import' or 'message'";
     for (source, place, expected, found) in [
         ("= \"proto3\"; message M {}", "1:1", syntax, "'='"),
         ("Syntax = \"proto3\";", "1:1", syntax, "'Syntax'"),
@@ -115,9 +131,9 @@ fn refuses_statements(rt: HostRuntime) -> Result<(), Fail> {
         ("syntax = proto3;", "1:10", "\"proto3\"", "'proto3'"),
         ("syntax = \"proto3\" message", "1:19", "';'", "'message'"),
         ("syntax = \"proto3\"", "1:18", "';'", "end of file"),
-        ("syntax = \"proto3\"; M {", "1:20", message, "'M'"),
-        ("syntax = \"proto3\"; enum E", "1:20", message, "'enum'"),
-        ("syntax = \"proto3\";;", "1:19", message, "';'"),
+        ("syntax = \"proto3\"; M {", "1:20", top, "'M'"),
+        ("syntax = \"proto3\"; enum E", "1:20", top, "'enum'"),
+        ("syntax = \"proto3\";;", "1:19", top, "';'"),
     ] {
         refuses(&rt, rt.alloc(), source, place, expected, found)?;
     }
@@ -135,9 +151,52 @@ fn refuses_statements(rt: HostRuntime) -> Result<(), Fail> {
     Ok(())
 }
 
+// Each token of `import "a.proto";` taken out and then broken.
+#[test]
+fn refuses_imports(rt: HostRuntime) -> Result<(), Fail> {
+    let top = "'import' or 'message'";
+    let name = "an import name in quotes";
+    let quote = "a closing quote";
+    for (source, place, expected, found) in [
+        ("\"a.proto\";", "1:20", top, "'\"a.proto\"'"),
+        ("Import \"a.proto\";", "1:20", top, "'Import'"),
+        ("imports \"a.proto\";", "1:20", top, "'imports'"),
+        ("import;", "1:26", name, "';'"),
+        ("import", "1:26", name, "end of file"),
+        ("import a.proto;", "1:27", name, "'a'"),
+        ("import 1;", "1:27", name, "'1'"),
+        ("import public \"a\";", "1:27", name, "'public'"),
+        ("import weak \"a\";", "1:27", name, "'weak'"),
+        ("import (\"a\");", "1:27", name, "'('"),
+        ("import é", "1:27", name, "'é'"),
+        ("import \"a.proto\"", "1:36", "';'", "end of file"),
+        ("import \"a.proto\",", "1:36", "';'", "','"),
+        ("import \"a\" \"b\";", "1:31", "';'", "'\"b\"'"),
+        ("import \"a\" message M {}", "1:31", "';'", "'message'"),
+        ("import \"a\" é", "1:31", "';'", "'é'"),
+        ("import 'a", "1:29", quote, "end of file"),
+        ("import 'a\";", "1:31", quote, "end of file"),
+        ("import 'a\n';", "1:29", quote, "'\n'"),
+        ("import 'a\\n';", "1:29", quote, "'\\'"),
+        ("import \"a\";;", "1:31", top, "';'"),
+        ("import \"a\"; é", "1:32", top, "'é'"),
+        (
+            "message M { import \"a\"; }",
+            "1:32",
+            "'int32', 'string' or '}'",
+            "'import'",
+        ),
+    ] {
+        let text = format!(in rt.alloc(); "syntax = \"proto3\"; {source}")?;
+        refuses(&rt, rt.alloc(), text.as_str(), place, expected, found)?;
+    }
+    Ok(())
+}
+
 // Each token of `int32 foo = 1; }` taken out and then broken.
 #[test]
 fn refuses_fields(rt: HostRuntime) -> Result<(), Fail> {
+    let top = "'import' or 'message'";
     let item = "'int32', 'string' or '}'";
     let name = "an identifier of lower-case letters and digits";
     let number = "a field number";
@@ -159,7 +218,7 @@ fn refuses_fields(rt: HostRuntime) -> Result<(), Fail> {
         ("int32 foo = 1, }", "1:45", "';'", "','"),
         ("int32 foo = 1;\n", "2:1", item, "end of file"),
         ("int32 foo = 1; ]", "1:47", item, "']'"),
-        ("int32 foo = 1; } }", "1:49", "'message'", "'}'"),
+        ("int32 foo = 1; } }", "1:49", top, "'}'"),
     ] {
         let text = format!(in rt.alloc(); "syntax = \"proto3\"; message M {{ {source}")?;
         refuses(&rt, rt.alloc(), text.as_str(), place, expected, found)?;
@@ -194,16 +253,17 @@ fn refuses_faults(rt: HostRuntime) -> Result<(), Fail> {
     ] {
         refuses(&rt, rt.alloc(), source, place, expected, found)?;
     }
+    let top = "'import' or 'message'";
     let number = "a field number";
     for (source, place, expected, found) in [
-        ("\r\n/* é */ é", "2:10", "'message'", "'é'"),
+        ("\r\n/* é */ é", "2:10", top, "'é'"),
         ("/* never", "1:27", "'*/'", "end of file"),
-        ("\n/", "2:1", "'message'", "'/'"),
+        ("\n/", "2:1", top, "'/'"),
         ("message M { int32 a = 08; }", "1:41", number, "'08'"),
         ("message M { int32 a = 1a; }", "1:41", number, "'1a'"),
         ("message M { int32 a = 1.; }", "1:41", number, "'1.'"),
         ("message M { int32 a = 0x; }", "1:41", number, "'0x'"),
-        ("\nmesage M {}\n'", "2:1", "'message'", "'mesage'"),
+        ("\nmesage M {}\n'", "2:1", top, "'mesage'"),
     ] {
         let text = format!(in rt.alloc(); "syntax = 'proto3';{source}")?;
         refuses(&rt, rt.alloc(), text.as_str(), place, expected, found)?;

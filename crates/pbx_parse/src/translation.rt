@@ -1,13 +1,14 @@
 //! From the syntax tree to the descriptor records.
 
-ghost use Rattle.std.specs.Prelude.{◌≡◌, IfOk, map, pos};
+ghost use Rattle.std.specs.Prelude.{◌≡◌, Some, IfOk, map, pos};
+ghost use Rattle.std.specs.List.{filter_map};
 ghost use Rattle.pbx_syntax.specs.Tree.{end};
 ghost use Rattle.pbx_syntax.specs.View.{field_of, items_of, message_of, top_of, file_of};
-ghost use Rattle.pbx_parse.specs.Translation.{kind_number, field_record, field_records, message_record, message_records, translate};
+ghost use Rattle.pbx_parse.specs.Translation.{kind_number, field_record, field_records, import_name, message_record, translate};
 
 use pbx_desc::{DescriptorProto, FieldDescriptorProto, FileDescriptorProto};
 use pbx_syntax::{Field, File, Item, Message, Scalar, Top};
-use pbx_wire::{List, NoMemory, Text};
+use pbx_wire::{List, NoMemory, Text, Texts};
 use std::alloc::Global;
 
 /// `LABEL_OPTIONAL` of `FieldDescriptorProto.Label`.
@@ -45,8 +46,20 @@ fn field_records(alloc: Global, items: &[Item<'_>]) -> Result<List<FieldDescript
     Ok(records)
 }
 
+fn import_names(alloc: Global, tops: &[Top<'_>]) -> Result<Texts, NoMemory>
+    ensures { IfOk result (λ r. r ≡ filter_map import_name (map top_of tops.now)) }
+{
+    let mut names = Texts::new(alloc);
+    for top in tops {
+        if let Top::Import(import) = top {
+            names.add(Text::from_str(alloc, import.name.text)?)?;
+        }
+    }
+    Ok(names)
+}
+
 fn message_record(alloc: Global, message: &Message<'_>) -> Result<DescriptorProto, NoMemory>
-    ensures { IfOk result (λ r. r ≡ message_record (message_of message.now)) }
+    ensures { IfOk result (λ r. message_record (message_of message.now) ≡ Some r) }
 {
     let mut record = DescriptorProto::new(alloc);
     record.name = Some(Text::from_str(alloc, message.head.name.text)?);
@@ -55,12 +68,13 @@ fn message_record(alloc: Global, message: &Message<'_>) -> Result<DescriptorProt
 }
 
 fn message_records(alloc: Global, tops: &[Top<'_>]) -> Result<List<DescriptorProto>, NoMemory>
-    ensures { IfOk result (λ r. r ≡ message_records (map top_of tops.now)) }
+    ensures { IfOk result (λ r. r ≡ filter_map message_record (map top_of tops.now)) }
 {
     let mut records = List::new(alloc);
     for top in tops {
-        let Top::Message(message) = top;
-        records.add(message_record(alloc, message)?)?;
+        if let Top::Message(message) = top {
+            records.add(message_record(alloc, message)?)?;
+        }
     }
     Ok(records)
 }
@@ -75,6 +89,7 @@ pub fn file_record(
 {
     let mut record = FileDescriptorProto::new(alloc);
     record.name = Some(Text::from_str(alloc, name)?);
+    record.dependency = import_names(alloc, file.tops.as_slice())?;
     record.message_type = message_records(alloc, file.tops.as_slice())?;
     record.syntax = Some(Text::from_str(alloc, "proto3")?);
     Ok(record)

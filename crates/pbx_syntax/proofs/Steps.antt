@@ -2,7 +2,7 @@
 use Rattle.std.proofs.Common.{◌≡◌, List, [], ◌∷◌, ◌++◌, true, false, refl, sym, ap, ◌∙◌}
 use Rattle.std.proofs.lemmas.Bool.{false≢true}
 use Rattle.pbx_token.specs.Tokens.{Token}
-use Rattle.pbx_syntax.specs.Tree.{Item, field, Body, end, item, Top, message}
+use Rattle.pbx_syntax.specs.Tree.{Item, field, Body, end, item, Top, import, message}
 use Rattle.pbx_syntax.specs.Grammar.{item_then, body_then, top_then, tops_then}
 use Rattle.pbx_syntax.specs.Conditions.{ItemFits, BodyFits, TopFits, TopsFit}
 use Rattle.pbx_syntax.specs.View.{all_before, ends_body, ends_file}
@@ -84,4 +84,5 @@ top_begins (t ∷ us) ts fits goes e = record { first = t; others = us; is = ref
 pub top_ended : (us : List Top) (ts : List Token) → ends_file ts ≡ true → ts ≡ tops_then us [] → us ≡ []
 unfolding tops_then
 top_ended [] ts stops e = refl
+top_ended (import i ∷ us) ts stops e = absurd (false≢true (sym (ap ends_file e) ∙ stops))
 top_ended (message h b c ∷ us) ts stops e = absurd (false≢true (sym (ap ends_file e) ∙ stops))

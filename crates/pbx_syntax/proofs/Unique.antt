@@ -1,13 +1,13 @@
 -- Tokens spell at most one tree.
-use Rattle.std.proofs.Common.{◌≡◌, ℕ, List, [], ◌∷◌, true, false, refl, sym, ap, ◌∙◌}
+use Rattle.std.proofs.Common.{◌≡◌, ℕ, List, [], ◌∷◌, true, false, codes, refl, sym, ap, ◌∙◌}
 use Rattle.std.proofs.lemmas.Bool.{false≢true}
 use Rattle.pbx_token.specs.declared.token.Span.{Span}
 use Rattle.pbx_token.specs.Tokens.{Token, ident, int, str}
 use Rattle.pbx_syntax.specs.declared.tree.Scalar.{Scalar}
 use Rattle.pbx_syntax.specs.declared.tree.Scalar.TheVariants as scalars
 use Rattle.pbx_syntax.specs.Words.{scalar_word}
-use Rattle.pbx_syntax.specs.Tree.{Name, Syntax, Kind, Number, Field, Item, field, Body, end, item, Head, Top, message, File}
-use Rattle.pbx_syntax.specs.Grammar.{marked, worded, quoted, named, counted, syntax_then, kind_then, field_then, item_then, body_then, head_then, top_then, tops_then, file_then}
+use Rattle.pbx_syntax.specs.Tree.{Name, Syntax, Kind, Number, Field, Item, field, Body, end, item, Import, Head, Top, import, message, File}
+use Rattle.pbx_syntax.specs.Grammar.{marked, worded, quoted, named, string_named, counted, syntax_then, kind_then, field_then, item_then, body_then, import_then, head_then, top_then, tops_then, file_then}
 use Rattle.pbx_syntax.specs.View.{ends_body}
 
 -- the parts of two lists that are equal
@@ -30,6 +30,11 @@ quoted_same a b s t e =
 named_same : (m n : Name) → named m ≡ named n → m ≡ n
 named_same m n e =
     let w = worded_same m.text n.text m.span n.span e in
+    ap (λ (s : List ℕ). record { text = s; span = m.span }) w.0 ∙ ap (λ (s : Span). record { text = n.text; span = s }) w.1
+
+string_named_same : (m n : Name) → string_named m ≡ string_named n → m ≡ n
+string_named_same m n e =
+    let w = quoted_same m.text n.text m.span n.span e in
     ap (λ (s : List ℕ). record { text = s; span = m.span }) w.0 ∙ ap (λ (s : Span). record { text = n.text; span = s }) w.1
 
 counted_same : (m n : Number) → counted m ≡ counted n → m ≡ n
@@ -99,7 +104,28 @@ head_same h k x y e =
     let word : h.keyword ≡ k.keyword = ap (λ (t : Token). t.span) a.0 in
     (ap (λ (s : Span). made_head s h.name h.open) word ∙ ap (λ (n : Name). made_head k.keyword n h.open) (named_same h.name k.name b.0) ∙ ap (λ (s : Span). made_head k.keyword k.name s) (marked_same 123 h.open k.open c.0), c.1)
 
+abbrev made_import : Span → Name → Span → Import
+made_import k n z = record { keyword = k; name = n; end = z }
+
+import_same : (i j : Import) (x y : List Token) → import_then i x ≡ import_then j y → (i ≡ j) × (x ≡ y)
+import_same i j x y e =
+    let a = heads _ _ _ _ e in
+    let b = heads _ _ _ _ a.1 in
+    let c = heads _ _ _ _ b.1 in
+    let word : i.keyword ≡ j.keyword = ap (λ (t : Token). t.span) a.0 in
+    (ap (λ (s : Span). made_import s i.name i.end) word ∙ ap (λ (n : Name). made_import j.keyword n i.end) (string_named_same i.name j.name b.0) ∙ ap (λ (s : Span). made_import j.keyword j.name s) (marked_same 59 i.end j.end c.0), c.1)
+
+-- an import does not begin as a message does
+pub no_message : (i : Import) (h : Head) (x y : List Token) → import_then i x ≡ head_then h y → ⊥
+no_message i h x y e =
+    let a = heads _ _ _ _ e in
+    let w = worded_same (codes "import") (codes "message") i.keyword h.keyword a.0 in
+    absurd cc
+
 top_same : (t u : Top) (x y : List Token) → top_then t x ≡ top_then u y → (t ≡ u) × (x ≡ y)
+top_same (import i) (import j) x y e = let h = import_same i j x y e in (ap (λ (k : Import). import k) h.0, h.1)
+top_same (import i) (message k d f) x y e = absurd (no_message i k _ _ e)
+top_same (message h b c) (import j) x y e = absurd (no_message j h _ _ (sym e))
 top_same (message h b c) (message k d f) x y e =
     let a = head_same h k _ _ e in
     let inner = same_body b d _ _ refl refl a.1 in
@@ -107,6 +133,7 @@ top_same (message h b c) (message k d f) x y e =
     (ap (λ u. message u b c) a.0 ∙ ap (λ u. message k u c) inner.0 ∙ ap (message k d) (marked_same 125 c f l.0), l.1)
 
 top_some : (t : Top) (x : List Token) → [] ≡ top_then t x → ⊥
+top_some (import i) x e = absurd cc
 top_some (message h b c) x e = absurd cc
 
 tops_same : (a b : List Top) → tops_then a [] ≡ tops_then b [] → a ≡ b

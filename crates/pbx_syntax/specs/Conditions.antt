@@ -1,7 +1,7 @@
 -- What the grammar does not say of a tree that is read.
 use Rattle.std.specs.Prelude.{◌≡◌, ◌≤◌, List, [], ◌∷◌, IsTrue, codes}
 use Rattle.pbx_syntax.specs.Words.{is_field_name}
-use Rattle.pbx_syntax.specs.Tree.{Field, Item, field, Body, end, item, Top, message, File}
+use Rattle.pbx_syntax.specs.Tree.{Field, Item, field, Body, end, item, Top, import, message, File}
 
 -- the name is plain, and the number fits an `int32`
 abbrev pub FieldFits : Field → Type 0
@@ -15,6 +15,7 @@ BodyFits end = Unit {0}
 BodyFits (item i b) = ItemFits i × BodyFits b
 
 abbrev pub TopFits : Top → Type 0
+TopFits (import i) = Unit {0}
 TopFits (message h b close) = BodyFits b
 
 unfoldable pub TopsFit : List Top → Type 0

@@ -1,10 +1,10 @@
--- The tokens that a syntax tree spells: the grammar of the proto3 language specification, as far as messages of
--- scalar fields go. A function `x_then` gives the tokens of an x, and then the rest.
+-- The tokens that a syntax tree spells: the grammar of the proto3 language specification, as far as imports and
+-- messages of scalar fields go. A function `x_then` gives the tokens of an x, and then the rest.
 use Rattle.std.specs.Prelude.{ℕ, List, [], ◌∷◌, codes}
 use Rattle.pbx_token.specs.Tokens.{Token, ident, int, str, mark}
 use Rattle.pbx_token.specs.declared.token.Span.{Span}
 use Rattle.pbx_syntax.specs.Words.{scalar_word}
-use Rattle.pbx_syntax.specs.Tree.{Name, Syntax, Kind, Number, Field, Item, field, Body, end, item, Head, Top, message, File}
+use Rattle.pbx_syntax.specs.Tree.{Name, Syntax, Kind, Number, Field, Item, field, Body, end, item, Import, Head, Top, import, message, File}
 
 -- ---- one token
 
@@ -19,6 +19,10 @@ quoted t s = record { word = str t; span = s }
 
 abbrev pub named : Name → Token
 named n = worded n.text n.span
+
+-- a string that is a name
+abbrev pub string_named : Name → Token
+string_named n = quoted n.text n.span
 
 abbrev pub counted : Number → Token
 counted n = record { word = int n.value; span = n.span }
@@ -43,12 +47,17 @@ unfoldable pub body_then : Body → List Token → List Token
 body_then end rest = rest
 body_then (item i b) rest = item_then i (body_then b rest)
 
+-- import "..." ;
+abbrev pub import_then : Import → List Token → List Token
+import_then i rest = worded (codes "import") i.keyword ∷ string_named i.name ∷ marked 59 i.end ∷ rest
+
 -- message NAME {
 abbrev pub head_then : Head → List Token → List Token
 head_then h rest = worded (codes "message") h.keyword ∷ named h.name ∷ marked 123 h.open ∷ rest
 
--- message NAME { BODY }
+-- an import, or message NAME { BODY }
 abbrev pub top_then : Top → List Token → List Token
+top_then (import i) rest = import_then i rest
 top_then (message h b close) rest = head_then h (body_then b (marked 125 close ∷ rest))
 
 unfoldable pub tops_then : List Top → List Token → List Token

@@ -43,8 +43,15 @@ pub record Head : Type 0 where
   pub name : Name
   pub «open» : Span
 
+-- an import, with what stands between its quotes
+pub record Import : Type 0 where
+  pub keyword : Span
+  pub name : Name
+  pub end : Span
+
 -- what stands at the top of a file
 pub data Top : Type 0 where
+  import : Import → Top
   message : Head → Body → Span → Top
 
 pub record File : Type 0 where

@@ -10,6 +10,7 @@ use Rattle.pbx_syntax.specs.declared.tree.Field as code_field
 use Rattle.pbx_syntax.specs.declared.tree.Item as code_item
 use Rattle.pbx_syntax.specs.declared.tree.Item.TheVariants as items
 use Rattle.pbx_syntax.specs.declared.tree.Head as code_head
+use Rattle.pbx_syntax.specs.declared.tree.Import as code_import
 use Rattle.pbx_syntax.specs.declared.tree.Message as code_message
 use Rattle.pbx_syntax.specs.declared.tree.Top as code_top
 use Rattle.pbx_syntax.specs.declared.tree.Top.TheVariants as tops
@@ -17,7 +18,7 @@ use Rattle.pbx_syntax.specs.declared.tree.File as code_file
 use Rattle.pbx_syntax.specs.declared.cursor.Cursor.{Cursor}
 use Rattle.pbx_syntax.specs.declared.error.ReadError.{ReadError}
 use Rattle.pbx_syntax.specs.declared.error.ReadError.TheVariants as errors
-use Rattle.pbx_syntax.specs.Tree.{Name, Syntax, Kind, Number, Field, Item, field, Body, end, item, Head, Top, message, File}
+use Rattle.pbx_syntax.specs.Tree.{Name, Syntax, Kind, Number, Field, Item, field, Body, end, item, Import, Head, Top, import, message, File}
 
 abbrev pub name_of : code_name.Name → Name
 name_of n = record { text = n.text.now; span = n.span }
@@ -44,6 +45,9 @@ all_before (i ∷ is) b = item i (all_before is b)
 abbrev pub items_of : List code_item.Item → Body → Body
 items_of is b = all_before (map item_of is) b
 
+abbrev pub import_of : code_import.Import → Import
+import_of i = record { keyword = i.keyword; name = name_of i.name; end = i.end }
+
 abbrev pub head_of : code_head.Head → Head
 head_of h = record { keyword = h.keyword; name = name_of h.name; «open» = h.open }
 
@@ -51,6 +55,7 @@ abbrev pub message_of : code_message.Message → Top
 message_of m = message (head_of m.head) (items_of m.items.items end) m.close
 
 abbrev pub top_of : code_top.Top → Top
+top_of (tops.Import i) = import (import_of i)
 top_of (tops.Message m) = message_of m
 
 abbrev pub file_of : code_file.File → File

@@ -2,19 +2,19 @@
 //!
 //! Each says both that what it gives is spelled by the tokens that it took, and that what is spelled there is given.
 
-ghost use Rattle.std.specs.Prelude.{◌≡◌, ◌∷◌, ◌+◌, [], List, ◌<◌, ◌≤◌, length, MatchOption, OnOk, IfOk, IsTrue, codes};
+ghost use Rattle.std.specs.Prelude.{◌≡◌, ◌∷◌, ◌+◌, [], List, ◌<◌, ◌≤◌, ◌↔◌, length, MatchOption, OnOk, IfOk, IsTrue, codes};
 ghost use Rattle.pbx_token.specs.Tokens as tokens;
 ghost use Rattle.pbx_token.specs.declared.token.Span.{Span};
 ghost use Rattle.pbx_token.specs.View.{token_of};
 ghost use Rattle.pbx_syntax.specs.Tree as tree;
-ghost use Rattle.pbx_syntax.specs.Grammar.{marked, worded, named, counted, quoted, kind_then, field_then, syntax_then, head_then};
+ghost use Rattle.pbx_syntax.specs.Grammar.{marked, worded, named, counted, quoted, string_named, kind_then, field_then, syntax_then, import_then, head_then};
 ghost use Rattle.pbx_syntax.specs.Words.{scalar_word, is_field_name, is_plain};
 ghost use Rattle.std.specs.List.{list_all};
 ghost use Rattle.pbx_syntax.specs.Conditions.{FieldFits};
-ghost use Rattle.pbx_syntax.specs.View.{name_of, kind_of, number_of, field_of, syntax_of, head_of, left, Reaches};
+ghost use Rattle.pbx_syntax.specs.View.{name_of, kind_of, number_of, field_of, syntax_of, import_of, head_of, left, Reaches};
 
 use crate::error::{Expected, ReadError};
-use crate::tree::{Field, FieldNumber, Head, Kind, Name, Scalar, Syntax};
+use crate::tree::{Field, FieldNumber, Head, Import, Kind, Name, Scalar, Syntax};
 use pbx_token::{Span, Token, Word};
 
 /// Tokens, of which those before `at` have been read.
@@ -74,6 +74,21 @@ impl<'s, 'a> Cursor<'s, 'a> {
         }
     }
 
+    /// Whether this word stands next.
+    pub fn is_next(&self, wanted: &str) -> bool
+        ensures { IsTrue result ↔ ((s : Span) × (rest : List tokens.Token) × (left self.now ≡ worded wanted.now s ∷ rest)) }
+    {
+        match self.peek() {
+            Some(
+                Token {
+                    word: Word::Ident(text),
+                    ..
+                },
+            ) => text == wanted,
+            _ => false,
+        }
+    }
+
     fn unexpected(&self, expected: Expected) -> ReadError
         ensures { result ≡ ReadError.Unexpected self.now.at expected }
     {
@@ -124,7 +139,7 @@ impl<'s, 'a> Cursor<'s, 'a> {
         Err(self.unexpected(expected))
     }
 
-    pub fn string(&mut self, wanted: &[u8], expected: Expected) -> Result<Span, ReadError>
+    pub fn string(&mut self, wanted: &str, expected: Expected) -> Result<Span, ReadError>
         ensures found { IfOk result (λ s. left self.old ≡ quoted wanted.now s ∷ left self.new) }
         ensures only { (s : Span) (rest : List tokens.Token) → left self.old ≡ quoted wanted.now s ∷ rest → Reaches (λ x. x) s rest result (left self.new) }
         ensures shorter { OnOk result (length (left self.new) < length (left self.old)) }
@@ -138,6 +153,24 @@ impl<'s, 'a> Cursor<'s, 'a> {
             }
         }
         Err(self.unexpected(expected))
+    }
+
+    /// Any string.
+    fn import_name(&mut self) -> Result<Name<'a>, ReadError>
+        ensures found { IfOk result (λ n. left self.old ≡ string_named (name_of n) ∷ left self.new) }
+        ensures only { (n : tree.Name) (rest : List tokens.Token) → left self.old ≡ string_named n ∷ rest → Reaches name_of n rest result (left self.new) }
+        ensures shorter { OnOk result (length (left self.new) < length (left self.old)) }
+    {
+        if let Some(token) = self.peek() {
+            if let Word::Str(text) = token.word {
+                self.at += 1;
+                return Ok(Name {
+                    text,
+                    span: token.span,
+                });
+            }
+        }
+        Err(self.unexpected(Expected::ImportName))
     }
 
     pub fn name(&mut self) -> Result<Name<'a>, ReadError>
@@ -243,7 +276,7 @@ impl<'s, 'a> Cursor<'s, 'a> {
     {
         let keyword = self.keyword("syntax", Expected::Syntax)?;
         let equals = self.mark(b'=')?;
-        let value = self.string(b"proto3", Expected::Proto3)?;
+        let value = self.string("proto3", Expected::Proto3)?;
         let end = self.mark(b';')?;
         Ok(Syntax {
             keyword,
@@ -253,12 +286,23 @@ impl<'s, 'a> Cursor<'s, 'a> {
         })
     }
 
+    pub fn import(&mut self) -> Result<Import<'a>, ReadError>
+        ensures found { IfOk result (λ i. left self.old ≡ import_then (import_of i) (left self.new)) }
+        ensures only { (i : tree.Import) (rest : List tokens.Token) → left self.old ≡ import_then i rest → Reaches import_of i rest result (left self.new) }
+        ensures shorter { OnOk result (length (left self.new) < length (left self.old)) }
+    {
+        let keyword = self.keyword("import", Expected::Top)?;
+        let name = self.import_name()?;
+        let end = self.mark(b';')?;
+        Ok(Import { keyword, name, end })
+    }
+
     pub fn head(&mut self) -> Result<Head<'a>, ReadError>
         ensures found { IfOk result (λ h. left self.old ≡ head_then (head_of h) (left self.new)) }
         ensures only { (h : tree.Head) (rest : List tokens.Token) → left self.old ≡ head_then h rest → Reaches head_of h rest result (left self.new) }
         ensures shorter { OnOk result (length (left self.new) < length (left self.old)) }
     {
-        let keyword = self.keyword("message", Expected::Message)?;
+        let keyword = self.keyword("message", Expected::Top)?;
         let name = self.name()?;
         let open = self.mark(b'{')?;
         Ok(Head {

@@ -12,8 +12,10 @@ pub enum Expected {
     Syntax,
     /// The string `"proto3"`.
     Proto3,
-    /// The keyword `message`, or the end of the file.
-    Message,
+    /// The keyword `import` or `message`, or the end of the file.
+    Top,
+    /// The string that an import names a file by.
+    ImportName,
     /// The name of a message.
     Identifier,
     /// The kind with which a field begins, or the mark that ends the message.

@@ -10,4 +10,6 @@ mod tree;
 
 pub use error::{Expected, ReadError};
 pub use reading::{at_most_one, read_file};
-pub use tree::{Field, FieldNumber, File, Head, Item, Kind, Message, Name, Scalar, Syntax, Top};
+pub use tree::{
+    Field, FieldNumber, File, Head, Import, Item, Kind, Message, Name, Scalar, Syntax, Top,
+};

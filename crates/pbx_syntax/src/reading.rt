@@ -2,6 +2,7 @@
 
 ghost use Rattle.std.specs.Prelude.{◌≡◌, ◌<◌, ◌≤◌, List, length, [], map, true, OnOk, IfOk};
 ghost use Rattle.pbx_token.specs.Tokens as tokens;
+ghost use Rattle.pbx_token.specs.declared.token.Span.{Span};
 ghost use Rattle.pbx_token.specs.View.{tokens_of};
 ghost use Rattle.pbx_syntax.specs.Tree as tree;
 ghost use Rattle.pbx_syntax.specs.Tree.{end};
@@ -55,7 +56,7 @@ fn items<'a>(alloc: Global, cursor: &mut Cursor<'_, 'a>) -> Result<Vec<Item<'a>>
 fn message<'a>(alloc: Global, cursor: &mut Cursor<'_, 'a>) -> Result<Message<'a>, ReadError>
     ensures found { IfOk result (λ m. left cursor.old ≡ top_then (message_of m) (left cursor.new)) }
     ensures fits { IfOk result (λ m. TopFits (message_of m)) }
-    ensures only { (t : tree.Top) (rest : List tokens.Token) → TopFits t → left cursor.old ≡ top_then t rest → Reaches message_of t rest result (left cursor.new) }
+    ensures only { (h : tree.Head) (b : tree.Body) (close : Span) (rest : List tokens.Token) → BodyFits b → left cursor.old ≡ top_then (tree.message h b close) rest → Reaches message_of (tree.message h b close) rest result (left cursor.new) }
     ensures shorter { OnOk result (length (left cursor.new) < length (left cursor.old)) }
 {
     let head = cursor.head()?;
@@ -70,6 +71,9 @@ fn one_top<'a>(alloc: Global, cursor: &mut Cursor<'_, 'a>) -> Result<Top<'a>, Re
     ensures only { (t : tree.Top) (rest : List tokens.Token) → TopFits t → left cursor.old ≡ top_then t rest → Reaches top_of t rest result (left cursor.new) }
     ensures shorter { OnOk result (length (left cursor.new) < length (left cursor.old)) }
 {
+    if cursor.is_next("import") {
+        return Ok(Top::Import(cursor.import()?));
+    }
     Ok(Top::Message(message(alloc, cursor)?))
 }
 

@@ -1,12 +1,12 @@
 //! Trees of sources, and where tokens spell none.
 
-use crate::{File, Item, ReadError, Top, read_file};
+use crate::{File, Item, Message, ReadError, Top, read_file};
 use pbx_token::lex;
 use std::alloc::Global;
 use std::process::Abort;
 use std::test::Fail;
 
-// The messages and fields of a source, or the index of the token that cannot stand there and what could.
+// The imports, messages and fields of a source, or the index of the token that cannot stand there and what could.
 fn shown(rt: &impl Abort, alloc: Global, source: &str) -> Result<String, Fail> {
     assert!(rt; source.len() < 2147483648);
     let tokens = lex(alloc, source)?;
@@ -20,19 +20,29 @@ fn shown(rt: &impl Abort, alloc: Global, source: &str) -> Result<String, Fail> {
 fn show(alloc: Global, file: &File<'_>) -> Result<String, Fail> {
     let mut out = String::new(alloc);
     for top in &file.tops {
-        let Top::Message(message) = top;
-        out.push_str(message.head.name.text)?;
-        out.push_str("(")?;
-        for item in &message.items {
-            let Item::Field(field) = item;
-            let kind = field.kind.scalar;
-            let name = field.name.text;
-            let number = field.number.value;
-            out.push_str(format!(in alloc; "{kind:?} {name} {number},")?.as_str())?;
+        match top {
+            Top::Import(import) => {
+                let name = import.name.text;
+                out.push_str(format!(in alloc; "<{name}>")?.as_str())?;
+            }
+            Top::Message(message) => show_message(alloc, &mut out, message)?,
         }
-        out.push_str(")")?;
     }
     Ok(out)
+}
+
+fn show_message(alloc: Global, out: &mut String, message: &Message<'_>) -> Result<(), Fail> {
+    out.push_str(message.head.name.text)?;
+    out.push_str("(")?;
+    for item in &message.items {
+        let Item::Field(field) = item;
+        let kind = field.kind.scalar;
+        let name = field.name.text;
+        let number = field.number.value;
+        out.push_str(format!(in alloc; "{kind:?} {name} {number},")?.as_str())?;
+    }
+    out.push_str(")")?;
+    Ok(())
 }
 
 #[test]
@@ -48,13 +58,31 @@ fn reads_files(rt: HostRuntime) -> Result<(), Fail> {
             "syntax='proto3';message M{int32 int32=1;int32 int32=1;}",
             "M(Int32 int32 1,Int32 int32 1,)",
         ),
+        (
+            "syntax='proto3';import 'a.proto';message import{}import\"b/é c.proto\";message N{}import'';",
+            "<a.proto>import()<b/é c.proto>N()<>",
+        ),
+        (
+            "syntax='proto3'; import /* a */ \"'\" // b\n ; import 'a'; import \"a\";",
+            "<'><a><a>",
+        ),
+        ("syntax='proto3';import import 'a';", "5 ImportName"),
+        ("syntax='proto3';import public 'a';", "5 ImportName"),
+        ("syntax='proto3';import weak 'a';", "5 ImportName"),
+        ("syntax='proto3';import;", "5 ImportName"),
+        ("syntax='proto3';import 'a'", "6 Mark(59)"),
+        ("syntax='proto3';import 'a' 'b';", "6 Mark(59)"),
+        ("syntax='proto3';'a';", "4 Top"),
+        ("syntax='proto3';Import 'a';", "4 Top"),
+        ("syntax='proto3';import 'a';;", "7 Top"),
+        ("import 'a';", "0 Syntax"),
         ("", "0 Syntax"),
         ("message M {}", "0 Syntax"),
         ("syntax 'proto3';", "1 Mark(61)"),
         ("syntax = proto3;", "2 Proto3"),
         ("syntax = 'proto2';", "2 Proto3"),
         ("syntax = 'proto3' message", "3 Mark(59)"),
-        ("syntax = 'proto3';;", "4 Message"),
+        ("syntax = 'proto3';;", "4 Top"),
         ("syntax = 'proto3'; message { }", "5 Identifier"),
         ("syntax = 'proto3'; message M M", "6 Mark(123)"),
         ("syntax = 'proto3'; message M { int64 a = 1; }", "7 Item"),
@@ -86,7 +114,7 @@ fn reads_files(rt: HostRuntime) -> Result<(), Fail> {
             "syntax = 'proto3'; message M { int32 a = 1 }",
             "11 Mark(59)",
         ),
-        ("syntax = 'proto3'; message M { } }", "8 Message"),
+        ("syntax = 'proto3'; message M { } }", "8 Top"),
     ] {
         let got = shown(&rt, rt.alloc(), source)?;
         assert_eq!(rt; got.as_str(), want, "at {source:?}");

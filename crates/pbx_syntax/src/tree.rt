@@ -74,9 +74,19 @@ pub struct Message<'a> {
     pub close: Span,
 }
 
+/// `import "NAME";`
+#[derive(Clone, Copy, Debug)]
+pub struct Import<'a> {
+    pub keyword: Span,
+    /// What stands between the quotes, and the span of the string.
+    pub name: Name<'a>,
+    pub end: Span,
+}
+
 /// What stands at the top of a file.
 #[derive(Debug, Drop)]
 pub enum Top<'a> {
+    Import(Import<'a>),
     Message(Message<'a>),
 }
 

@@ -6,7 +6,7 @@ use Rattle.std.proofs.lemmas.Str.{IsUtf8-from_ascii}
 use Rattle.pbx_token.specs.declared.piece.Run.TheVariants as runs
 use Rattle.pbx_token.specs.Bytes.{passes}
 
-word_byte : (b : ℕ) → passes runs.Word b ≡ true → b < 128
+pub word_byte : (b : ℕ) → passes runs.Word b ≡ true → b < 128
 word_byte b e = grind arith
 
 front : (t : Bool) (b : ℕ) (bs : List ℕ) (n i : ℕ) → (t ≡ true → b < 128) → IsAscii (take n bs) → get_or (take (cond t (1 + n) 0) (b ∷ bs)) i 0 < 128

@@ -92,7 +92,7 @@ block_found (a ∷ bs) n e =
     let ih = block_found bs m.0 m.1 in
     subst (λ k. (k ≤ length (a ∷ bs)) × (a ∷ bs ≡ take k (a ∷ bs) ++ (42 ∷ 47 ∷ drop (k + 2) (a ∷ bs)))) m.2 (one_more a bs (42 ∷ 47 ∷ []) m.0 2 ih.0 ih.1))
 
-quoted_found : (q : ℕ) (bytes : List ℕ) (n : ℕ) → quoted_end q bytes ≡ Some n → (n ≤ length bytes) × (bytes ≡ take n bytes ++ (q ∷ drop (n + 1) bytes))
+pub quoted_found : (q : ℕ) (bytes : List ℕ) (n : ℕ) → quoted_end q bytes ≡ Some n → (n ≤ length bytes) × (bytes ≡ take n bytes ++ (q ∷ drop (n + 1) bytes))
 unfolding quoted_end
 quoted_found q [] n e = absurd cc
 quoted_found q (a ∷ bs) n e =

@@ -2,3 +2,4 @@ pub mod Ascii
 pub mod Classes
 pub mod Laws
 pub mod Steps
+pub mod Utf8

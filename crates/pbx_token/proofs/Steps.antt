@@ -16,7 +16,7 @@ pub not_zero : (n : ℕ) → false ≡ (n == 0) → 0 < n
 not_zero zero e = absurd cc
 not_zero (suc n) e = omega arith
 
-kept_is : (o : Option (Piece × List ℕ)) (y : Option Word × List ℕ) → kept o ≡ Some y → (p : Piece) × (o ≡ Some (p, y.1)) × (word_of_piece p ≡ y.0)
+pub kept_is : (o : Option (Piece × List ℕ)) (y : Option Word × List ℕ) → kept o ≡ Some y → (p : Piece) × (o ≡ Some (p, y.1)) × (word_of_piece p ≡ y.0)
 kept_is None y e = absurd cc
 kept_is (Some x) y e =
     let h = some_is (word_of_piece x.0, x.1) y e in

@@ -1,6 +1,7 @@
 //! All tokens of a source.
 
 ghost use Rattle.std.specs.Prelude.{◌≡◌, ◌<◌, ◌^◌, ◌++◌, [], ℕ, List, length, option_map, IfOk, OnOk};
+ghost use Rattle.std.specs.Str.{IsUtf8};
 ghost use Rattle.pbx_token.specs.Tokens as tokens;
 ghost use Rattle.pbx_token.specs.Pieces.{tokens_from, origin, token_before, Lexes};
 ghost use Rattle.pbx_token.specs.Scan.{pieces_at};
@@ -30,7 +31,8 @@ fn add<'a>(
 }
 
 fn all<'a>(alloc: Global, source: &'a [u8]) -> Result<Vec<Token<'a>>, LexError>
-    requires { length source.now < 2 ^ 31 }
+    requires few { length source.now < 2 ^ 31 }
+    requires text { IsUtf8 source.now }
     ensures { Gives (λ x. tokens_of x.items) (option_map (tokens_from origin) (pieces_at source.now)) result }
 {
     let mut tokens = Vec::new(alloc);

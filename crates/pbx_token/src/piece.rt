@@ -2,6 +2,7 @@
 
 ghost use Rattle.std.specs.Prelude.{◌≡◌, ◌≤◌, ◌<◌, ◌+◌, length, take, drop, Some, IfSome, IfOk, IsTrue, option_map};
 ghost use Rattle.std.specs.List.{prefix_len};
+ghost use Rattle.std.specs.Str.{IsUtf8};
 ghost use Rattle.pbx_token.specs.Bytes.{passes, class_of, first_class_of, digit_of, digits_from, int_value, is_plain};
 ghost use Rattle.pbx_token.specs.Pieces.{block_end, quoted_end, begins_slash};
 ghost use Rattle.pbx_token.specs.Scan.{piece_at};
@@ -266,21 +267,30 @@ fn int_of(text: &[u8]) -> Option<u64>
     }
 }
 
+/// Bytes that are text.
+fn text_of(bytes: &[u8]) -> &str
+    requires { IsUtf8 bytes.now }
+    ensures { result.now ≡ bytes.now }
+{
+    match str::from_utf8(bytes) {
+        Ok(text) => text,
+        Err(_) => unreachable!(),
+    }
+}
+
 /// The letters, digits and `_` at the front, which are text since they are ASCII.
 fn word_at(bytes: &[u8]) -> (&str, &[u8])
     ensures text { result.0.now ≡ take (prefix_len (passes Run.Word) bytes.now) bytes.now }
     ensures rest { result.1.now ≡ drop (prefix_len (passes Run.Word) bytes.now) bytes.now }
 {
     let n = run_len(bytes, Run::Word);
-    match str::from_utf8(&bytes[..n]) {
-        Ok(text) => (text, &bytes[n..]),
-        Err(_) => unreachable!(),
-    }
+    (text_of(&bytes[..n]), &bytes[n..])
 }
 
 /// The piece at the front: its word, if it is a token, and what follows it.
 #[tactic(auto, unfolding(crate::specs::Scan::piece_at))]
 pub fn piece(bytes: &[u8]) -> Result<(Option<Word<'_>>, &[u8]), LexError>
+    requires { IsUtf8 bytes.now }
     ensures read { Gives (λ x. (option_map word_of x.0, x.1.now)) (kept (piece_at bytes.now)) result }
     ensures shorter { IfOk result (λ x. length x.1.now < length bytes.now) }
 {
@@ -328,7 +338,7 @@ pub fn piece(bytes: &[u8]) -> Result<(Option<Word<'_>>, &[u8]), LexError>
                     begun: bytes.len(),
                     fault: Fault::Quote(*quote),
                 }),
-                Some(n) => Ok((Some(Word::Str(&text[..n])), &text[n + 1..])),
+                Some(n) => Ok((Some(Word::Str(text_of(&text[..n]))), &text[n + 1..])),
             },
         },
     }

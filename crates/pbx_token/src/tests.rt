@@ -27,7 +27,10 @@ fn show(alloc: Global, out: &mut String, token: Token<'_>) -> Result<(), Fail> {
     match token.word {
         Word::Ident(text) => out.push_str(format!(in alloc; " {text}")?.as_str())?,
         Word::Int(value) => out.push_str(format!(in alloc; " #{value}")?.as_str())?,
-        Word::Str(text) => out.push_str(format!(in alloc; " {text:?}")?.as_str())?,
+        Word::Str(text) => {
+            let bytes = text.as_bytes();
+            out.push_str(format!(in alloc; " {bytes:?}")?.as_str())?;
+        }
         Word::Mark(mark) => out.push_str(format!(in alloc; " {}", mark as char)?.as_str())?,
     }
     Ok(())

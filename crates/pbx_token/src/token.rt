@@ -27,7 +27,7 @@ pub enum Word<'a> {
     /// The value of a decimal, octal or hexadecimal integer.
     Int(u64),
     /// What stands between the quotes, as written.
-    Str(&'a [u8]),
+    Str(&'a str),
     /// One of the marks ``; { } [ ] ( ) < > = , . -``.
     Mark(u8),
 }

@@ -9,6 +9,7 @@ use Rattle.std.proofs.lemmas.Bool.{eqb-true}
 use Rattle.std.proofs.lemmas.List.{length-take}
 use Rattle.pbx_token.specs.Places.{place_after}
 use Rattle.pbx_token.proofs.Steps.{goes_on, fails, is_done, not_zero}
+use Rattle.pbx_token.proofs.Utf8.{next_text}
 use Rattle.pbx_token.proofs.lexer.all.Goals as goal
 
 pub returns-in_err-word : goal.returns-in_err-word
@@ -38,4 +39,5 @@ pieces-preserved c =
       so_far = rw c.in_ok-add.ensures (goes_on (tokens_of c.pieces.tokens.items) from c.after-to.result rest next w total some c.in_ok-word.ensures.read at c.pieces.invariant.so_far);
       line = omega (arith, c.after-to.ensures.line, c.in_ok-word.ensures.shorter, c.pieces.invariant.line);
       column = omega (arith, c.after-to.ensures.column, c.in_ok-word.ensures.shorter, c.pieces.invariant.column);
+      text = next_text rest next w c.in_ok-word.ensures.read c.pieces.invariant.text;
     }

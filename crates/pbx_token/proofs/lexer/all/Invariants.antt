@@ -1,5 +1,6 @@
 use Rattle.std.proofs.Common.{◌≡◌, ◌≤◌, ◌+◌, ◌++◌, length}
 use Rattle.std.specs.Prelude.{option_map}
+use Rattle.std.specs.Str.{IsUtf8}
 use Rattle.pbx_token.specs.Pieces.{tokens_from, origin}
 use Rattle.pbx_token.specs.Scan.{pieces_at}
 use Rattle.pbx_token.specs.View.{tokens_of}
@@ -10,6 +11,7 @@ invariant-pieces l = record {
   so_far : option_map (λ ps. tokens_of l.tokens.items ++ tokens_from (record { line = l.line; column = l.column }) ps) (pieces_at l.rest) ≡ option_map (tokens_from origin) (pieces_at l.source);
   line : l.line + length l.rest ≤ length l.source;
   column : l.column + length l.rest ≤ length l.source;
+  text : IsUtf8 l.rest;
 }
 
 abbrev pub decreases-pieces : goal.decreases-pieces

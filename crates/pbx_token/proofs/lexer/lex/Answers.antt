@@ -1,5 +1,6 @@
 use Rattle.std.proofs.Common.{◌∙◌, ℕ, List, Vec, Global, Result, Ok, Err, ap, subst, sym}
 use Rattle.std.specs.Prelude.{IfOk, Some, option_map}
+use Rattle.std.specs.Str.{IsUtf8}
 use Rattle.pbx_token.specs.declared.token.Token as code
 use Rattle.pbx_token.specs.declared.piece.LexError.{LexError}
 use Rattle.pbx_token.specs.declared.piece.LexError.TheVariants as errors
@@ -28,3 +29,6 @@ pub returns-clause-only : goal.returns-clause-only
 returns-clause-only c = λ ts h.
     let read = ap (λ (s : List ℕ). option_map (tokens_from origin) (pieces_at s)) c.as_bytes.ensures.value ∙ all_again c.args.source.now ts h in
     reads_as ts c.all.result (subst (λ o. Gives (λ x. tokens_of x.items) o c.all.result) read c.all.ensures)
+
+pub all-requires-clause-text : goal.all-requires-clause-text
+all-requires-clause-text c = subst IsUtf8 (sym c.as_bytes.ensures.value) c.utf8.source
