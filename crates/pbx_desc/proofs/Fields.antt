@@ -1,6 +1,6 @@
 -- Contents that are made field by field.
-use Rattle.std.proofs.Common.{◌≡◌, ℕ, ◌+◌, ◌^◌, ◌<◌, ◌≤◌, Bool, true, false, ◌&&◌, if◌then◌else◌, cond, List, [], ◌∷◌, ◌++◌, length, map, Option, Some, None, subst, refl, sym, ap, ◌∙◌, arith, inl, inr, append-nil}
-use Rattle.std.specs.Prelude.{not, ◌==◌}
+use Rattle.std.proofs.Common.{◌≡◌, ℕ, ◌^◌, ◌<◌, Bool, true, false, ◌&&◌, if◌then◌else◌, cond, List, [], ◌∷◌, ◌++◌, length, map, Option, Some, None, subst, refl, sym, arith, inl}
+use Rattle.std.specs.Prelude.{◌==◌}
 use Rattle.std.specs.List.{filter}
 use Rattle.pbx_wire.specs.Text.{text as text_of_rec, text_of, all_true, is_numbered, are_numbered, are_fit}
 use Rattle.pbx_wire.specs.declared.rec.Rec.{Rec}
@@ -9,18 +9,17 @@ use Rattle.pbx_content.specs.declared.shape.Kind.{Kind}
 use Rattle.pbx_content.specs.declared.shape.Kind.TheVariants as kind
 use Rattle.pbx_content.specs.declared.shape.Shape.{Shape}
 use Rattle.pbx_content.specs.declared.shape.FieldShape.{FieldShape}
-use Rattle.pbx_content.specs.Content.{Content, content, Fields, no_fields, field, Val, number, truth, text, message, many, Vals, no_vals, val, vals_of, get, IsAbove, IsAscending}
+use Rattle.pbx_content.specs.Content.{content, Fields, no_fields, field, Val, number, text, message, many, vals_of, get, IsAbove, IsAscending}
 use Rattle.pbx_content.specs.Records.{number_of, any, sorted}
-use Rattle.pbx_content.specs.Shape.{fields_of, field_of, is_float, is_kept, is_read_as, is_rival, same_oneof}
+use Rattle.pbx_content.specs.Shape.{fields_of, field_of, is_float, is_kept, is_read_as, is_rival}
 use Rattle.pbx_content.specs.Meaning.{with_field}
-use Rattle.pbx_content.specs.Encoding.{encoded, content_recs, fields_recs, field_recs, vals_recs, val_rec, packed_text}
-use Rattle.pbx_content.specs.Sound.{IsSound, AreSound, IsSoundAt, AreElements, IsElement, AreKept}
+use Rattle.pbx_content.specs.Encoding.{encoded, fields_recs, field_recs, vals_recs, val_rec}
+use Rattle.pbx_content.specs.Sound.{AreSound, IsSoundAt, AreElements, IsElement, AreKept}
 use Rattle.pbx_desc.specs.Shape.{one_field, list_field}
-use Rattle.pbx_desc.specs.Content.{listed, writable, is_writable}
+use Rattle.pbx_desc.specs.Content.{listed, writable}
 use Rattle.pbx_desc.specs.Unknown.{has_one_of, is_writable_beside}
 use Rattle.pbx_desc.specs.Sound.{IsSoundIfShort, IsOf, MayBeOf, AreOf}
 use Rattle.pbx_desc.proofs.Lengths.{length_parts, length_first, length-sorted, payload_within, packed_within}
-use Rattle.pbx_desc.proofs.Unread.{both}
 
 -- ---- ascending numbers
 

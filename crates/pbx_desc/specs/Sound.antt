@@ -6,7 +6,7 @@ use Rattle.std.specs.Str.{is_utf8}
 use Rattle.pbx_content.specs.declared.shape.Kind.{Kind}
 use Rattle.pbx_content.specs.declared.shape.Kind.TheVariants as kind
 use Rattle.pbx_content.specs.declared.shape.Shape.{Shape}
-use Rattle.pbx_content.specs.Content.{Content, Val, number, truth, text, message, many}
+use Rattle.pbx_content.specs.Content.{Content, Val, number, text, message}
 use Rattle.pbx_content.specs.Encoding.{encoded}
 use Rattle.pbx_content.specs.Sound.{IsSound}
 

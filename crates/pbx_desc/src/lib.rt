@@ -4,6 +4,7 @@
 //! field `type` is called `kind`. So far they have the fields that the thin source language fills.
 #![tactic(auto)]
 
+mod contents;
 mod copy;
 mod field;
 mod file;
