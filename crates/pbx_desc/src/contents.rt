@@ -4,7 +4,7 @@ ghost use Rattle.pbx_content.specs.Content.{number as number_val, text as text_v
 ghost use Rattle.pbx_content.specs.Meaning.{with_field};
 ghost use Rattle.pbx_content.specs.View.{content_of, val_of};
 ghost use Rattle.pbx_desc.specs.Shape.{descriptor_shape};
-ghost use Rattle.pbx_desc.specs.Content.{listed, entries, field_content, field_value, message_content, message_value, file_content};
+ghost use Rattle.pbx_desc.specs.Content.{listed, entries, field_content, field_value, message_content, message_value, file_content, set_content};
 ghost use Rattle.pbx_desc.specs.Sound.{IsSoundIfShort, MayBeOf, AreOf};
 
 use crate::field::FieldDescriptorProto;
@@ -12,7 +12,7 @@ use crate::file::FileDescriptorProto;
 use crate::message::DescriptorProto;
 use crate::unknown::writable;
 use pbx_content::{Contents, Field, Held};
-use pbx_wire::{List, NoMemory, Text, Texts};
+use pbx_wire::{List, NoMemory, Recs, Text, Texts};
 use std::alloc::Global;
 
 /// The fields with a value first, whose number is below theirs.
@@ -149,4 +149,13 @@ pub(crate) fn file_contents(
     let name = with_text(alloc, 1, &file.name, dependency)?;
     let kept = writable(alloc, &file.unknown, &[1, 3, 4, 12])?;
     Ok(Contents { fields: name, kept })
+}
+
+/// The content of a set of files.
+pub(crate) fn set_contents(alloc: Global, files: List<Held>) -> Result<Contents, NoMemory>
+    ensures { IfOk result (λ contents. content_of contents ≡ set_content (map val_of files)) }
+{
+    let fields = with_list(1, files, List::new(alloc))?;
+    let kept = Recs::new(alloc);
+    Ok(Contents { fields, kept })
 }

@@ -118,7 +118,8 @@ fn add_type(
 /// 2 DescriptorProto and 3 FieldDescriptorProto. The only error is want of memory.
 #[tactic(auto, unfolding(crate::specs::Shape::descriptor_shape))]
 pub fn descriptor_shape(alloc: Global) -> Result<Shape, NoMemory>
-    ensures { IfOk result (λ shape. shape ≡ descriptor_shape_of) }
+    ensures shape { IfOk result (λ shape. shape ≡ descriptor_shape_of) }
+    ensures proper { IfOk result IsProper }
 {
     let mut messages = List::new(alloc);
     let set = set_type(alloc)?;
