@@ -59,8 +59,8 @@ texts_depth n (t ∷ ts) = (omega arith, texts_depth n ts)
 field_depth : (n : ℕ) (f : FieldDescriptorProto) → IsShallowField n f → val_depth (field_value f) ≤ n + 1
 field_depth n f h =
     let own =
-      text_depth n 1 f.name _
-      (number_depth n 3 f.number _ (number_depth n 4 f.label _ (number_depth n 5 f.kind _ (text_depth n 10 f.json_name no_fields (omega arith)))))
+    text_depth n 1 f.name _
+    (number_depth n 3 f.number _ (number_depth n 4 f.label _ (number_depth n 5 f.kind _ (text_depth n 10 f.json_name no_fields (omega arith)))))
     in
     omega (arith, own, h, writable_depth field_fields f.unknown)
 
@@ -74,9 +74,9 @@ pub file_depth : (n : ℕ) (f : FileDescriptorProto) → IsShallow n f → depth
 file_depth n f h =
     let inner = each_at_most (IsShallowMessage n) message_value (n + 2) (message_depth n) f.message_type h.1 in
     let own =
-      text_depth (n + 2) 1 f.name _
-      (list_depth (n + 2) 3 (map text f.dependency) _ (texts_depth (n + 2) f.dependency)
-      (list_depth (n + 2) 4 (map message_value f.message_type) _ inner (text_depth (n + 2) 12 f.syntax no_fields (omega arith))))
+    text_depth (n + 2) 1 f.name _
+    (list_depth (n + 2) 3 (map text f.dependency) _ (texts_depth (n + 2) f.dependency)
+    (list_depth (n + 2) 4 (map message_value f.message_type) _ inner (text_depth (n + 2) 12 f.syntax no_fields (omega arith))))
     in
     omega (arith, own, h.0, writable_depth file_fields f.unknown)
 

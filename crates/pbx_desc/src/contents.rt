@@ -42,11 +42,7 @@ fn with_text(
     }
 }
 
-fn with_number(
-    number: u32,
-    value: Option<i32>,
-    rest: List<Field>,
-) -> Result<List<Field>, NoMemory>
+fn with_number(number: u32, value: Option<i32>, rest: List<Field>) -> Result<List<Field>, NoMemory>
     ensures fields { IfOk result (λ fields. entries fields ≡ with_field number (option_map number_val value) (entries rest)) }
     ensures sound { OnOk result (MayBeOf descriptor_shape kind.Int32 (option_map number_val value)) }
 {
@@ -56,11 +52,7 @@ fn with_number(
     }
 }
 
-fn with_list(
-    number: u32,
-    values: List<Held>,
-    rest: List<Field>,
-) -> Result<List<Field>, NoMemory>
+fn with_list(number: u32, values: List<Held>, rest: List<Field>) -> Result<List<Field>, NoMemory>
     ensures { IfOk result (λ fields. entries fields ≡ with_field number (listed (map val_of values)) (entries rest)) }
 {
     if values.is_empty() {
@@ -133,10 +125,7 @@ fn message_contents(alloc: Global, message: &DescriptorProto) -> Result<Contents
 }
 
 /// The file's content.
-pub(crate) fn file_contents(
-    alloc: Global,
-    file: &FileDescriptorProto,
-) -> Result<Contents, NoMemory>
+pub(crate) fn file_contents(alloc: Global, file: &FileDescriptorProto) -> Result<Contents, NoMemory>
     ensures content { IfOk result (λ contents. content_of contents ≡ file_content file.now) }
     ensures sound { OnOk result (IsSoundIfShort descriptor_shape 1 (file_content file.now)) }
 {

@@ -13,6 +13,8 @@ mod laws;
 mod message;
 mod set;
 mod shape;
+#[cfg(test)]
+mod tests;
 mod unknown;
 
 pub use field::FieldDescriptorProto;

@@ -98,7 +98,14 @@ fn field_type(alloc: Global) -> Result<List<FieldShape>, NoMemory>
     add_one(alloc, &mut fields, 3, "number", "number", Kind::Int32)?;
     add_one(alloc, &mut fields, 4, "label", "label", Kind::Int32)?;
     add_one(alloc, &mut fields, 5, "type", "type", Kind::Int32)?;
-    add_one(alloc, &mut fields, 10, "json_name", "jsonName", Kind::String)?;
+    add_one(
+        alloc,
+        &mut fields,
+        10,
+        "json_name",
+        "jsonName",
+        Kind::String,
+    )?;
     Ok(fields)
 }
 

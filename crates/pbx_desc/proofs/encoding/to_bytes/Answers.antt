@@ -13,5 +13,5 @@ returns-clause-decodes c =
     let is : vec.items ≡ encoded descriptor_shape c.args.type_at contents = search rules in
     let short : length (encoded descriptor_shape c.args.type_at contents) < 2 ^ 64 = omega (arith, ap length is, vec.ok.0, vec.ok.1, vec.small) in
     λ sound deep.
-      subst (λ (bytes : List ℕ). Decodes descriptor_shape c.args.type_at bytes contents) (sym is)
-      (c.encoding_decodes.ensures descriptor_shape c.args.type_at contents descriptor_shape_proper (sound short) deep)
+    subst (λ (bytes : List ℕ). Decodes descriptor_shape c.args.type_at bytes contents) (sym is)
+    (c.encoding_decodes.ensures descriptor_shape c.args.type_at contents descriptor_shape_proper (sound short) deep)

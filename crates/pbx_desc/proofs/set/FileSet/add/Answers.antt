@@ -12,4 +12,4 @@ pub invariant_of-self-2 : goal.invariant_of-self-2
 invariant_of-self-2 c =
     rw c.in_ok-add.ensures.ok
     (are_pushed_message descriptor_shape (kind.Message 1) c.self.inside.files c.in_ok-contents.contents (file_content c.args.file.now) c.in_ok-contents.ensures.content c.self.invariant
-      c.in_ok-contents.ensures.sound)
+    c.in_ok-contents.ensures.sound)

@@ -15,5 +15,5 @@ returns-clause-decodes c =
     let set = set_content files in
     rw (← c.self.view_is)
     (if_ok (λ v. IsSoundIfShort descriptor_shape 0 set → depth set ≤ 100 → Decodes descriptor_shape 0 v.items set)
-      (λ v. depth set ≤ 100 → Decodes descriptor_shape 0 v.items set) c.to_bytes.result
-      (λ v h. h (set_sound files c.self.invariant)) (rw c.in_ok-contents.ensures at c.to_bytes.ensures.decodes))
+    (λ v. depth set ≤ 100 → Decodes descriptor_shape 0 v.items set) c.to_bytes.result
+    (λ v h. h (set_sound files c.self.invariant)) (rw c.in_ok-contents.ensures at c.to_bytes.ensures.decodes))
