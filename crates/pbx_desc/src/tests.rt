@@ -23,9 +23,8 @@ fn x_field(alloc: Global) -> Result<FieldDescriptorProto, NoMemory> {
     Ok(field)
 }
 
-const X_FIELD: [u8; 9] = [0x0a, 1, b'x', 0x18, 1, 0x20, 1, 0x28, 5];
-
-/// `repeated string foo_bar = 2`, with a key in JSON and with records that are no field of this crate's.
+/// `repeated string foo_bar = 2`, with a key in JSON, a record of another number and one of a
+/// field's.
 fn foo_field(alloc: Global) -> Result<FieldDescriptorProto, NoMemory> {
     let mut field = FieldDescriptorProto::new(alloc);
     field.name = text(alloc, "foo_bar")?;
@@ -38,12 +37,14 @@ fn foo_field(alloc: Global) -> Result<FieldDescriptorProto, NoMemory> {
     Ok(field)
 }
 
-/// A message of both fields.
+/// A message of both fields, with a record of another number and one of a field's.
 fn message(alloc: Global) -> Result<DescriptorProto, NoMemory> {
     let mut message = DescriptorProto::new(alloc);
     message.name = text(alloc, "M")?;
     message.field.add(x_field(alloc)?)?;
     message.field.add(foo_field(alloc)?)?;
+    message.unknown.add(Rec::Varint(7, 1))?;
+    message.unknown.add(Rec::Varint(2, 1))?;
     Ok(message)
 }
 
@@ -74,13 +75,14 @@ fn a_file(alloc: Global) -> Result<FileDescriptorProto, NoMemory> {
 }
 
 #[rattlefmt::skip]
-const A_FILE: [u8; 83] = [
+const A_FILE: [u8; 85] = [
     0x0a, 7, b'a', b'.', b'p', b'r', b'o', b't', b'o',
     0x1a, 7, b'b', b'.', b'p', b'r', b'o', b't', b'o',
-    0x22, 41, 0x0a, 1, b'M',
+    0x22, 43, 0x0a, 1, b'M',
     0x12, 9, 0x0a, 1, b'x', 0x18, 1, 0x20, 1, 0x28, 5,
     0x12, 25, 0x0a, 7, b'f', b'o', b'o', b'_', b'b', b'a', b'r', 0x18, 2, 0x20, 3, 0x28, 9,
     0x48, 0, 0x52, 6, b'f', b'o', b'o', b'B', b'a', b'r',
+    0x38, 1,
     0x22, 3, 0x0a, 1, b'N',
     0x62, 6, b'p', b'r', b'o', b't', b'o', b'3',
     0x98, 6, 1,
@@ -130,7 +132,7 @@ fn sets_are_written(rt: HostRuntime) -> Result<(), NoMemory> {
     set.add(alloc, &b_file(alloc)?)?;
     set.add(alloc, &FileDescriptorProto::new(alloc))?;
     let bytes = set.encode(alloc)?;
-    let mut want = [0x0a, 83].to_vec(alloc)?;
+    let mut want = [0x0a, 85].to_vec(alloc)?;
     want.extend_from_slice(&A_FILE)?;
     want.extend_from_slice(&[0x0a, 9])?;
     want.extend_from_slice(&B_FILE)?;
@@ -142,15 +144,15 @@ fn sets_are_written(rt: HostRuntime) -> Result<(), NoMemory> {
 #[test]
 fn copies_are_equal(rt: HostRuntime) -> Result<(), NoMemory> {
     let alloc = rt.alloc();
-    let field = foo_field(alloc)?.copy(alloc)?;
-    assert_eq!(rt; field.name.map(|t| t.as_str().len()), Some(7));
-    assert_eq!(rt; field.number, Some(2));
-    assert_eq!(rt; field.label, Some(3));
-    assert_eq!(rt; field.kind, Some(9));
-    assert_eq!(rt; field.unknown.len(), 2);
-    let message = message(alloc)?.copy(alloc)?;
-    assert_eq!(rt; message.field.len(), 2);
-    Ok(())
+    let mut message = message(alloc)?.copy(alloc)?;
+    message.field = List::new(alloc);
+    message.field.add(x_field(alloc)?.copy(alloc)?)?;
+    message.field.add(foo_field(alloc)?.copy(alloc)?)?;
+    let mut file = b_file(alloc)?;
+    file.message_type.add(message.copy(alloc)?)?;
+    let mut want = B_FILE.to_vec(alloc)?;
+    want.extend_from_slice(&A_FILE[18..63])?;
+    expect(&rt, alloc, &file, want.as_slice())
 }
 
 #[test]

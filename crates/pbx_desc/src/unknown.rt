@@ -6,7 +6,8 @@ ghost use Rattle.pbx_desc.specs.Unknown.{has_one_of, is_writable_beside};
 use pbx_wire::{NoMemory, Rec, Recs};
 use std::alloc::Global;
 
-/// Whether a record of the wire may have the number. The value, or length, may be any.
+/// Whether a record of the wire may have the number. Its value, or length, may be any; that it fits is
+/// known only where it is at hand.
 fn is_number(number: u32, _value: u64) -> bool
     ensures numbered { result ≡ is_number_of number }
     ensures fit { IsTrue (nat_lt _value (2 ^ 64)) }
