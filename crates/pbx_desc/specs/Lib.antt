@@ -1,0 +1,5 @@
+pub mod Shape
+pub mod Content
+pub mod Unknown
+pub mod Sound
+pub mod Laws
