@@ -1,2 +1,3 @@
-pub mod Inserted
-pub mod Distinct
+pub mod Camel
+pub mod Searched
+pub mod Seen

@@ -3,3 +3,4 @@ pub mod Linked
 pub mod Rules
 pub mod Built
 pub mod Pool
+pub mod Found

@@ -1,6 +1,0 @@
-use Rattle.std.proofs.Common.{◌≡◌, map, take}
-use Rattle.pbx_link.specs.Shapes.{message_shape}
-use Rattle.pbx_link.proofs.shapes.shape_of.Given as goal
-
-abbrev pub invariant-loop-message : goal.invariant-loop-message
-invariant-loop-message l = l.messages ≡ map message_shape (take l.message-index l.message-items)
