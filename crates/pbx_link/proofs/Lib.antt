@@ -1,3 +1,4 @@
 pub mod Camel
 pub mod Searched
 pub mod Seen
+pub mod Pooled

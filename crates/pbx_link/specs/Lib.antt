@@ -4,3 +4,4 @@ pub mod Rules
 pub mod Built
 pub mod Pool
 pub mod Found
+pub mod Descriptors

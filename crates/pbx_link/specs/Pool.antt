@@ -1,5 +1,5 @@
 -- A pool: linked records, each among those before it; and why a record is not added.
-use Rattle.std.specs.Prelude.{◌≡◌, ◌<◌, ◌&&◌, ℕ, List, [], ◌∷◌, ◌++◌, Bool, true, false, Contains}
+use Rattle.std.specs.Prelude.{◌≡◌, ◌<◌, ◌&&◌, ℕ, List, [], ◌∷◌, ◌++◌, Bool, true, false, Option, Some, None, Contains}
 use Rattle.pbx_desc.specs.declared.file.FileDescriptorProto.{FileDescriptorProto}
 use Rattle.pbx_link.specs.declared.error.DescriptorError.{DescriptorError}
 use Rattle.pbx_link.specs.declared.error.DescriptorError.TheVariants.{Rule, Decode, NoMemory, NotBuilt}
@@ -28,3 +28,11 @@ IsRefused files f (Rule file place rule) = (file ≡ text_or_empty f.name) × (i
 IsRefused files f (Decode error) = ⊥
 IsRefused files f NoMemory = Unit {0}
 IsRefused files f (NotBuilt file) = (file ≡ text_or_empty f.name) × (is_built f ≡ false)
+
+abbrev pub out_of_memory : DescriptorError
+out_of_memory = NoMemory
+
+-- the records of a pool that has some, or none
+abbrev pub held : Option (List FileDescriptorProto) → List FileDescriptorProto
+held None = []
+held (Some files) = files
