@@ -2,3 +2,4 @@ pub mod Camel
 pub mod Searched
 pub mod Seen
 pub mod Pooled
+pub mod LookedUp

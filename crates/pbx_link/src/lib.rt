@@ -4,12 +4,17 @@
 mod absent;
 mod built;
 mod check;
+mod descriptors;
 mod error;
 mod linked;
+mod lookup;
 mod places;
 mod pool;
+mod pool_files;
 mod records;
 mod rules;
 
+pub use descriptors::{FileDescriptor, MessageDescriptor};
 pub use error::DescriptorError;
 pub use pool::DescriptorPool;
+pub use pool_files::PoolFiles;
