@@ -3,3 +3,5 @@ pub mod Searched
 pub mod Seen
 pub mod Pooled
 pub mod LookedUp
+pub mod Inserted
+pub mod Proper

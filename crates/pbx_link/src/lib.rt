@@ -13,8 +13,10 @@ mod pool;
 mod pool_files;
 mod records;
 mod rules;
+mod shapes;
 
 pub use descriptors::{FileDescriptor, MessageDescriptor};
 pub use error::DescriptorError;
 pub use pool::DescriptorPool;
 pub use pool_files::PoolFiles;
+pub use shapes::{find_message, shape_of};
