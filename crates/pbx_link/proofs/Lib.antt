@@ -5,3 +5,4 @@ pub mod Pooled
 pub mod LookedUp
 pub mod Inserted
 pub mod Proper
+pub mod Behind

@@ -5,3 +5,4 @@ pub mod Built
 pub mod Pool
 pub mod Found
 pub mod Descriptors
+pub mod Laws

@@ -6,6 +6,7 @@ mod built;
 mod check;
 mod descriptors;
 mod error;
+mod laws;
 mod linked;
 mod lookup;
 mod places;
@@ -17,6 +18,7 @@ mod shapes;
 
 pub use descriptors::{FileDescriptor, MessageDescriptor};
 pub use error::DescriptorError;
+pub use laws::{linked_is_linked, pooled_stand_behind};
 pub use pool::DescriptorPool;
 pub use pool_files::PoolFiles;
 pub use shapes::{find_message, shape_of};
