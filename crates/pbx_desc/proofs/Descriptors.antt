@@ -1,5 +1,5 @@
 -- The content of each descriptor record, and that a message of its type may have it.
-use Rattle.std.proofs.Common.{◌≡◌, ℕ, true, List, [], map, Option, option_map, refl, sym, ap, ◌∙◌, arith}
+use Rattle.std.proofs.Common.{◌≡◌, ℕ, zero, suc, true, List, [], map, Option, option_map, refl, sym, ap, ◌∙◌, arith}
 use Rattle.std.specs.Prelude.{codes}
 use Rattle.std.specs.List.{filter}
 use Rattle.pbx_wire.specs.Text.{are_fit}
@@ -11,6 +11,7 @@ use Rattle.pbx_content.specs.declared.contents.Held.TheViews.{roll-Contents}
 use Rattle.pbx_content.specs.Content.{content, Fields, no_fields, number, text, Val}
 use Rattle.pbx_content.specs.Shape.{fields_of}
 use Rattle.pbx_content.specs.Meaning.{with_field}
+use Rattle.pbx_content.specs.Sound.{IsProper}
 use Rattle.pbx_content.specs.View.{content_of}
 use Rattle.pbx_desc.specs.declared.field.FieldDescriptorProto.{FieldDescriptorProto}
 use Rattle.pbx_desc.specs.declared.message.DescriptorProto.{DescriptorProto}
@@ -51,6 +52,14 @@ message_plain = (refl, refl, (refl, refl, tt))
 
 pub field_plain : ArePlain field_fields
 field_plain = (refl, refl, (refl, refl, (refl, refl, (refl, refl, (refl, refl, tt)))))
+
+pub descriptor_shape_proper : IsProper descriptor_shape
+unfolding descriptor_shape
+descriptor_shape_proper zero = (omega arith, refl, tt)
+descriptor_shape_proper (suc zero) = (omega arith, refl, (omega arith, refl, (omega arith, refl, (omega arith, refl, tt))))
+descriptor_shape_proper (suc (suc zero)) = (omega arith, refl, (omega arith, refl, tt))
+descriptor_shape_proper (suc (suc (suc zero))) = (omega arith, refl, (omega arith, refl, (omega arith, refl, (omega arith, refl, (omega arith, refl, tt)))))
+descriptor_shape_proper (suc (suc (suc (suc t)))) = tt
 
 -- ---- the tree
 

@@ -139,10 +139,9 @@ with_list shape gs n name json k (v ∷ vs) fs e h rest short =
     let f = list_field n name json k in
     let all = vals_of (v ∷ vs) in
     let here = subst (λ (g : Option FieldShape). length (text_of (field_recs shape g (many all) ++ fields_recs shape gs fs)) < 2 ^ 64) e short in
-    let parts = length_parts (vals_recs shape f all) (fields_recs shape gs fs) in
-    (
+    let parts = length_parts (vals_recs shape f all) (fields_recs shape gs fs) in (
       subst (λ (g : Option FieldShape). IsSoundAt shape g (many all)) (sym e)
-      (refl, refl, elements_sound shape n name json k (v ∷ vs) h (omega (arith, parts, here)), omega (arith, parts, here, packed_within shape f all)),
+          (refl, refl, elements_sound shape n name json k (v ∷ vs) h (omega (arith, parts, here)), omega (arith, parts, here, packed_within shape f all)),
       rest (omega (arith, parts, here)),
     )
 
@@ -152,8 +151,8 @@ pub content_sound : (shape : Shape) (t : ℕ) (gs : List FieldShape) (fs : Field
     → are_fit (writable gs rs) ≡ true → IsSoundIfShort shape t (content fs (writable gs rs))
 content_sound shape t gs fs rs e plain above sound fit =
     subst (λ (hs : List FieldShape). length (text_of (sorted (fields_recs shape hs fs ++ writable gs rs))) < 2 ^ 64
-      → IsAscending fs × AreSound shape hs fs × AreKept hs (writable gs rs)
-      × ((f : FieldShape) (v : Val) → get f.number fs ≡ Some v → any (is_rival hs f) (fields_recs shape hs fs) ≡ false)) (sym e)
+    → IsAscending fs × AreSound shape hs fs × AreKept hs (writable gs rs)
+    × ((f : FieldShape) (v : Val) → get f.number fs ≡ Some v → any (is_rival hs f) (fields_recs shape hs fs) ≡ false)) (sym e)
     (λ short.
-      let parts = length_parts (fields_recs shape gs fs) (writable gs rs) in
-      (ascends fs above, sound (omega (arith, parts, length-sorted (fields_recs shape gs fs ++ writable gs rs), short)), kept gs rs fit, λ f v _. no_rivals gs f (fields_recs shape gs fs) plain))
+    let parts = length_parts (fields_recs shape gs fs) (writable gs rs) in
+    (ascends fs above, sound (omega (arith, parts, length-sorted (fields_recs shape gs fs ++ writable gs rs), short)), kept gs rs fit, λ f v _. no_rivals gs f (fields_recs shape gs fs) plain))

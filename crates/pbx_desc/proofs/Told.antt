@@ -1,6 +1,6 @@
 -- Trees that are made field by field, and lists of values.
 use Rattle.std.proofs.Common.{◌≡◌, ℕ, ◌+◌, ◌<◌, List, [], ◌∷◌, ◌++◌, length, take, get_or, map, true, sym, ap, ◌∙◌, rules}
-use Rattle.std.specs.Prelude.{Result, Ok, Err, OnOk}
+use Rattle.std.specs.Prelude.{Result, Ok, Err, OnOk, IfOk}
 use Rattle.std.specs.Str.{IsUtf8, is_utf8}
 use Rattle.std.proofs.lemmas.Str.{is_utf8-from_IsUtf8}
 use Rattle.std.proofs.lemmas.List.{take_more, map-append}
@@ -13,7 +13,7 @@ use Rattle.pbx_content.specs.declared.contents.Held as held
 use Rattle.pbx_content.specs.declared.contents.Field.{Field}
 use Rattle.pbx_content.specs.declared.contents.Held.TheViews.{roll-Contents}
 use Rattle.pbx_content.specs.declared.contents.Contents.{Contents, the_lemmas}
-use Rattle.pbx_content.specs.Content.{content, text, message, many, Val, vals_of}
+use Rattle.pbx_content.specs.Content.{Content, content, text, message, many, Val, vals_of}
 use Rattle.pbx_content.specs.View.{content_of, val_of}
 use Rattle.pbx_desc.specs.Content.{entries}
 use Rattle.pbx_desc.specs.Sound.{IsOf, AreOf}
@@ -56,3 +56,15 @@ same_utf8 s t e h = rw (← e) (is_utf8-from_IsUtf8 s h)
 pub in_any_case : {X E : Type 0} (r : Result X E) (P : Type 0) → P → OnOk r P
 in_any_case (Ok x) P h = h
 in_any_case (Err e) P h = tt
+
+pub if_ok : {X E : Type 0} (P Q : X → Type 0) (r : Result X E) → ((x : X) → P x → Q x) → IfOk r P → IfOk r Q
+if_ok P Q (Ok x) f h = f x h
+if_ok P Q (Err e) f h = tt
+
+-- one message more
+pub message_pushed : (hs : List Held) (c : Contents) (x : Content) → content_of c ≡ x → map val_of (hs ++ held.Message c ∷ []) ≡ map val_of hs ++ message x ∷ []
+message_pushed hs c x e = map-append val_of hs (held.Message c ∷ []) ∙ ap (λ v. map val_of hs ++ v ∷ []) (val_of-Message c ∙ ap message e)
+
+pub are_pushed_message : (shape : Shape) (k : Kind) (hs : List Held) (c : Contents) (x : Content) → content_of c ≡ x → AreOf shape k (map val_of hs) → IsOf shape k (message x)
+    → AreOf shape k (map val_of (hs ++ held.Message c ∷ []))
+are_pushed_message shape k hs c x e before here = rw (message_pushed hs c x e) (are_pushed shape k (map val_of hs) (message x) before here)

@@ -2,3 +2,4 @@ pub mod Shape
 pub mod Content
 pub mod Unknown
 pub mod Sound
+pub mod Laws

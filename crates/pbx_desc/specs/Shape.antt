@@ -49,9 +49,9 @@ message_shape name fields = record { full_name = name; fields = fields }
 unfoldable pub descriptor_shape : Shape
 descriptor_shape = record {
   messages =
-    message_shape (codes "google.protobuf.FileDescriptorSet") set_fields
-    ∷ message_shape (codes "google.protobuf.FileDescriptorProto") file_fields
-    ∷ message_shape (codes "google.protobuf.DescriptorProto") message_fields
-    ∷ message_shape (codes "google.protobuf.FieldDescriptorProto") field_fields
-    ∷ [];
+      message_shape (codes "google.protobuf.FileDescriptorSet") set_fields
+      ∷ message_shape (codes "google.protobuf.FileDescriptorProto") file_fields
+      ∷ message_shape (codes "google.protobuf.DescriptorProto") message_fields
+      ∷ message_shape (codes "google.protobuf.FieldDescriptorProto") field_fields
+      ∷ [];
 }

@@ -4,7 +4,7 @@ ghost use Rattle.pbx_content.specs.Content.{number as number_val, text as text_v
 ghost use Rattle.pbx_content.specs.Meaning.{with_field};
 ghost use Rattle.pbx_content.specs.View.{content_of, val_of};
 ghost use Rattle.pbx_desc.specs.Shape.{descriptor_shape};
-ghost use Rattle.pbx_desc.specs.Content.{listed, entries, field_content, field_value, message_content, message_value, file_content};
+ghost use Rattle.pbx_desc.specs.Content.{listed, entries, field_content, field_value, message_content, message_value, file_content, set_content};
 ghost use Rattle.pbx_desc.specs.Sound.{IsSoundIfShort, MayBeOf, AreOf};
 
 use crate::field::FieldDescriptorProto;
@@ -12,7 +12,7 @@ use crate::file::FileDescriptorProto;
 use crate::message::DescriptorProto;
 use crate::unknown::writable;
 use pbx_content::{Contents, Field, Held};
-use pbx_wire::{List, NoMemory, Text, Texts};
+use pbx_wire::{List, NoMemory, Recs, Text, Texts};
 use std::alloc::Global;
 
 /// The fields with a value first, whose number is below theirs.
@@ -42,11 +42,7 @@ fn with_text(
     }
 }
 
-fn with_number(
-    number: u32,
-    value: Option<i32>,
-    rest: List<Field>,
-) -> Result<List<Field>, NoMemory>
+fn with_number(number: u32, value: Option<i32>, rest: List<Field>) -> Result<List<Field>, NoMemory>
     ensures fields { IfOk result (λ fields. entries fields ≡ with_field number (option_map number_val value) (entries rest)) }
     ensures sound { OnOk result (MayBeOf descriptor_shape kind.Int32 (option_map number_val value)) }
 {
@@ -56,11 +52,7 @@ fn with_number(
     }
 }
 
-fn with_list(
-    number: u32,
-    values: List<Held>,
-    rest: List<Field>,
-) -> Result<List<Field>, NoMemory>
+fn with_list(number: u32, values: List<Held>, rest: List<Field>) -> Result<List<Field>, NoMemory>
     ensures { IfOk result (λ fields. entries fields ≡ with_field number (listed (map val_of values)) (entries rest)) }
 {
     if values.is_empty() {
@@ -133,10 +125,7 @@ fn message_contents(alloc: Global, message: &DescriptorProto) -> Result<Contents
 }
 
 /// The file's content.
-pub(crate) fn file_contents(
-    alloc: Global,
-    file: &FileDescriptorProto,
-) -> Result<Contents, NoMemory>
+pub(crate) fn file_contents(alloc: Global, file: &FileDescriptorProto) -> Result<Contents, NoMemory>
     ensures content { IfOk result (λ contents. content_of contents ≡ file_content file.now) }
     ensures sound { OnOk result (IsSoundIfShort descriptor_shape 1 (file_content file.now)) }
 {
@@ -149,4 +138,13 @@ pub(crate) fn file_contents(
     let name = with_text(alloc, 1, &file.name, dependency)?;
     let kept = writable(alloc, &file.unknown, &[1, 3, 4, 12])?;
     Ok(Contents { fields: name, kept })
+}
+
+/// The content of a set of files.
+pub(crate) fn set_contents(alloc: Global, files: List<Held>) -> Result<Contents, NoMemory>
+    ensures { IfOk result (λ contents. content_of contents ≡ set_content (map val_of files)) }
+{
+    let fields = with_list(1, files, List::new(alloc))?;
+    let kept = Recs::new(alloc);
+    Ok(Contents { fields, kept })
 }

@@ -6,13 +6,20 @@
 
 mod contents;
 mod copy;
+mod encoding;
 mod field;
 mod file;
+mod laws;
 mod message;
+mod set;
 mod shape;
+#[cfg(test)]
+mod tests;
 mod unknown;
 
 pub use field::FieldDescriptorProto;
 pub use file::FileDescriptorProto;
+pub use laws::files_are_shallow;
 pub use message::DescriptorProto;
+pub use set::FileSet;
 pub use shape::descriptor_shape;

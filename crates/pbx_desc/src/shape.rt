@@ -98,7 +98,14 @@ fn field_type(alloc: Global) -> Result<List<FieldShape>, NoMemory>
     add_one(alloc, &mut fields, 3, "number", "number", Kind::Int32)?;
     add_one(alloc, &mut fields, 4, "label", "label", Kind::Int32)?;
     add_one(alloc, &mut fields, 5, "type", "type", Kind::Int32)?;
-    add_one(alloc, &mut fields, 10, "json_name", "jsonName", Kind::String)?;
+    add_one(
+        alloc,
+        &mut fields,
+        10,
+        "json_name",
+        "jsonName",
+        Kind::String,
+    )?;
     Ok(fields)
 }
 
@@ -118,7 +125,8 @@ fn add_type(
 /// 2 DescriptorProto and 3 FieldDescriptorProto. The only error is want of memory.
 #[tactic(auto, unfolding(crate::specs::Shape::descriptor_shape))]
 pub fn descriptor_shape(alloc: Global) -> Result<Shape, NoMemory>
-    ensures { IfOk result (λ shape. shape ≡ descriptor_shape_of) }
+    ensures shape { IfOk result (λ shape. shape ≡ descriptor_shape_of) }
+    ensures proper { IfOk result IsProper }
 {
     let mut messages = List::new(alloc);
     let set = set_type(alloc)?;

@@ -1,0 +1,17 @@
+use Rattle.std.proofs.Common.{◌≡◌, ℕ, List, length, subst, sym, ap, ◌^◌, ◌<◌, arith, rules}
+use Rattle.pbx_content.specs.Encoding.{encoded}
+use Rattle.pbx_content.specs.Same.{Decodes}
+use Rattle.pbx_content.specs.View.{content_of}
+use Rattle.pbx_desc.specs.Shape.{descriptor_shape}
+use Rattle.pbx_desc.proofs.Descriptors.{descriptor_shape_proper}
+use Rattle.pbx_desc.proofs.encoding.to_bytes.Goals as goal
+
+pub returns-clause-decodes : goal.returns-clause-decodes
+returns-clause-decodes c =
+    let contents = content_of c.args.contents.now in
+    let vec = c.in_ok-from_slice.field-0 in
+    let is : vec.items ≡ encoded descriptor_shape c.args.type_at contents = search rules in
+    let short : length (encoded descriptor_shape c.args.type_at contents) < 2 ^ 64 = omega (arith, ap length is, vec.ok.0, vec.ok.1, vec.small) in
+    λ sound deep.
+    subst (λ (bytes : List ℕ). Decodes descriptor_shape c.args.type_at bytes contents) (sym is)
+    (c.encoding_decodes.ensures descriptor_shape c.args.type_at contents descriptor_shape_proper (sound short) deep)

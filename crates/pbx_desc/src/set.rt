@@ -1,0 +1,70 @@
+ghost use Rattle.std.specs.Prelude.{◌≡◌, ◌≤◌, [], ◌∷◌, ◌++◌, map, IfOk, OnOk, OnErr};
+ghost use Rattle.pbx_content.specs.Encoding.{encoded};
+ghost use Rattle.pbx_content.specs.Same.{Decodes};
+ghost use Rattle.pbx_content.specs.Sound.{depth};
+ghost use Rattle.pbx_content.specs.View.{val_of};
+ghost use Rattle.pbx_desc.specs.Shape.{descriptor_shape};
+ghost use Rattle.pbx_desc.specs.Content.{file_value, set_content};
+
+use crate::contents::{file_contents, set_contents};
+use crate::encoding::to_bytes;
+use crate::file::FileDescriptorProto;
+use pbx_content::Held;
+use pbx_wire::{List, NoMemory};
+use std::alloc::Global;
+use std::marker::Model;
+
+/// The files of a `google.protobuf.FileDescriptorSet` that is to be written. Contracts see what they hold.
+#[derive(Drop)]
+pub struct FileSet {
+    files: List<Held>,
+}
+
+impl Model for FileSet {
+    ghost use Rattle.std.specs.Prelude.{List as ListOf, map};
+    ghost use Rattle.std.specs.Coded.{codes};
+    ghost use Rattle.pbx_content.specs.contracts.contents.Held as held;
+    ghost use Rattle.pbx_content.specs.declared.contents.Held.{Held};
+    ghost use Rattle.pbx_content.specs.declared.shape.Kind.TheVariants.{Message};
+    ghost use Rattle.pbx_content.specs.View.{val_of};
+    ghost use Rattle.pbx_desc.specs.Shape.{descriptor_shape};
+    ghost use Rattle.pbx_desc.specs.Sound.{AreOf};
+
+    ghost Value = { ListOf Held };
+
+    ghost coded = { Prim.hlevel (codes, held.the_row.coded) };
+
+    ghost view = { λ set. set.files };
+
+    ghost invariant = { λ set. AreOf descriptor_shape (Message 1) (map val_of set.files) };
+}
+
+impl FileSet {
+    /// No files; takes no memory.
+    pub fn new(alloc: Global) -> FileSet
+        ensures { result ≡ [] }
+    {
+        FileSet {
+            files: List::new(alloc),
+        }
+    }
+
+    /// Puts the file behind the others.
+    pub fn add(&mut self, alloc: Global, file: &FileDescriptorProto) -> Result<(), NoMemory>
+        ensures ok { OnOk result (map val_of self.new ≡ map val_of self.old ++ file_value file.now ∷ []) }
+        ensures err { OnErr result (self.new ≡ self.old) }
+    {
+        let contents = file_contents(alloc, file)?;
+        self.files.add(Held::Message(contents))?;
+        Ok(())
+    }
+
+    /// The canonical encoding of the set. The only error is want of memory.
+    pub fn encode(self, alloc: Global) -> Result<Vec<u8>, NoMemory>
+        ensures bytes { IfOk result (λ v. v.items ≡ encoded descriptor_shape 0 (set_content (map val_of self))) }
+        ensures decodes { IfOk result (λ v. depth (set_content (map val_of self)) ≤ 100 → Decodes descriptor_shape 0 v.items (set_content (map val_of self))) }
+    {
+        let contents = set_contents(alloc, self.files)?;
+        to_bytes(alloc, 0, &contents)
+    }
+}
