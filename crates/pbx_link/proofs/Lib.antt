@@ -6,3 +6,4 @@ pub mod LookedUp
 pub mod Inserted
 pub mod Proper
 pub mod Behind
+pub mod Shallow

@@ -1,14 +1,15 @@
 -- A pool with one more record: linking changes nothing that a rule looks at.
-use Rattle.std.proofs.Common.{◌≡◌, ◌∙◌, ℕ, ◌+◌, ◌&&◌, ◌||◌, ◌==◌, not, List, [], ◌∷◌, ◌++◌, map, take, Bool, true, false, append_assoc, append-nil, refl, ap, sym, subst, if◌then◌else◌, pos}
-use Rattle.std.specs.List.{list_any, flat_map, enumerate_from}
+use Rattle.std.proofs.Common.{◌≡◌, ◌∙◌, ℕ, ◌+◌, ◌&&◌, ◌||◌, ◌==◌, not, List, [], ◌∷◌, ◌++◌, map, take, Bool, true, false, append_assoc, append-nil, refl, ap, sym, subst, if◌then◌else◌, pos, codes}
+use Rattle.std.specs.List.{list_any, list_all, flat_map, enumerate_from}
+use Rattle.std.proofs.lemmas.List.Folds.{list_all-append}
 use Rattle.pbx_desc.specs.declared.field.FieldDescriptorProto.{FieldDescriptorProto}
 use Rattle.pbx_desc.specs.declared.message.DescriptorProto.{DescriptorProto}
 use Rattle.pbx_desc.specs.declared.file.FileDescriptorProto.{FileDescriptorProto}
 use Rattle.pbx_link.specs.Shapes.{text_or_empty, number_or_zero}
 use Rattle.pbx_link.specs.Linked.{linked, linked_field, linked_message}
-use Rattle.pbx_link.specs.Built.{is_built}
-use Rattle.pbx_link.specs.Rules.{Place, among, is_ident, is_field_number, field_names, field_numbers, message_names, pool_names, places_where, in_messages, file_twice, missing_imports, bad_file_name, bad_names_in, bad_names, names_twice_in, names_twice, bad_numbers_in, bad_numbers, is_none, keeps_rules}
-use Rattle.pbx_link.specs.Pool.{is_linkable, ArePooled}
+use Rattle.pbx_link.specs.Built.{is_known, is_built_field, is_built_message, is_built}
+use Rattle.pbx_link.specs.Rules.{Place, is_named, among, is_ident, is_field_number, field_names, field_numbers, message_names, pool_names, places_where, in_messages, file_twice, missing_imports, bad_file_name, bad_names_in, bad_names, names_twice_in, names_twice, bad_numbers_in, bad_numbers, is_none, keeps_rules}
+use Rattle.pbx_link.specs.Pool.{is_linkable, is_all_known, ArePooled, IsPool}
 
 -- ---- a linked record is linked
 
@@ -71,9 +72,43 @@ same_rules files f =
     ∙ ap (λ ps. is_none (file_twice files f.name) && (is_none (missing_imports files f) && (is_none (bad_names f) && (is_none ps && (is_none (bad_numbers (linked f)) && true))))) (same_names_twice files f)
     ∙ ap (λ ps. is_none (file_twice files f.name) && (is_none (missing_imports files f) && (is_none (bad_names f) && (is_none (names_twice files f) && (is_none ps && true))))) (same_bad_numbers f)
 
+-- ---- no record is unknown in what is built
+
+second : (a b : Bool) → (a && b) ≡ true → b ≡ true
+second true b h = h
+second false b h = absurd (cc)
+
+first : (a b : Bool) → (a && b) ≡ true → a ≡ true
+first true b h = refl
+first false b h = absurd (cc)
+
+also : (a b : Bool) → a ≡ true → b ≡ true → (a && b) ≡ true
+also true true h k = refl
+also true false h k = absurd (cc)
+also false b h k = absurd (cc)
+
+known_fields : (fs : List FieldDescriptorProto) → list_all is_built_field fs ≡ true → list_all (λ g. is_known g.unknown) (map linked_field fs) ≡ true
+known_fields [] h = refl
+known_fields (f ∷ fs) h =
+    also (is_known f.unknown) (list_all (λ g. is_known g.unknown) (map linked_field fs)) (second _ (is_known f.unknown) (first (is_built_field f) _ h)) (known_fields fs (second (is_built_field f) _ h))
+
+known_messages : (ms : List DescriptorProto) → list_all is_built_message ms ≡ true
+    → list_all (λ m. is_known m.unknown && list_all (λ g. is_known g.unknown) m.field) (map linked_message ms) ≡ true
+known_messages [] h = refl
+known_messages (m ∷ ms) h =
+    let own = first (is_built_message m) _ h in
+    also (is_known m.unknown && list_all (λ g. is_known g.unknown) (map linked_field m.field)) _
+    (also (is_known m.unknown) _ (second (list_all is_built_field m.field) _ own) (known_fields m.field (first (list_all is_built_field m.field) _ own)))
+    (known_messages ms (second (is_built_message m) _ h))
+
+known_file : (f : FileDescriptorProto) → is_built f ≡ true → is_all_known (linked f) ≡ true
+known_file f h =
+    also (is_known f.unknown) _ (second _ (is_known f.unknown) h)
+    (known_messages f.message_type (second (is_named f.syntax (codes "proto3")) _ (first _ (is_known f.unknown) h)))
+
 -- ---- pools
 
-pub pooled_none : (before : List FileDescriptorProto) → ArePooled before []
+pooled_none : (before : List FileDescriptorProto) → ArePooled before []
 unfolding ArePooled
 pooled_none before = tt
 
@@ -83,9 +118,11 @@ pooled_push before [] f h k l = (ap (λ all. keeps_rules all f) (sym (append-nil
 pooled_push before (g ∷ fs) f h k l =
     (h.0, h.1, pooled_push (before ++ g ∷ []) fs f h.2 (ap (λ all. keeps_rules all f) (append_assoc before (g ∷ []) fs) ∙ k) l)
 
-second : (a b : Bool) → (a && b) ≡ true → b ≡ true
-second true b h = h
-second false b h = absurd (cc)
+pub pool_none : IsPool []
+pool_none = record { pooled = pooled_none []; known = refl }
 
-pub pooled_more : (files : List FileDescriptorProto) (f : FileDescriptorProto) → ArePooled [] files → is_linkable files f ≡ true → ArePooled [] (files ++ linked f ∷ [])
-pooled_more files f h k = pooled_push [] files (linked f) h (same_rules files f ∙ second (is_built f) _ k) (linked_again f)
+pub pool_more : (files : List FileDescriptorProto) (f : FileDescriptorProto) → IsPool files → is_linkable files f ≡ true → IsPool (files ++ linked f ∷ [])
+pool_more files f h k = record {
+  pooled = pooled_push [] files (linked f) h.pooled (same_rules files f ∙ second (is_built f) _ k) (linked_again f);
+  known = list_all-append is_all_known files (linked f ∷ []) ∙ also _ (is_all_known (linked f) && true) h.known (also (is_all_known (linked f)) true (known_file f (first (is_built f) _ k)) refl);
+}

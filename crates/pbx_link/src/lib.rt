@@ -5,6 +5,7 @@ mod absent;
 mod built;
 mod check;
 mod descriptors;
+mod encoding;
 mod error;
 mod laws;
 mod linked;

@@ -1,7 +1,8 @@
 ghost use Rattle.std.specs.Prelude.{◌≡◌, ◌↔◌, [], ◌∷◌, ◌++◌, true, length, map, slice_get, IfOk, OnOk, IfErr, OnErr, IsTrue};
+ghost use Rattle.std.specs.List.{list_all};
 ghost use Rattle.std.specs.Option.{option_copied};
 ghost use Rattle.pbx_link.specs.Linked.{linked as linked_of};
-ghost use Rattle.pbx_link.specs.Pool.{is_linkable, ArePooled, IsRefused};
+ghost use Rattle.pbx_link.specs.Pool.{is_linkable, is_all_known, ArePooled, IsRefused};
 
 use crate::check::check;
 use crate::error::DescriptorError;
@@ -27,7 +28,7 @@ impl Model for DescriptorPool {
     ghost use Rattle.pbx_desc.specs.declared.file.FileDescriptorProto.{FileDescriptorProto};
     ghost use Rattle.pbx_desc.specs.contracts.file.FileDescriptorProto as proto;
     ghost use Rattle.std.specs.Coded.{coded_list};
-    ghost use Rattle.pbx_link.specs.Pool.{held, ArePooled};
+    ghost use Rattle.pbx_link.specs.Pool.{held, IsPool};
 
     ghost Value = { List FileDescriptorProto };
 
@@ -35,7 +36,7 @@ impl Model for DescriptorPool {
 
     ghost view = { λ p. held p.files };
 
-    ghost invariant = { λ p. ArePooled [] (held p.files) };
+    ghost invariant = { λ p. IsPool (held p.files) };
 }
 
 impl DescriptorPool {
@@ -60,9 +61,14 @@ impl DescriptorPool {
         }
     }
 
+    pub(crate) fn allocator(&self) -> Global {
+        self.alloc
+    }
+
     pub(crate) fn records(&self) -> &[Shared<FileDescriptorProto>]
         ensures records { result.now ≡ self.now }
         ensures pooled { ArePooled [] self.now }
+        ensures known { list_all is_all_known self.now ≡ true }
     {
         match &self.files {
             Some(files) => files.as_ref().as_slice(),
