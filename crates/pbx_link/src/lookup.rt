@@ -19,7 +19,9 @@ fn file_named<'a>(
 ) -> Option<&'a Shared<FileDescriptorProto>>
     ensures { option_copied result ≡ find (λ f. is_named_of f.name name.now) files.now }
 {
-    files.iter().find(|file| is_named(&file.as_ref().name, name))
+    files
+        .iter()
+        .find(|file| is_named(&file.as_ref().name, name))
 }
 
 fn index_named(messages: &[DescriptorProto], name: &str) -> Option<usize>

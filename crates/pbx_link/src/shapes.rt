@@ -104,11 +104,7 @@ pub fn shape_of(alloc: Global, pool: &DescriptorPool) -> Result<Shape, NoMemory>
 {
     let mut messages = List::new(alloc);
     for file in pool.records() {
-        add_messages(
-            alloc,
-            &mut messages,
-            file.as_ref().message_type.as_slice(),
-        )?;
+        add_messages(alloc, &mut messages, file.as_ref().message_type.as_slice())?;
     }
     Ok(Shape { messages })
 }
