@@ -1,2 +1,9 @@
+pub mod Camel
+pub mod Searched
+pub mod Seen
+pub mod Pooled
+pub mod LookedUp
 pub mod Inserted
-pub mod Distinct
+pub mod Proper
+pub mod Behind
+pub mod Shallow

@@ -1,12 +1,13 @@
 -- A pool: linked records, each among those before it; and why a record is not added.
-use Rattle.std.specs.Prelude.{◌≡◌, ◌<◌, ◌&&◌, ℕ, List, [], ◌∷◌, ◌++◌, Bool, true, false, Contains}
+use Rattle.std.specs.Prelude.{◌≡◌, ◌<◌, ◌&&◌, ℕ, List, [], ◌∷◌, ◌++◌, Bool, true, false, Option, Some, None, Contains}
+use Rattle.std.specs.List.{list_all}
 use Rattle.pbx_desc.specs.declared.file.FileDescriptorProto.{FileDescriptorProto}
 use Rattle.pbx_link.specs.declared.error.DescriptorError.{DescriptorError}
 use Rattle.pbx_link.specs.declared.error.DescriptorError.TheVariants.{Rule, Decode, NoMemory, NotBuilt}
 use Rattle.pbx_link.specs.Shapes.{text_or_empty}
 use Rattle.pbx_link.specs.Linked.{linked}
 use Rattle.pbx_link.specs.Rules.{Place, breaches, keeps_rules}
-use Rattle.pbx_link.specs.Built.{is_built}
+use Rattle.pbx_link.specs.Built.{is_built, is_known}
 
 -- the record may be added to the files
 abbrev pub is_linkable : List FileDescriptorProto → FileDescriptorProto → Bool
@@ -16,6 +17,15 @@ is_linkable files f = is_built f && keeps_rules files f
 unfoldable pub ArePooled : List FileDescriptorProto → List FileDescriptorProto → Type 0
 ArePooled before [] = Unit {0}
 ArePooled before (f ∷ fs) = (keeps_rules before f ≡ true) × (linked f ≡ f) × ArePooled (before ++ f ∷ []) fs
+
+-- no record is unknown in the file, its messages and their fields
+abbrev pub is_all_known : FileDescriptorProto → Bool
+is_all_known f = is_known f.unknown && list_all (λ m. is_known m.unknown && list_all (λ g. is_known g.unknown) m.field) f.message_type
+
+-- what a pool keeps: its records are pooled, and so far none in them is unknown
+pub record IsPool (files : List FileDescriptorProto) : Type 0 where
+  pub pooled : ArePooled [] files
+  pub known : list_all is_all_known files ≡ true
 
 -- the rule is broken at this place, and no lesser rule is broken
 pub record BreaksFirst (files : List FileDescriptorProto) (f : FileDescriptorProto) (rule : ℕ) (place : Place) : Type 0 where
@@ -28,3 +38,11 @@ IsRefused files f (Rule file place rule) = (file ≡ text_or_empty f.name) × (i
 IsRefused files f (Decode error) = ⊥
 IsRefused files f NoMemory = Unit {0}
 IsRefused files f (NotBuilt file) = (file ≡ text_or_empty f.name) × (is_built f ≡ false)
+
+abbrev pub out_of_memory : DescriptorError
+out_of_memory = NoMemory
+
+-- the records of a pool that has some, or none
+abbrev pub held : Option (List FileDescriptorProto) → List FileDescriptorProto
+held None = []
+held (Some files) = files

@@ -1,4 +1,7 @@
-use pbx_wire::{DecodeError, List, Text};
+ghost use Rattle.std.specs.Prelude.{◌≡◌};
+ghost use Rattle.pbx_link.specs.Pool.{out_of_memory};
+
+use pbx_wire::{DecodeError, List, NoMemory, Text};
 
 /// Why a file is not added to a pool.
 #[derive(Debug, Drop)]
@@ -21,4 +24,12 @@ pub enum DescriptorError {
         /// The name of the file.
         file: Text,
     },
+}
+
+impl From<NoMemory> for DescriptorError {
+    ghost from_gives = { λ _ e. e ≡ out_of_memory };
+
+    fn from(_refused: NoMemory) -> DescriptorError {
+        DescriptorError::NoMemory
+    }
 }

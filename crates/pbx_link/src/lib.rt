@@ -1,12 +1,27 @@
 //! Linking: what the records of files declare together.
-//!
-//! So far this is the shape of the types of one file record, and the rules on its names and numbers.
 #![tactic(auto)]
 
+mod absent;
+mod built;
+mod check;
+mod descriptors;
+mod encoding;
 mod error;
+mod laws;
+mod linked;
+mod lookup;
+mod places;
+mod pool;
+mod pool_files;
+mod records;
 mod rules;
 mod shapes;
+#[cfg(test)]
+mod tests;
 
+pub use descriptors::{FileDescriptor, MessageDescriptor};
 pub use error::DescriptorError;
-pub use rules::{find_message, keeps_rules};
-pub use shapes::shape_of;
+pub use laws::{linked_is_linked, pooled_stand_behind};
+pub use pool::DescriptorPool;
+pub use pool_files::PoolFiles;
+pub use shapes::{find_message, shape_of};

@@ -1,27 +1,19 @@
-ghost use Rattle.std.specs.Prelude.{◌≡◌, ◌≤◌, IfOk, OnOk, length};
-ghost use Rattle.pbx_link.specs.Shapes.{text_or_empty as text_or_empty_of, number_or_zero as number_or_zero_of, kind_of as kind_of_number_of, cardinality_of as cardinality_of_label, field_shape as field_shape_of, inserted, message_shape as message_shape_of, shape_of as shape_of_file, IsPlace};
+// The shape of the types of a pool.
+ghost use Rattle.std.specs.Prelude.{◌≡◌, ◌≤◌, ◌++◌, IfOk, OnOk, length, map};
+ghost use Rattle.pbx_content.specs.Sound.{IsProper};
+ghost use Rattle.pbx_link.specs.Shapes.{text_or_empty as text_or_empty_of, kind_of as kind_of_number_of, cardinality_of as cardinality_of_label, field_shape as field_shape_of, inserted, message_shape as message_shape_of, shape_of as shape_of_files, message_named, IsPlace};
 
+use crate::absent::{number_or_zero, text_or_empty};
+use crate::pool::DescriptorPool;
 use pbx_content::{Cardinality, FieldShape, Kind, MessageShape, Shape};
-use pbx_desc::{DescriptorProto, FieldDescriptorProto, FileDescriptorProto};
+use pbx_desc::{DescriptorProto, FieldDescriptorProto};
 use pbx_wire::{List, NoMemory, Text};
 use std::alloc::Global;
 
-fn text_or_empty(alloc: Global, text: &Option<Text>) -> Result<Text, NoMemory>
+fn text_copy(alloc: Global, text: &Option<Text>) -> Result<Text, NoMemory>
     ensures { IfOk result (λ copy. copy ≡ text_or_empty_of text.now) }
 {
-    match text {
-        Some(text) => text.copy(alloc),
-        None => Text::from_str(alloc, ""),
-    }
-}
-
-fn number_or_zero(number: Option<i32>) -> u32
-    ensures { result ≡ number_or_zero_of number }
-{
-    match number {
-        Some(number) if number > 0 => number as u32,
-        _ => 0,
-    }
+    Text::from_str(alloc, text_or_empty(text))
 }
 
 fn kind_of(number: Option<i32>) -> Kind
@@ -49,8 +41,8 @@ fn field_shape(alloc: Global, field: &FieldDescriptorProto) -> Result<FieldShape
 {
     Ok(FieldShape {
         number: number_or_zero(field.number),
-        name: text_or_empty(alloc, &field.name)?,
-        json_name: text_or_empty(alloc, &field.name)?,
+        name: text_copy(alloc, &field.name)?,
+        json_name: text_copy(alloc, &field.json_name)?,
         kind: kind_of(field.kind),
         cardinality: cardinality_of(field.label),
         presence: false,
@@ -84,7 +76,7 @@ fn insert(fields: &mut List<FieldShape>, field: FieldShape) -> Result<(), NoMemo
 fn message_shape(alloc: Global, message: &DescriptorProto) -> Result<MessageShape, NoMemory>
     ensures { IfOk result (λ shape. shape ≡ message_shape_of message.now) }
 {
-    let full_name = text_or_empty(alloc, &message.name)?;
+    let full_name = text_copy(alloc, &message.name)?;
     let mut fields = List::new(alloc);
     for field in message.field.as_slice() {
         insert(&mut fields, field_shape(alloc, field)?)?;
@@ -92,13 +84,38 @@ fn message_shape(alloc: Global, message: &DescriptorProto) -> Result<MessageShap
     Ok(MessageShape { full_name, fields })
 }
 
-/// The shape of the types that a file record declares.
-pub fn shape_of(alloc: Global, file: &FileDescriptorProto) -> Result<Shape, NoMemory>
-    ensures { IfOk result (λ shape. shape ≡ shape_of_file file.now) }
+fn add_messages(
+    alloc: Global,
+    messages: &mut List<MessageShape>,
+    more: &[DescriptorProto],
+) -> Result<(), NoMemory>
+    ensures { OnOk result (messages.new ≡ messages.old ++ map message_shape_of more.now) }
 {
-    let mut messages = List::new(alloc);
-    for message in file.message_type.as_slice() {
+    for message in more {
         messages.add(message_shape(alloc, message)?)?;
     }
+    Ok(())
+}
+
+/// The shape of the types of a pool: its messages, file by file. The only error is want of memory.
+pub fn shape_of(alloc: Global, pool: &DescriptorPool) -> Result<Shape, NoMemory>
+    ensures shape { IfOk result (λ shape. shape ≡ shape_of_files pool.now) }
+    ensures proper { IfOk result IsProper }
+{
+    let mut messages = List::new(alloc);
+    for file in pool.records() {
+        add_messages(alloc, &mut messages, file.as_ref().message_type.as_slice())?;
+    }
     Ok(Shape { messages })
+}
+
+/// The place of the message of exactly that full name, without a leading dot.
+pub fn find_message(shape: &Shape, full_name: &str) -> Option<usize>
+    ensures { result ≡ message_named full_name.now shape.now }
+{
+    shape
+        .messages
+        .as_slice()
+        .iter()
+        .position(|message| message.full_name.as_str() == full_name)
 }

@@ -1,0 +1,7 @@
+use Rattle.std.proofs.Common.{◌≡◌, map, take}
+use Rattle.pbx_content.specs.View.{val_of}
+use Rattle.pbx_desc.specs.Content.{file_value}
+use Rattle.pbx_link.proofs.encoding.file_set.Given as goal
+
+abbrev pub invariant-loop-file : goal.invariant-loop-file
+invariant-loop-file l = map val_of l.set ≡ map file_value (take l.file-index l.files)

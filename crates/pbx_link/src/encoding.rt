@@ -1,0 +1,36 @@
+// The set of the files of a pool, as bytes.
+ghost use Rattle.std.specs.Prelude.{◌≡◌, IfOk, map};
+ghost use Rattle.pbx_content.specs.Encoding.{encoded};
+ghost use Rattle.pbx_content.specs.Same.{Decodes};
+ghost use Rattle.pbx_content.specs.View.{val_of};
+ghost use Rattle.pbx_desc.specs.Shape.{descriptor_shape};
+ghost use Rattle.pbx_desc.specs.Content.{file_value, files_content};
+
+use crate::pool::DescriptorPool;
+use pbx_desc::{FileDescriptorProto, FileSet, files_are_shallow};
+use pbx_shared::Shared;
+use pbx_wire::NoMemory;
+use std::alloc::Global;
+
+fn file_set(alloc: Global, files: &[Shared<FileDescriptorProto>]) -> Result<FileSet, NoMemory>
+    ensures { IfOk result (λ set. map val_of set ≡ map file_value files.now) }
+{
+    let mut set = FileSet::new(alloc);
+    for file in files {
+        set.add(alloc, file.as_ref())?;
+    }
+    Ok(set)
+}
+
+impl DescriptorPool {
+    /// The canonical encoding of the set of all files. The only error is want of memory.
+    pub fn encode_to_vec(&self) -> Result<Vec<u8>, NoMemory>
+        ensures bytes { IfOk result (λ v. v.items ≡ encoded descriptor_shape 0 (files_content self.now)) }
+        ensures decodes { IfOk result (λ v. Decodes descriptor_shape 0 v.items (files_content self.now)) }
+    {
+        files_are_shallow();
+        let alloc = self.allocator();
+        let set = file_set(alloc, self.records())?;
+        set.encode(alloc)
+    }
+}

@@ -1,0 +1,407 @@
+//! That calls succeed with ample memory, and what they answer. Expected values follow the language guide ("Importing Definitions",
+//! "Assigning Field Numbers"), "ProtoJSON Format", and "Encoding" with the numbers of `descriptor.proto`.
+
+use crate::{
+    DescriptorError, DescriptorPool, find_message, linked_is_linked, pooled_stand_behind, shape_of,
+};
+use pbx_desc::{DescriptorProto, FieldDescriptorProto, FileDescriptorProto};
+use pbx_wire::{NoMemory, Rec, Text};
+use std::alloc::Global;
+use std::process::Abort;
+use std::test::Fail;
+
+/// A field's name and number.
+type FieldRow<'a> = (&'a str, Option<i32>);
+
+/// A message's name and fields.
+type MessageRow<'a> = (&'a str, &'a [FieldRow<'a>]);
+
+fn text(alloc: Global, text: &str) -> Result<Option<Text>, NoMemory> {
+    Ok(Some(Text::from_str(alloc, text)?))
+}
+
+/// An optional `int32`.
+fn field(alloc: Global, row: FieldRow<'_>) -> Result<FieldDescriptorProto, NoMemory> {
+    let mut field = FieldDescriptorProto::new(alloc);
+    field.name = text(alloc, row.0)?;
+    field.number = row.1;
+    field.label = Some(1);
+    field.kind = Some(5);
+    Ok(field)
+}
+
+fn message(alloc: Global, row: MessageRow<'_>) -> Result<DescriptorProto, NoMemory> {
+    let mut message = DescriptorProto::new(alloc);
+    message.name = text(alloc, row.0)?;
+    for one in row.1 {
+        message.field.add(field(alloc, *one)?)?;
+    }
+    Ok(message)
+}
+
+/// A file of proto3.
+fn file(
+    alloc: Global,
+    name: &str,
+    messages: &[MessageRow<'_>],
+) -> Result<FileDescriptorProto, NoMemory> {
+    let mut file = FileDescriptorProto::new(alloc);
+    file.name = text(alloc, name)?;
+    file.syntax = text(alloc, "proto3")?;
+    for row in messages {
+        file.message_type.add(message(alloc, *row)?)?;
+    }
+    Ok(file)
+}
+
+fn import(file: &mut FileDescriptorProto, alloc: Global, names: &[&str]) -> Result<(), NoMemory> {
+    for name in names {
+        file.dependency.add(Text::from_str(alloc, name)?)?;
+    }
+    Ok(())
+}
+
+/// The pool of `a.proto` with the message `A`.
+fn pool(alloc: Global) -> Result<DescriptorPool, DescriptorError> {
+    let mut pool = DescriptorPool::new(alloc)?;
+    let rows: [MessageRow<'_>; 1] = [("A", &[("x", Some(1))])];
+    pool.add_file_descriptor_proto(file(alloc, "a.proto", &rows)?)?;
+    Ok(pool)
+}
+
+/// That the pool of `a.proto` refuses the file by the rule at the place, and stays as it was.
+fn expect_rule(
+    rt: &impl Abort,
+    alloc: Global,
+    file: FileDescriptorProto,
+    rule: u8,
+    place: &[i32],
+) -> Result<(), DescriptorError> {
+    let mut pool = pool(alloc)?;
+    match pool.add_file_descriptor_proto(file) {
+        Err(
+            DescriptorError::Rule {
+                file: _,
+                place: told,
+                rule: by,
+            },
+        ) => {
+            assert_eq!(rt; by, rule);
+            assert_eq!(rt; told.as_slice(), place);
+        }
+        _ => assert!(rt; false),
+    }
+    assert_eq!(rt; pool.len(), 1);
+    Ok(())
+}
+
+/// A file's name, its imports, its messages, and the rule that refuses it with its place.
+type Refused<'a> = (&'a str, &'a [&'a str], &'a [MessageRow<'a>], u8, &'a [i32]);
+
+fn refuse(rt: &impl Abort, alloc: Global, rows: &[Refused<'_>]) -> Result<(), DescriptorError> {
+    for row in rows {
+        let mut file = file(alloc, row.0, row.2)?;
+        import(&mut file, alloc, row.1)?;
+        expect_rule(rt, alloc, file, row.3, row.4)?;
+    }
+    Ok(())
+}
+
+#[test]
+fn rules_are_told_at_their_places(rt: HostRuntime) -> Result<(), Fail> {
+    let good: FieldRow<'_> = ("x", Some(1));
+    let rows: [Refused<'_>; 13] = [
+        ("a.proto", &[], &[], 1, &[1]),
+        ("b.proto", &["a.proto", "c.proto"], &[], 2, &[3, 1]),
+        ("b.proto", &["b.proto"], &[], 2, &[3, 0]),
+        ("b.proto", &[], &[("", &[])], 4, &[4, 0, 1]),
+        ("b.proto", &[], &[("B", &[]), ("1C", &[])], 4, &[4, 1, 1]),
+        (
+            "b.proto",
+            &[],
+            &[("B", &[good, ("y.z", Some(2))])],
+            4,
+            &[4, 0, 2, 1, 1],
+        ),
+        ("b.proto", &[], &[("B", &[]), ("A", &[])], 5, &[4, 1, 1]),
+        (
+            "b.proto",
+            &[],
+            &[("B", &[]), ("C", &[]), ("B", &[])],
+            5,
+            &[4, 2, 1],
+        ),
+        (
+            "b.proto",
+            &[],
+            &[("B", &[good, ("y", Some(2)), ("x", Some(3))])],
+            5,
+            &[4, 0, 2, 2, 1],
+        ),
+        (
+            "b.proto",
+            &[],
+            &[("B", &[good]), ("C", &[("x", Some(0))])],
+            6,
+            &[4, 1, 2, 0, 3],
+        ),
+        (
+            "b.proto",
+            &[],
+            &[("B", &[good, ("y", Some(2)), ("z", Some(1))])],
+            6,
+            &[4, 0, 2, 2, 3],
+        ),
+        (
+            "b.proto",
+            &[],
+            &[("B", &[("x", None)])],
+            6,
+            &[4, 0, 2, 0, 3],
+        ),
+        (
+            "b.proto",
+            &[],
+            &[("B", &[("x", Some(-1))])],
+            6,
+            &[4, 0, 2, 0, 3],
+        ),
+    ];
+    refuse(&rt, rt.alloc(), &rows)?;
+    let mut nameless = file(rt.alloc(), "", &[])?;
+    nameless.name = None;
+    expect_rule(&rt, rt.alloc(), nameless, 4, &[1])?;
+    Ok(())
+}
+
+#[test]
+fn the_least_rule_is_told(rt: HostRuntime) -> Result<(), Fail> {
+    let twice: FieldRow<'_> = ("x", Some(1));
+    let rows: [Refused<'_>; 4] = [
+        ("a.proto", &["c.proto"], &[], 1, &[1]),
+        ("b.proto", &["c.proto"], &[("1B", &[])], 2, &[3, 0]),
+        ("b.proto", &[], &[("A", &[]), ("1B", &[])], 4, &[4, 1, 1]),
+        (
+            "b.proto",
+            &[],
+            &[("B", &[twice, twice])],
+            5,
+            &[4, 0, 2, 1, 1],
+        ),
+    ];
+    refuse(&rt, rt.alloc(), &rows)?;
+    Ok(())
+}
+
+/// That the file is refused as not built.
+fn expect_not_built(
+    rt: &impl Abort,
+    alloc: Global,
+    file: FileDescriptorProto,
+) -> Result<(), DescriptorError> {
+    let mut pool = pool(alloc)?;
+    match pool.add_file_descriptor_proto(file) {
+        Err(DescriptorError::NotBuilt { file }) => assert_eq!(rt; file.as_str(), "a.proto"),
+        _ => assert!(rt; false),
+    }
+    assert_eq!(rt; pool.len(), 1);
+    Ok(())
+}
+
+/// The file `a.proto` with one message of one field.
+fn with_field(alloc: Global, one: FieldDescriptorProto) -> Result<FileDescriptorProto, NoMemory> {
+    let mut file = file(alloc, "a.proto", &[])?;
+    let mut message = message(alloc, ("M", &[]))?;
+    message.field.add(one)?;
+    file.message_type.add(message)?;
+    Ok(file)
+}
+
+// Each of these also breaks rule 1.
+#[test]
+fn what_is_not_built_is_told_first(rt: HostRuntime) -> Result<(), Fail> {
+    let alloc = rt.alloc();
+    let mut old = file(alloc, "a.proto", &[])?;
+    old.syntax = None;
+    expect_not_built(&rt, alloc, old)?;
+    let mut unknown = file(alloc, "a.proto", &[])?;
+    unknown.unknown.add(Rec::Varint(99, 1))?;
+    expect_not_built(&rt, alloc, unknown)?;
+    let mut repeated = field(alloc, ("x", Some(1)))?;
+    repeated.label = Some(3);
+    expect_not_built(&rt, alloc, with_field(alloc, repeated)?)?;
+    let mut float = field(alloc, ("x", Some(1)))?;
+    float.kind = Some(2);
+    expect_not_built(&rt, alloc, with_field(alloc, float)?)?;
+    let mut renamed = field(alloc, ("x_y", Some(1)))?;
+    renamed.json_name = text(alloc, "xY")?;
+    expect_not_built(&rt, alloc, with_field(alloc, renamed)?)?;
+    Ok(())
+}
+
+#[test]
+fn numbers_have_their_borders(rt: HostRuntime) -> Result<(), Fail> {
+    let rows = [
+        (0, false),
+        (1, true),
+        (18999, true),
+        (19000, false),
+        (19999, false),
+        (20000, true),
+        (536870911, true),
+        (536870912, false),
+    ];
+    for (number, fits) in rows {
+        let mut pool = DescriptorPool::new(rt.alloc())?;
+        let one = field(rt.alloc(), ("x", Some(number)))?;
+        let added = pool.add_file_descriptor_proto(with_field(rt.alloc(), one)?);
+        assert_eq!(rt; added.is_ok(), fits);
+    }
+    Ok(())
+}
+
+/// The JSON name of the first field of the first message of the pool's first file.
+fn json_name(pool: &DescriptorPool) -> Option<&str> {
+    let message = pool.file_at(0)?.message_type.as_slice().first()?;
+    let field = message.field.as_slice().first()?;
+    match &field.json_name {
+        Some(name) => Some(name.as_str()),
+        None => None,
+    }
+}
+
+#[test]
+fn fields_get_their_json_names(rt: HostRuntime) -> Result<(), Fail> {
+    let rows = [
+        ("foo_bar", "fooBar"),
+        ("foo__bar", "fooBar"),
+        ("foo_1a", "foo1a"),
+        ("_foo", "Foo"),
+        ("foo_", "foo"),
+        ("fooBar", "fooBar"),
+        ("FOO_BAR", "FOOBAR"),
+    ];
+    for (name, want) in rows {
+        let mut pool = DescriptorPool::new(rt.alloc())?;
+        let one = field(rt.alloc(), (name, Some(1)))?;
+        pool.add_file_descriptor_proto(with_field(rt.alloc(), one)?)?;
+        assert_eq!(rt; json_name(&pool).ok_or("no field")?, want);
+    }
+    let mut pool = DescriptorPool::new(rt.alloc())?;
+    let mut own = field(rt.alloc(), ("foo_bar", Some(1)))?;
+    own.json_name = text(rt.alloc(), "foo_bar")?;
+    pool.add_file_descriptor_proto(with_field(rt.alloc(), own)?)?;
+    assert_eq!(rt; json_name(&pool).ok_or("no field")?, "foo_bar");
+    Ok(())
+}
+
+#[test]
+fn a_copy_stays_as_it_is(rt: HostRuntime) -> Result<(), Fail> {
+    let alloc = rt.alloc();
+    let empty = DescriptorPool::new(alloc)?;
+    assert!(rt; empty.is_empty());
+    let mut pool = pool(alloc)?;
+    let before = pool.copy();
+    let mut second = file(alloc, "b.proto", &[("B", &[])])?;
+    import(&mut second, alloc, &["a.proto"])?;
+    pool.add_file_descriptor_proto(second)?;
+    pool.add_file_descriptor_proto(file(alloc, "c.proto", &[])?)?;
+    assert_eq!(rt; pool.len(), 3);
+    assert_eq!(rt; before.len(), 1);
+    assert!(rt; before.get_file_by_name("b.proto").is_none());
+    assert!(rt; pool.get_file_by_name("b.proto").is_some());
+    assert!(rt; pool.file_at(2).is_some());
+    assert!(rt; pool.file_at(3).is_none());
+    Ok(())
+}
+
+#[test]
+fn messages_are_found_by_their_exact_names(rt: HostRuntime) -> Result<(), Fail> {
+    let mut pool = pool(rt.alloc())?;
+    let rows: [MessageRow<'_>; 2] = [("B", &[]), ("Bb", &[])];
+    pool.add_file_descriptor_proto(file(rt.alloc(), "b.proto", &rows)?)?;
+    let found = [("A", "a.proto"), ("B", "b.proto"), ("Bb", "b.proto")];
+    for (name, declared) in found {
+        let message = pool.get_message_by_name(name).ok_or("not found")?;
+        assert_eq!(rt; message.name(), name);
+        assert_eq!(rt; message.full_name(), name);
+        assert_eq!(rt; message.parent_file().name(), declared);
+        assert_eq!(rt; message.parent_pool().len(), 2);
+    }
+    for name in [".A", "a", "AA", ""] {
+        assert!(rt; pool.get_message_by_name(name).is_none());
+    }
+    for name in ["A.proto", "a.prot", "./a.proto", ""] {
+        assert!(rt; pool.get_file_by_name(name).is_none());
+    }
+    Ok(())
+}
+
+#[test]
+fn files_come_in_order(rt: HostRuntime) -> Result<(), Fail> {
+    linked_is_linked();
+    pooled_stand_behind();
+    let mut pool = pool(rt.alloc())?;
+    pool.add_file_descriptor_proto(file(rt.alloc(), "b.proto", &[])?)?;
+    assert_eq!(rt; pool.files().len(), 2);
+    let mut names = Vec::new(rt.alloc());
+    for file in pool.files() {
+        let record = file.file_descriptor_proto(rt.alloc())?;
+        assert_eq!(rt; record.name.is_some(), true);
+        assert_eq!(rt; file.parent_pool().len(), 2);
+        names.push(Text::from_str(rt.alloc(), file.name())?)?;
+    }
+    assert_eq!(rt; names.len(), 2);
+    assert_eq!(rt; names[0].as_str(), "a.proto");
+    assert_eq!(rt; names[1].as_str(), "b.proto");
+    Ok(())
+}
+
+#[test]
+fn shapes_are_sorted_by_number(rt: HostRuntime) -> Result<(), Fail> {
+    let mut pool = pool(rt.alloc())?;
+    let rows: [MessageRow<'_>; 1] = [("B", &[("late_one", Some(7)), ("early", Some(3))])];
+    pool.add_file_descriptor_proto(file(rt.alloc(), "b.proto", &rows)?)?;
+    let shape = shape_of(rt.alloc(), &pool)?;
+    assert_eq!(rt; find_message(&shape, "A"), Some(0));
+    assert_eq!(rt; find_message(&shape, "B"), Some(1));
+    assert_eq!(rt; find_message(&shape, "C"), None);
+    let fields = shape.fields_of(1);
+    assert_eq!(rt; fields.len(), 2);
+    assert_eq!(rt; fields[0].number, 3);
+    assert_eq!(rt; fields[1].number, 7);
+    assert_eq!(rt; fields[1].name.as_str(), "late_one");
+    assert_eq!(rt; fields[1].json_name.as_str(), "lateOne");
+    Ok(())
+}
+
+#[test]
+fn a_pool_is_written_as_a_set(rt: HostRuntime) -> Result<(), Fail> {
+    let bytes = pool(rt.alloc())?.encode_to_vec()?;
+    #[rattlefmt::skip]
+    let want = [
+        0x0a, 36, 0x0a, 7, b'a', b'.', b'p', b'r', b'o', b't', b'o',
+        0x22, 17, 0x0a, 1, b'A',
+        0x12, 12, 0x0a, 1, b'x', 0x18, 1, 0x20, 1, 0x28, 5, 0x52, 1, b'x',
+        0x62, 6, b'p', b'r', b'o', b't', b'o', b'3',
+    ];
+    assert_eq!(rt; bytes.as_slice(), want.as_slice());
+    Ok(())
+}
+
+#[test]
+fn a_file_may_have_many_messages(rt: HostRuntime) -> Result<(), Fail> {
+    let alloc = rt.alloc();
+    let mut many = file(alloc, "b.proto", &[])?;
+    for index in 0..2000 {
+        let name = format!(in alloc; "M{index}")?;
+        let fields: [FieldRow<'_>; 1] = [("x", Some(1))];
+        many.message_type
+            .add(message(alloc, (name.as_str(), &fields))?)?;
+    }
+    let mut pool = pool(alloc)?;
+    pool.add_file_descriptor_proto(many)?;
+    assert!(rt; pool.get_message_by_name("M1999").is_some());
+    assert!(rt; pool.get_message_by_name("M2000").is_none());
+    Ok(())
+}
