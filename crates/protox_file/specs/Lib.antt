@@ -2,3 +2,6 @@ pub mod Paths
 pub mod Left
 pub mod Errors
 pub mod Lines
+pub mod Told
+pub mod Causes
+pub mod Memory
