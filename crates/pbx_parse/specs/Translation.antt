@@ -1,5 +1,5 @@
 -- The descriptor records of a syntax tree: descriptor.proto, as the compiler of the language fills it.
-use Rattle.std.specs.Prelude.{ℕ, List, [], ◌∷◌, Some, pos}
+use Rattle.std.specs.Prelude.{ℕ, List, [], ◌∷◌, Some, None, pos}
 use Rattle.pbx_desc.specs.declared.field.FieldDescriptorProto.{FieldDescriptorProto}
 use Rattle.pbx_desc.specs.declared.message.DescriptorProto.{DescriptorProto}
 use Rattle.pbx_desc.specs.declared.file.FileDescriptorProto.{FileDescriptorProto}
