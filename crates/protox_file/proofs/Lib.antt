@@ -3,3 +3,4 @@ pub mod Bodies
 pub mod Names
 pub mod Again
 pub mod Said
+pub mod Lookups

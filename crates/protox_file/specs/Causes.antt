@@ -1,9 +1,9 @@
 -- What an answer of a resolver says of what it tells, and why it was refused.
-use Rattle.std.specs.Prelude.{◌≡◌, ℕ, List, Bool, true, false, Result, Ok, Err, Some}
+use Rattle.std.specs.Prelude.{◌≡◌, ℕ, List, Result, Ok, Err, Some}
 use Rattle.pbx_parse.specs.Errors.{error_file}
 use Rattle.protox_file.specs.declared.error.ErrorKind.{ErrorKind}
 use Rattle.protox_file.specs.declared.error.ErrorKind.TheVariants.{Parse, Check, OpenFile, FileTooLarge, FileInvalidUtf8, FileNotFound, ImportNotFound, CircularImport, FileNotIncluded, FileShadowed, DuplicateImport, Custom, NameMismatch, FileLimit, Undecodable, NoMemory}
-use Rattle.protox_file.specs.Told.{Entry, Told, Lookup, NoFile, IsFile, TextFault, IsLookup}
+use Rattle.protox_file.specs.Told.{Entry, Told, NoFile, IsFile, TextFault, IsLookup}
 
 -- Why a resolver refused a name: only some kinds come, those that name a file name this one, and a fault of its own has this cause.
 abbrev pub HasCause : List ℕ → Type 0 → ErrorKind → Type 0
@@ -47,3 +47,9 @@ IsToldRefusal name told NoMemory = Unit {0}
 abbrev pub IsTold : List ℕ → Told → Result Entry ErrorKind → Type 0
 IsTold name told (Ok entry) = IsLookup name told (IsFile entry)
 IsTold name told (Err kind) = IsToldRefusal name told kind
+
+-- The refusal is one of reading this path: a fault has the path, and nothing is refused in other words.
+abbrev pub IsOfPath : List ℕ → ErrorKind → Type 0
+IsOfPath path (OpenFile name opened fault) = opened ≡ path
+IsOfPath path (Custom text is_io) = ⊥
+IsOfPath path kind = Unit {0}

@@ -4,4 +4,5 @@ pub mod Errors
 pub mod Lines
 pub mod Told
 pub mod Causes
-pub mod Memory
+-- pub mod Memory
+pub mod Metadata

@@ -1,7 +1,9 @@
 -- What a resolver tells of its names, and what looking a name up comes to.
 use Rattle.std.specs.Prelude.{◌≡◌, ℕ, nat_lt, List, Option, Some, None, if◌then◌else◌, length}
+use Rattle.std.specs.Str.{is_utf8}
 use Rattle.pbx_desc.specs.declared.file.FileDescriptorProto.{FileDescriptorProto}
 use Rattle.pbx_parse.specs.Reads.{Reads}
+use Rattle.protox_io.specs.Disk.{Held, Missing, Oversized, Stored}
 
 -- a file: its record, and if they are known the path that it was read from, its source, and the bytes that it was decoded from
 pub record Entry : Type 0 where
@@ -50,3 +52,13 @@ largest_source = 2147483647
 -- what a source in memory tells
 abbrev pub told_source : List ℕ → Option (List ℕ) → Told
 told_source source path = if nat_lt largest_source (length source) then TooLarge else Source source path
+
+-- what bytes tell, of at most so many
+abbrev pub told_bytes : List ℕ → Option (List ℕ) → Told
+told_bytes bytes path = if is_utf8 bytes then Source bytes path else NotText
+
+-- what a disk tells that has this at the path
+abbrev pub told_held : Held → Option (List ℕ) → Told
+told_held Missing path = Absent
+told_held Oversized path = TooLarge
+told_held (Stored bytes) path = if nat_lt largest_source (length bytes) then TooLarge else told_bytes bytes path
