@@ -1,0 +1,4 @@
+pub mod Shape
+pub mod Content
+pub mod Unknown
+pub mod Sound

@@ -1,6 +1,7 @@
-ghost use Rattle.std.specs.Prelude.{◌≡◌, None, []};
+ghost use Rattle.std.specs.Prelude.{◌≡◌, None, [], IfOk};
 
-use pbx_wire::{Recs, Text};
+use crate::copy::Duplicate;
+use pbx_wire::{NoMemory, Recs, Text, copy_recs};
 use std::alloc::Global;
 
 /// A field of a message, `google.protobuf.FieldDescriptorProto`.
@@ -33,5 +34,19 @@ impl FieldDescriptorProto {
             json_name: None,
             unknown: Recs::new(alloc),
         }
+    }
+
+    /// An equal record. The only error is want of memory.
+    pub fn copy(&self, alloc: Global) -> Result<FieldDescriptorProto, NoMemory>
+        ensures { IfOk result (λ copy. copy ≡ self.now) }
+    {
+        Ok(FieldDescriptorProto {
+            name: self.name.duplicate(alloc)?,
+            number: self.number,
+            label: self.label,
+            kind: self.kind,
+            json_name: self.json_name.duplicate(alloc)?,
+            unknown: copy_recs(&self.unknown, alloc)?,
+        })
     }
 }

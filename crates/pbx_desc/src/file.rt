@@ -1,7 +1,8 @@
-ghost use Rattle.std.specs.Prelude.{◌≡◌, None, []};
+ghost use Rattle.std.specs.Prelude.{◌≡◌, None, [], IfOk};
 
+use crate::copy::Duplicate;
 use crate::message::DescriptorProto;
-use pbx_wire::{List, Recs, Text, Texts};
+use pbx_wire::{List, NoMemory, Recs, Text, Texts, copy_recs};
 use std::alloc::Global;
 
 /// A source file, `google.protobuf.FileDescriptorProto`.
@@ -31,5 +32,18 @@ impl FileDescriptorProto {
             syntax: None,
             unknown: Recs::new(alloc),
         }
+    }
+
+    /// An equal record. The only error is want of memory.
+    pub fn copy(&self, alloc: Global) -> Result<FileDescriptorProto, NoMemory>
+        ensures { IfOk result (λ copy. copy ≡ self.now) }
+    {
+        Ok(FileDescriptorProto {
+            name: self.name.duplicate(alloc)?,
+            dependency: self.dependency.duplicate(alloc)?,
+            message_type: self.message_type.duplicate(alloc)?,
+            syntax: self.syntax.duplicate(alloc)?,
+            unknown: copy_recs(&self.unknown, alloc)?,
+        })
     }
 }

@@ -1,7 +1,8 @@
-ghost use Rattle.std.specs.Prelude.{◌≡◌, None, []};
+ghost use Rattle.std.specs.Prelude.{◌≡◌, None, [], IfOk};
 
+use crate::copy::Duplicate;
 use crate::field::FieldDescriptorProto;
-use pbx_wire::{List, Recs, Text};
+use pbx_wire::{List, NoMemory, Recs, Text, copy_recs};
 use std::alloc::Global;
 
 /// A message type, `google.protobuf.DescriptorProto`.
@@ -25,5 +26,16 @@ impl DescriptorProto {
             field: List::new(alloc),
             unknown: Recs::new(alloc),
         }
+    }
+
+    /// An equal record. The only error is want of memory.
+    pub fn copy(&self, alloc: Global) -> Result<DescriptorProto, NoMemory>
+        ensures { IfOk result (λ copy. copy ≡ self.now) }
+    {
+        Ok(DescriptorProto {
+            name: self.name.duplicate(alloc)?,
+            field: self.field.duplicate(alloc)?,
+            unknown: copy_recs(&self.unknown, alloc)?,
+        })
     }
 }

@@ -1,0 +1,32 @@
+-- Contents that a message may have. Of lengths below the whole nothing is asked, since the text of the whole holds them.
+use Rattle.std.specs.Prelude.{◌≡◌, ℕ, ◌^◌, ◌<◌, List, [], ◌∷◌, length, true, Option, Some, None}
+use Rattle.std.specs.Int.{w32}
+use Rattle.std.specs.Int.RustNames.{FitsSigned}
+use Rattle.std.specs.Str.{is_utf8}
+use Rattle.pbx_content.specs.declared.shape.Kind.{Kind}
+use Rattle.pbx_content.specs.declared.shape.Kind.TheVariants as kind
+use Rattle.pbx_content.specs.declared.shape.Shape.{Shape}
+use Rattle.pbx_content.specs.Content.{Content, Val, number, truth, text, message, many}
+use Rattle.pbx_content.specs.Encoding.{encoded}
+use Rattle.pbx_content.specs.Sound.{IsSound}
+
+-- Where the content's text has a length below 2^64, as each text in memory has, a message of the type may have it.
+abbrev pub IsSoundIfShort : Shape → ℕ → Content → Type 0
+IsSoundIfShort shape t c = length (encoded shape t c) < 2 ^ 64 → IsSound shape t c
+
+-- a value of the kind, as far as its parts tell
+abbrev pub IsOf : Shape → Kind → Val → Type 0
+IsOf shape kind.Int32 (number z) = FitsSigned w32 z
+IsOf shape kind.String (text s) = is_utf8 s ≡ true
+IsOf shape (kind.Message t) (message c) = IsSoundIfShort shape t c
+IsOf shape _ _ = ⊥
+
+-- no value, or one of the kind
+abbrev pub MayBeOf : Shape → Kind → Option Val → Type 0
+MayBeOf shape k None = Unit {0}
+MayBeOf shape k (Some v) = IsOf shape k v
+
+-- each is a value of the kind
+abbrev pub AreOf : Shape → Kind → List Val → Type 0
+AreOf shape k [] = Unit {0}
+AreOf shape k (v ∷ vs) = IsOf shape k v × AreOf shape k vs
