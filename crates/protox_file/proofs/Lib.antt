@@ -4,3 +4,5 @@ pub mod Names
 pub mod Again
 pub mod Said
 pub mod Lookups
+pub mod Puts
+pub mod Readings

@@ -4,6 +4,8 @@ use Rattle.std.specs.Str.{is_utf8}
 use Rattle.pbx_desc.specs.declared.file.FileDescriptorProto.{FileDescriptorProto}
 use Rattle.pbx_parse.specs.Reads.{Reads}
 use Rattle.protox_io.specs.Disk.{Held, Missing, Oversized, Stored}
+use Rattle.protox_io.specs.Paths.{Component, disk_key}
+use Rattle.protox_file.specs.Paths.{joined}
 
 -- a file: its record, and if they are known the path that it was read from, its source, and the bytes that it was decoded from
 pub record Entry : Type 0 where
@@ -62,3 +64,7 @@ abbrev pub told_held : Held → Option (List ℕ) → Told
 told_held Missing path = Absent
 told_held Oversized path = TooLarge
 told_held (Stored bytes) path = if nat_lt largest_source (length bytes) then TooLarge else told_bytes bytes path
+
+-- what a folder tells, on a disk that has this at each key
+abbrev pub told_below : (List Component → Held) → List ℕ → List ℕ → Told
+told_below holds folder name = told_held (holds (disk_key (joined folder name))) (Some (joined folder name))

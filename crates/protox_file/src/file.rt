@@ -69,6 +69,38 @@ impl File {
         read(alloc, name, source, None)
     }
 
+    /// The file of this name that a disk has at a path, with the path and its source. `FileNotFound` comes exactly where
+    /// nothing stands there, `FileTooLarge` where more than 2,147,483,647 bytes do, `FileInvalidUtf8` where they are no
+    /// UTF-8, and `Parse` where the source has no record. `OpenFile` comes where the disk failed, and has its words.
+    pub fn open<D: Disk>(alloc: Global, disk: &mut D, name: &str, path: &str) -> Result<File, Error>
+        ensures told { IsTrue (D.tells disk.old) → IsTold name.now (told_held (D.holds disk.old (disk_key path.now)) (Some path.now)) result }
+        ensures cause { IfErr result (HasCause name.now (Rose (D.faults disk.old) (D.faults disk.new) (D.at_end disk.new))) }
+        ensures of_path { IfErr result (IsOfPath path.now) }
+        ensures later { D.faults disk.old ≤ D.faults disk.new }
+        ensures keeps_tells { D.tells disk.new ≡ D.tells disk.old }
+        ensures keeps_holds { IsTrue (D.tells disk.old) → D.holds disk.new ≡ D.holds disk.old }
+    {
+        match disk.read_file(alloc, path) {
+            Ok(DiskAnswer::Bytes(bytes)) => read_bytes(alloc, name, path, bytes.as_slice()),
+            Ok(DiskAnswer::Absent) => Err(Error::file_not_found(alloc, name)),
+            Ok(DiskAnswer::TooLarge) => Err(Error::file_too_large(alloc, name)),
+            Err(DiskError::Failed(fault)) => Err(Error::open_file(alloc, name, path, fault)),
+            Err(DiskError::NoMemory) => Err(Error::from(NoMemory)),
+        }
+    }
+
+    /// An equal file. The only error is want of memory.
+    pub fn copy(&self, alloc: Global) -> Result<File, NoMemory>
+        ensures { IfOk result (λ copy. copy ≡ self.now) }
+    {
+        Ok(File {
+            file: self.file.copy(alloc)?,
+            path: copy_text(alloc, &self.path)?,
+            source: copy_text(alloc, &self.source)?,
+            encoded: None,
+        })
+    }
+
     /// The name of the record, or the empty text if it has none; takes no memory.
     pub fn name(&self) -> &str
         ensures { result.now ≡ unwrap_or self.now.file.name [] }
@@ -131,6 +163,29 @@ impl From<File> for FileDescriptorProto {
     fn from(it: File) -> FileDescriptorProto {
         it.into_file_descriptor_proto()
     }
+}
+
+fn copy_text(alloc: Global, text: &Option<Text>) -> Result<Option<Text>, NoMemory>
+    ensures { IfOk result (λ copy. copy ≡ text.now) }
+{
+    match text {
+        Some(text) => Ok(Some(text.copy(alloc)?)),
+        None => Ok(None),
+    }
+}
+
+/// The file that bytes are which are read from this path.
+fn read_bytes(alloc: Global, name: &str, path: &str, bytes: &[u8]) -> Result<File, Error>
+    ensures told { IsTold name.now (told_held (Stored bytes.now) (Some path.now)) result }
+    ensures cause { IfErr result (HasCause name.now ⊥) }
+{
+    if bytes.len() > LARGEST {
+        return Err(Error::file_too_large(alloc, name));
+    }
+    let Ok(source) = std::str::from_utf8(bytes) else {
+        return Err(Error::file_invalid_utf8(alloc, name));
+    };
+    read(alloc, name, source, Some(Text::from_str(alloc, path)?))
 }
 
 /// The file that a source is which is read from this path.
