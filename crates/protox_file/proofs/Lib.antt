@@ -3,3 +3,6 @@ pub mod Bodies
 pub mod Names
 pub mod Again
 pub mod Said
+pub mod Lookups
+pub mod Puts
+pub mod Readings

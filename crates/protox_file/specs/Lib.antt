@@ -2,3 +2,8 @@ pub mod Paths
 pub mod Left
 pub mod Errors
 pub mod Lines
+pub mod Told
+pub mod Causes
+pub mod Memory
+pub mod Metadata
+pub mod Include

@@ -1,5 +1,5 @@
 -- What paths say of files: the name of a file, equal paths, a path below a folder, and a name in a folder.
-use Rattle.std.specs.Prelude.{ℕ, ◌==◌, ◌++◌, ◌||◌, List, [], ◌∷◌, map, length, Bool, true, false, Option, Some, None, if◌then◌else◌}
+use Rattle.std.specs.Prelude.{ℕ, ◌==◌, ◌++◌, ◌||◌, List, [], ◌∷◌, map, length, Bool, true, false, Option, Some, None, option_and_then, if◌then◌else◌}
 use Rattle.std.specs.List.{list_all, join_with_byte}
 use Rattle.std.specs.Io.BufRead.{ends_with_byte}
 use Rattle.protox_io.specs.Paths.{Component, Named, components, bare, component_eq, key_eq, is_rooted}
@@ -45,3 +45,7 @@ with_slash folder = if length folder == 0 || ends_with_byte 47 folder then folde
 -- the path of a name in a folder (as `std::path::Path::join` of Rust's documentation, on Unix)
 abbrev pub joined : List ℕ → List ℕ → List ℕ
 joined folder name = if is_rooted name then name else with_slash folder ++ name
+
+-- the file name of what stands at a path below a folder
+abbrev pub resolved : List ℕ → List ℕ → Option (List ℕ)
+resolved folder path = option_and_then joined_names (stripped path folder)

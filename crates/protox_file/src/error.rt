@@ -175,6 +175,48 @@ impl Error {
         }
     }
 
+    /// The error that a source has too many bytes.
+    pub(crate) fn file_too_large(alloc: Global, name: &str) -> Error
+        ensures { UnlessMemory (ErrorKind.FileTooLarge name.now) result }
+    {
+        match Text::from_str(alloc, name) {
+            Ok(name) => Error {
+                kind: ErrorKind::FileTooLarge { name },
+            },
+            Err(_) => Error {
+                kind: ErrorKind::NoMemory,
+            },
+        }
+    }
+
+    /// The error that a source is no UTF-8.
+    pub(crate) fn file_invalid_utf8(alloc: Global, name: &str) -> Error
+        ensures { UnlessMemory (ErrorKind.FileInvalidUtf8 name.now) result }
+    {
+        match Text::from_str(alloc, name) {
+            Ok(name) => Error {
+                kind: ErrorKind::FileInvalidUtf8 { name },
+            },
+            Err(_) => Error {
+                kind: ErrorKind::NoMemory,
+            },
+        }
+    }
+
+    /// The error that reading failed, as the disk said.
+    pub(crate) fn open_file(alloc: Global, name: &str, path: &str, fault: Text) -> Error
+        ensures { UnlessMemory (ErrorKind.OpenFile name.now path.now fault) result }
+    {
+        match (Text::from_str(alloc, name), Text::from_str(alloc, path)) {
+            (Ok(name), Ok(path)) => Error {
+                kind: ErrorKind::OpenFile { name, path, fault },
+            },
+            _ => Error {
+                kind: ErrorKind::NoMemory,
+            },
+        }
+    }
+
     /// The error of a kind, inside of which no want of memory stands.
     pub fn from_kind(kind: ErrorKind) -> Error
         requires { IsWhole kind }
@@ -259,6 +301,19 @@ impl Error {
         ensures { IfOk result (λ line. line ≡ concat (long_line_of self.now)) }
     {
         lines::long_line(alloc, &self.kind)
+    }
+}
+
+impl From<NoMemory> for Error {
+    ghost use Rattle.std.specs.Prelude.{◌≡◌};
+    ghost use Rattle.protox_file.specs.declared.error.ErrorKind.{ErrorKind};
+
+    ghost from_gives = { λ _ e. e ≡ ErrorKind.NoMemory };
+
+    fn from(_refused: NoMemory) -> Error {
+        Error {
+            kind: ErrorKind::NoMemory,
+        }
     }
 }
 

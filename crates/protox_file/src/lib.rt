@@ -3,10 +3,20 @@
 
 mod components;
 mod error;
+mod file;
+mod include;
 mod lines;
+mod memory;
+mod metadata;
 mod paths;
+mod resolver;
 #[cfg(test)]
 mod tests;
 
 pub use error::{Error, ErrorKind};
+pub use file::{File, looked_up_once};
+pub use include::IncludeFileResolver;
+pub use memory::MemoryResolver;
+pub use metadata::FileMetadata;
 pub use paths::{join_path, names_name_themselves, path_eq, path_to_file_name, strip_prefix};
+pub use resolver::FileResolver;

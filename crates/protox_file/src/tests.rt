@@ -1,3 +1,8 @@
+//! Paths here, errors and files in modules of their own.
+
+mod errors;
+mod files;
+
 use crate::{join_path, names_name_themselves, path_eq, path_to_file_name, strip_prefix};
 use std::test::Fail;
 

@@ -1,0 +1,49 @@
+-- What a resolver in memory holds.
+use Rattle.std.specs.Prelude.{◌≡◌, ℕ, ◌==◌, List, [], ◌∷◌, Bool, true, Option, Some, None, Result, Err, codes, if◌then◌else◌}
+use Rattle.std.specs.List.{list_any}
+use Rattle.std.specs.Str.{bytes_eq}
+use Rattle.protox_file.specs.declared.error.ErrorKind.{ErrorKind}
+use Rattle.protox_file.specs.declared.error.ErrorKind.TheVariants.{OpenFile, Custom, NoMemory}
+use Rattle.protox_file.specs.declared.memory.Put.{Put}
+use Rattle.protox_file.specs.declared.memory.Put.TheVariants.{Source, File}
+use Rattle.protox_file.specs.Told.{Entry, Told, Absent, Recorded, told_source}
+
+-- what a source, or a file, tells that was put under a name
+abbrev pub told_put : Put → Told
+told_put (Source source) = told_source source None
+told_put (File entry) = Recorded entry
+
+-- The state of a resolver in memory: what was put under each name, and the names of paths, the latest first; the calls that fail; the
+-- calls that were made; and those of them that were listed.
+pub record ResolverState : Type 0 where
+  pub files : List (List ℕ × Put)
+  pub names : List (List ℕ × List ℕ)
+  pub listed : List ℕ
+  pub calls : ℕ
+  pub faults : ℕ
+
+-- what was put last under a name
+abbrev pub told_by : List (List ℕ × Put) → List ℕ → Told
+told_by [] name = Absent
+told_by (f ∷ fs) name = if bytes_eq f.0 name then told_put f.1 else told_by fs name
+
+-- the name that a path was mapped to last
+abbrev pub named_by : List (List ℕ × List ℕ) → List ℕ → Option (List ℕ)
+named_by [] path = None
+named_by (n ∷ ns) path = if bytes_eq n.0 path then Some n.1 else named_by ns path
+
+-- whether the next call is listed
+abbrev pub is_listed : ResolverState → Bool
+is_listed r = list_any (λ c. c == r.calls) r.listed
+
+-- an injected fault, or want of memory for it
+abbrev pub IsFault : Result Entry ErrorKind → Type 0
+IsFault (Err (Custom text is_io)) = (text ≡ codes "failed to load file!") × (is_io ≡ true)
+IsFault (Err NoMemory) = Unit {0}
+IsFault answer = ⊥
+
+-- no answer of a fault
+abbrev pub NoFault : Result Entry ErrorKind → Type 0
+NoFault (Err (Custom text is_io)) = ⊥
+NoFault (Err (OpenFile name path fault)) = ⊥
+NoFault answer = Unit {0}

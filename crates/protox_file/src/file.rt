@@ -1,0 +1,213 @@
+//! Files: a record, and what is known of where it came from.
+
+ghost use Rattle.std.specs.Prelude.{◌≡◌, ◌≤◌, ℕ, List, [], Some, None, IfOk, IfErr, IsTrue, length, unwrap_or, option_map};
+ghost use Rattle.std.specs.Option.{option_copied};
+ghost use Rattle.protox_io.specs.Count.{Rose};
+ghost use Rattle.protox_io.specs.Disk.{Stored};
+ghost use Rattle.protox_io.specs.Paths.{disk_key};
+ghost use Rattle.protox_file.specs.Causes.{HasCause, IsTold, IsOfPath};
+ghost use Rattle.protox_file.specs.Told.{Told, Lookup, Source, IsLookup, told_source, told_held};
+
+use crate::error::Error;
+use pbx_desc::FileDescriptorProto;
+use pbx_parse::parse;
+use pbx_wire::{Blob, NoMemory, Text};
+use protox_io::{Disk, DiskAnswer, DiskError};
+use std::alloc::Global;
+use std::marker::Model;
+
+// The most bytes of a source.
+const LARGEST: usize = 2147483647;
+
+/// A file: its record and, if they are known, the path that it was read from, its source, and the bytes that it was
+/// decoded from. So far no call makes a file that has such bytes.
+#[derive(Drop)]
+pub struct File {
+    file: FileDescriptorProto,
+    path: Option<Text>,
+    source: Option<Text>,
+    encoded: Option<Blob>,
+}
+
+impl Model for File {
+    ghost use Rattle.std.specs.Prelude.{◌≡◌, None};
+    ghost use Rattle.std.specs.Coded.{codes};
+    ghost use Rattle.pbx_wire.specs.contracts.rec.Rec as rec;
+    ghost use Rattle.protox_file.specs.Told.{Entry};
+
+    ghost Value = { Entry };
+
+    ghost coded = { Prim.hlevel (codes, rec.the_row.coded) };
+
+    ghost view = { λ f. record { file = f.file; path = f.path; source = f.source; encoded = f.encoded } };
+
+    ghost invariant = { λ f. f.encoded ≡ None };
+}
+
+impl File {
+    /// A record alone.
+    pub fn from_file_descriptor_proto(file: FileDescriptorProto) -> File
+        ensures { result ≡ record { file = file; path = None; source = None; encoded = None } }
+    {
+        File {
+            file,
+            path: None,
+            source: None,
+            encoded: None,
+        }
+    }
+
+    /// The file that a source of this name is, with the source. `FileTooLarge` comes exactly where the source has more
+    /// than 2,147,483,647 bytes, and else `Parse` exactly where it has no record.
+    pub fn from_source(alloc: Global, name: &str, source: &str) -> Result<File, Error>
+        ensures told { IsTold name.now (told_source source.now None) result }
+        ensures cause { IfErr result (HasCause name.now ⊥) }
+    {
+        if source.len() > LARGEST {
+            return Err(Error::file_too_large(alloc, name));
+        }
+        read(alloc, name, source, None)
+    }
+
+    /// The file of this name that a disk has at a path, with the path and its source. `FileNotFound` comes exactly where
+    /// nothing stands there, `FileTooLarge` where more than 2,147,483,647 bytes do, `FileInvalidUtf8` where they are no
+    /// UTF-8, and `Parse` where the source has no record. `OpenFile` comes where the disk failed, and has its words.
+    pub fn open<D: Disk>(alloc: Global, disk: &mut D, name: &str, path: &str) -> Result<File, Error>
+        ensures told { IsTrue (D.tells disk.old) → IsTold name.now (told_held (D.holds disk.old (disk_key path.now)) (Some path.now)) result }
+        ensures cause { IfErr result (HasCause name.now (Rose (D.faults disk.old) (D.faults disk.new) (D.at_end disk.new))) }
+        ensures of_path { IfErr result (IsOfPath path.now) }
+        ensures later { D.faults disk.old ≤ D.faults disk.new }
+        ensures keeps_tells { D.tells disk.new ≡ D.tells disk.old }
+        ensures keeps_holds { IsTrue (D.tells disk.old) → D.holds disk.new ≡ D.holds disk.old }
+    {
+        match disk.read_file(alloc, path) {
+            Ok(DiskAnswer::Bytes(bytes)) => read_bytes(alloc, name, path, bytes.as_slice()),
+            Ok(DiskAnswer::Absent) => Err(Error::file_not_found(alloc, name)),
+            Ok(DiskAnswer::TooLarge) => Err(Error::file_too_large(alloc, name)),
+            Err(DiskError::Failed(fault)) => Err(Error::open_file(alloc, name, path, fault)),
+            Err(DiskError::NoMemory) => Err(Error::from(NoMemory)),
+        }
+    }
+
+    /// An equal file. The only error is want of memory.
+    pub fn copy(&self, alloc: Global) -> Result<File, NoMemory>
+        ensures { IfOk result (λ copy. copy ≡ self.now) }
+    {
+        Ok(File {
+            file: self.file.copy(alloc)?,
+            path: copy_text(alloc, &self.path)?,
+            source: copy_text(alloc, &self.source)?,
+            encoded: None,
+        })
+    }
+
+    /// The name of the record, or the empty text if it has none; takes no memory.
+    pub fn name(&self) -> &str
+        ensures { result.now ≡ unwrap_or self.now.file.name [] }
+    {
+        match &self.file.name {
+            Some(name) => name.as_str(),
+            None => "",
+        }
+    }
+
+    /// The path that the file was read from, if it is known; takes no memory.
+    pub fn path(&self) -> Option<&str>
+        ensures { option_copied result ≡ self.now.path }
+    {
+        self.path.as_ref().map(|path| path.as_str())
+    }
+
+    /// The source, if it is known; takes no memory.
+    pub fn source(&self) -> Option<&str>
+        ensures { option_copied result ≡ self.now.source }
+    {
+        self.source.as_ref().map(|source| source.as_str())
+    }
+
+    /// The bytes that the file was decoded from, if they are known; takes no memory.
+    pub fn encoded(&self) -> Option<&[u8]>
+        ensures { option_copied result ≡ self.now.encoded }
+    {
+        self.encoded.as_ref().map(|encoded| encoded.as_slice())
+    }
+
+    /// The record; takes no memory.
+    pub fn file_descriptor_proto(&self) -> &FileDescriptorProto
+        ensures { result.now ≡ self.now.file }
+    {
+        &self.file
+    }
+
+    /// The record alone.
+    pub fn into_file_descriptor_proto(self) -> FileDescriptorProto
+        ensures { result ≡ self.file }
+    {
+        self.file
+    }
+}
+
+impl From<FileDescriptorProto> for File {
+    ghost use Rattle.std.specs.Prelude.{◌≡◌, None};
+
+    ghost from_gives = { λ file it. it ≡ record { file = file; path = None; source = None; encoded = None } };
+
+    fn from(file: FileDescriptorProto) -> File {
+        File::from_file_descriptor_proto(file)
+    }
+}
+
+impl From<File> for FileDescriptorProto {
+    ghost from_gives = { λ it file. file ≡ it.file };
+
+    fn from(it: File) -> FileDescriptorProto {
+        it.into_file_descriptor_proto()
+    }
+}
+
+fn copy_text(alloc: Global, text: &Option<Text>) -> Result<Option<Text>, NoMemory>
+    ensures { IfOk result (λ copy. copy ≡ text.now) }
+{
+    match text {
+        Some(text) => Ok(Some(text.copy(alloc)?)),
+        None => Ok(None),
+    }
+}
+
+/// The file that bytes are which are read from this path.
+fn read_bytes(alloc: Global, name: &str, path: &str, bytes: &[u8]) -> Result<File, Error>
+    ensures told { IsTold name.now (told_held (Stored bytes.now) (Some path.now)) result }
+    ensures cause { IfErr result (HasCause name.now ⊥) }
+{
+    if bytes.len() > LARGEST {
+        return Err(Error::file_too_large(alloc, name));
+    }
+    let Ok(source) = std::str::from_utf8(bytes) else {
+        return Err(Error::file_invalid_utf8(alloc, name));
+    };
+    read(alloc, name, source, Some(Text::from_str(alloc, path)?))
+}
+
+/// The file that a source is which is read from this path.
+fn read(alloc: Global, name: &str, source: &str, path: Option<Text>) -> Result<File, Error>
+    requires { length source.now ≤ 2147483647 }
+    ensures told { IsTold name.now (Source source.now path) result }
+    ensures cause { IfErr result (HasCause name.now ⊥) }
+{
+    match parse(alloc, name, source) {
+        Ok(file) => Ok(File {
+            file,
+            path,
+            source: Some(Text::from_str(alloc, source)?),
+            encoded: None,
+        }),
+        Err(error) => Err(Error::from(error)),
+    }
+}
+
+/// What looking a name up comes to is one thing at most.
+pub fn looked_up_once()
+    ensures { (name : List ℕ) (told : Told) (a b : Lookup) → IsLookup name told a → IsLookup name told b → a ≡ b }
+{
+    pbx_parse::at_most_one();
+}
