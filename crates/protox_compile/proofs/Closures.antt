@@ -1,0 +1,42 @@
+-- Openings one after another.
+use Rattle.std.proofs.Common.{◌≡◌, ◌+◌, ◌<◌, ◌∷◌, ◌++◌, ◌∙◌, [], ℕ, suc, List, refl, sym, ap, length, take, drop, get_or, add-one}
+use Rattle.std.proofs.Math.Seq.{take-suc, split_at}
+use Rattle.std.specs.Prelude.{Option}
+use Rattle.protox_file.specs.Told.{Lookup}
+use Rattle.protox_file.specs.declared.error.ErrorKind.{ErrorKind}
+use Rattle.protox_compile.specs.Walk.{Done}
+use Rattle.protox_compile.specs.Opening.{Opened, Accepted, NotIncluded, Refused, root_of, opening, closure, after_opening, grown}
+use Rattle.protox_compile.specs.Refusals.{RefusesWith}
+use Rattle.protox_compile.specs.Closures.{StopsAt}
+
+module _ (lookups : List ℕ → Lookup) (resolves : List ℕ → Option (List ℕ)) (limit : ℕ) where
+  then_push : (opened : List Done × Opened) (longer rest one : List Done → List Done × Opened) → ((d : List Done) → longer d ≡ after_opening (rest d) one) → after_opening opened longer ≡ after_opening (after_opening opened rest) one
+  then_push (d, Accepted) longer rest one e = e d
+  then_push (d, NotIncluded) longer rest one e = refl
+  then_push (d, Refused fault) longer rest one e = refl
+
+  last : (opened : List Done × Opened) → after_opening opened (λ d. (d, Accepted)) ≡ opened
+  last (d, Accepted) = refl
+  last (d, NotIncluded) = refl
+  last (d, Refused fault) = refl
+
+  pub closure_push : (before : List (List ℕ)) (path : List ℕ) (done : List Done) → closure lookups resolves limit (before ++ path ∷ []) done ≡ after_opening (closure lookups resolves limit before done) (opening lookups resolves limit path)
+  closure_push [] path done = last (opening lookups resolves limit path done)
+  closure_push (p ∷ before) path done = then_push (opening lookups resolves limit p done) (closure lookups resolves limit (before ++ path ∷ [])) (closure lookups resolves limit before) (opening lookups resolves limit path) (closure_push before path)
+
+  module _ (paths : List (List ℕ)) (i : ℕ) (path : List ℕ) (fits : i < length paths) (is : path ≡ get_or paths i path) (old middle : List Done) (before : closure lookups resolves limit (take i paths) old ≡ (middle, Accepted)) where
+    pub accepts : (new : List Done) → opening lookups resolves limit path middle ≡ (new, Accepted) → closure lookups resolves limit (take (i + 1) paths) old ≡ (new, Accepted)
+    accepts new o =
+        let e : take (suc i) paths ≡ take i paths ++ path ∷ [] = take-suc paths i path fits ∙ ap (λ p. take i paths ++ p ∷ []) (sym is) in
+        rw (add-one, e, closure_push, before) o
+
+    pub stops_at : (new : List Done) (error : ErrorKind) → RefusesWith path (λ ls. grown ls limit (root_of resolves path) middle) (opening lookups resolves limit path middle) lookups new error → StopsAt lookups resolves limit paths old new error
+    stops_at new error r = record {
+      before = take i paths;
+      path = path;
+      after = drop (suc i) paths;
+      middle = middle;
+      split = split_at paths i path fits ∙ ap (λ p. take i paths ++ p ∷ drop (suc i) paths) (sym is);
+      accepted = before;
+      refused = r;
+    }

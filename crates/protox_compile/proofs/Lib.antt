@@ -1,0 +1,13 @@
+pub mod Resume
+pub mod Stacks
+pub mod Extends
+pub mod Fresh
+pub mod Measure
+pub mod Right
+pub mod Steps
+pub mod Roots
+pub mod Openings
+pub mod Closures
+pub mod Recorded
+pub mod Arrows
+pub mod Walks

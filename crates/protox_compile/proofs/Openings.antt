@@ -1,0 +1,131 @@
+-- How an opening is refused.
+use Rattle.std.proofs.Common.{◌≡◌, ◌<◌, ◌++◌, inl, inr, [], ℕ, List, Bool, true, false, refl, ap, ◌∙◌, sym, subst, length, take, drop, get_or, drop-cons}
+use Rattle.std.proofs.Math.ListN.{set}
+use Rattle.std.proofs.lemmas.List.{set_split}
+use Rattle.std.specs.Prelude.{if◌then◌else◌, Option, Some, None, Result, IfErr}
+use Rattle.std.specs.Str.{bytes_eq}
+use Rattle.pbx_parse.specs.declared.error.ParseError.TheVariants as parse
+use Rattle.protox_file.specs.Told.{Told, Lookup}
+use Rattle.protox_file.specs.declared.error.ErrorKind.{ErrorKind}
+use Rattle.protox_file.specs.declared.error.ErrorKind.TheVariants.{Parse, Check, OpenFile, FileTooLarge, FileInvalidUtf8, FileNotFound, ImportNotFound, CircularImport, FileNotIncluded, FileShadowed, DuplicateImport, Custom, NameMismatch, FileLimit, Undecodable, NoMemory}
+use Rattle.protox_compile.specs.Walk.{Done, Visited, Finished, Missing, Shadowed, is_done, visits}
+use Rattle.protox_file.specs.Paths.{path_equal}
+use Rattle.protox_compile.specs.State.{IsShadowedBy, IsLeftOut, IsRoot}
+use Rattle.protox_compile.specs.Refusals.{Walk, Extends, Ends, OrNoMemory, IsToldBy, is_absent, RefusesWith, HasStepCause, HasOpeningCause}
+use Rattle.protox_compile.specs.Opening.{Accepted, Refused, mark, asked_path, path_in, open_done, open_root, open_name, root_of, opening, grown}
+use Rattle.protox_compile.proofs.Extends.{extends_same}
+use Rattle.protox_compile.proofs.Roots.{root_walk, root_extends}
+
+-- the first file of the name, marked in its place
+pub mark_set : (name : List ℕ) (done : List Done) (i : ℕ) (d : Done) → i < length done → bytes_eq (get_or done i d).name name ≡ true → mark name done ≡ take i done ++ mark name (drop i done) → set done i (record (get_or done i d) { opened = true }) ≡ mark name done
+mark_set name done i d h same e = rw (e, drop-cons done i d h, same) (set_split done i (record (get_or done i d) { opened = true }) h)
+
+pub grown_extends : (lookups : List ℕ → Lookup) (limit : ℕ) (root : Option (List ℕ × Option (List ℕ))) (done : List Done) → Extends done (grown lookups limit root done)
+grown_extends lookups limit None done = extends_same done
+grown_extends lookups limit (Some root) done = by_case (is_done done root.0)
+  where
+    by_case : (b : Bool) → Extends done (if b then done else (visits lookups limit [] root.1 root.0 done).0)
+    by_case true = extends_same done
+    by_case false = root_extends limit root.1 root.0 done lookups
+
+missing : (path n : List ℕ) (walk : Walk) (lookups : List ℕ → Lookup) (later : List Done) (answer : ErrorKind) → walk lookups ≡ (later, Missing) → OrNoMemory answer (FileNotIncluded path) → RefusesWith path (λ ls. (walk ls).0) (open_root n (walk lookups)) lookups later answer
+missing path n walk lookups later answer e (inl memory) = rw (memory, e) (extends_same later)
+missing path n walk lookups later answer e (inr same) = rw (same, e) (refl, refl)
+
+other : (path n : List ℕ) (walk : Walk) (lookups : List ℕ → Lookup) (later : List Done) (error : ErrorKind) → is_absent error ≡ false → Ends error walk lookups later → RefusesWith path (λ ls. (walk ls).0) (open_root n (walk lookups)) lookups later error
+other path n walk lookups later (Parse (parse.Syntax file line column expected found)) a h = rw h refl
+other path n walk lookups later (Parse parse.NoMemory) a h = h
+other path n walk lookups later (Check error) a h = record { file = h.file; opened_is = rw h.walk_is refl; refused = h.refused }
+other path n walk lookups later (OpenFile file p fault) a h = record { front = h.front; exact = h.exact }
+other path n walk lookups later (FileTooLarge file) a h = rw h refl
+other path n walk lookups later (FileInvalidUtf8 file) a h = rw h refl
+other path n walk lookups later (FileNotFound file) a h = absurd (cc)
+other path n walk lookups later (ImportNotFound x i p y) a h = (rw h.0 refl, h.1)
+other path n walk lookups later (CircularImport y cycle) a h = rw h refl
+other path n walk lookups later (FileNotIncluded p) a h = absurd h
+other path n walk lookups later (FileShadowed y asked shadow) a h = rw h refl
+other path n walk lookups later (DuplicateImport x i p y) a h = (rw h.0 refl, h.1)
+other path n walk lookups later (Custom text is_io) a h = h
+other path n walk lookups later (NameMismatch asked declared) a h = rw h refl
+other path n walk lookups later (FileLimit l) a h = rw h refl
+other path n walk lookups later (Undecodable file) a h = absurd h
+other path n walk lookups later NoMemory a h = h
+
+absent_ends : (walk : Walk) (lookups : List ℕ → Lookup) (later : List Done) (error : ErrorKind) → is_absent error ≡ true → Ends error walk lookups later → walk lookups ≡ (later, Missing)
+absent_ends walk lookups later (FileNotFound file) a h = h
+absent_ends walk lookups later _ a h = absurd (cc)
+
+-- what the visit of a root was refused with, as the opening of its path says it
+refuses_root : (path n : List ℕ) (walk : Walk) (lookups : List ℕ → Lookup) (later : List Done) (error answer : ErrorKind) → Ends error walk lookups later → IsToldBy (FileNotIncluded path) error answer → RefusesWith path (λ ls. (walk ls).0) (open_root n (walk lookups)) lookups later answer
+refuses_root path n walk lookups later error answer h k = by_case (is_absent error) refl
+  where
+    by_case : (b : Bool) → is_absent error ≡ b → RefusesWith path (λ ls. (walk ls).0) (open_root n (walk lookups)) lookups later answer
+    by_case true e = missing path n walk lookups later answer (absent_ends walk lookups later error e h) (k.absent e)
+    by_case false e = rw (k.other e) (other path n walk lookups later error e h)
+
+pub refuses : (limit : ℕ) (path n : List ℕ) (asked : Option (List ℕ)) (root : Option (List ℕ × Option (List ℕ))) (done later : List Done) (lookups : List ℕ → Lookup) (error answer : ErrorKind) → root ≡ Some (n, asked) → is_done done n ≡ false
+    → Ends error (root_walk limit asked n done) lookups later → IsToldBy (FileNotIncluded path) error answer → RefusesWith path (λ ls. grown ls limit root done) (open_name lookups limit root done) lookups later answer
+refuses limit path n asked root done later lookups error answer e new h k = rw (e, new) (refuses_root path n (root_walk limit asked n done) lookups later error answer h k)
+
+-- ---- a name that is finished
+
+pub accepts_again : (lookups : List ℕ → Lookup) (limit : ℕ) (n : List ℕ) (asked : Option (List ℕ)) (done later : List Done) → is_done done n ≡ true → open_done n asked (path_in n done) done ≡ (later, Accepted) → open_name lookups limit (Some (n, asked)) done ≡ (later, Accepted)
+accepts_again lookups limit n asked done later there h = rw there h
+
+shadowed_again : (n p s : List ℕ) (asked known : Option (List ℕ)) (done : List Done) → asked ≡ Some p → known ≡ Some s → path_equal s p ≡ false → open_done n asked known done ≡ (done, Refused (Shadowed n p s))
+shadowed_again n p s asked known done a k e = rw (a, k, e) refl
+
+pub refuses_again : (lookups : List ℕ → Lookup) (limit : ℕ) (path n : List ℕ) (asked : Option (List ℕ)) (done later : List Done) (error : ErrorKind) → is_done done n ≡ true → later ≡ done → IsShadowedBy n asked (path_in n done) error
+    → RefusesWith path (λ ls. grown ls limit (Some (n, asked)) done) (open_name lookups limit (Some (n, asked)) done) lookups later error
+refuses_again lookups limit path n asked done later (FileShadowed m p s) there same h = rw (there, same, h.0) (shadowed_again n p s asked (path_in n done) done h.1 h.2 h.3)
+refuses_again lookups limit path n asked done later NoMemory there same h = rw (there, same) (extends_same done)
+refuses_again lookups limit path n asked done later _ there same h = absurd h
+
+pub accepts_new : (lookups : List ℕ → Lookup) (limit : ℕ) (n : List ℕ) (asked : Option (List ℕ)) (done middle later : List Done) → is_done done n ≡ false → visits lookups limit [] asked n done ≡ (middle, Finished) → later ≡ mark n middle → open_name lookups limit (Some (n, asked)) done ≡ (later, Accepted)
+accepts_new lookups limit n asked done middle later new h e = rw (new, h, e) refl
+
+-- what is known of the error of a root
+pub opening_cause : (path : List ℕ) (rose : Type 0) (error answer : ErrorKind) → HasStepCause rose error → IsToldBy (FileNotIncluded path) error answer → HasOpeningCause path rose answer
+opening_cause path rose error answer h k = by_case (is_absent error) refl
+  where
+    absence : OrNoMemory answer (FileNotIncluded path) → HasOpeningCause path rose answer
+    absence (inl memory) = rw memory tt
+    absence (inr same) = rw same refl
+
+    other_kind : (e : ErrorKind) → HasStepCause rose e → is_absent e ≡ false → HasOpeningCause path rose e
+    other_kind (OpenFile name p fault) x a = x
+    other_kind (Custom text is_io) x a = x
+    other_kind (FileNotFound name) x a = absurd (cc)
+    other_kind (FileNotIncluded p) x a = absurd x
+    other_kind (Undecodable file) x a = absurd x
+    other_kind _ x a = tt
+
+    by_case : (b : Bool) → is_absent error ≡ b → HasOpeningCause path rose answer
+    by_case true e = absence (k.absent e)
+    by_case false e = rw (k.other e) (other_kind error h e)
+
+-- ---- a path
+
+-- a path that has no name
+pub path_unknown : (lookups : List ℕ → Lookup) (resolves : List ℕ → Option (List ℕ)) (limit : ℕ) (path : List ℕ) (done : List Done) (error : ErrorKind) → root_of resolves path ≡ None → OrNoMemory error (FileNotIncluded path)
+    → RefusesWith path (λ ls. grown ls limit (root_of resolves path) done) (opening lookups resolves limit path done) lookups done error
+path_unknown lookups resolves limit path done error e (inl memory) = rw memory (grown_extends lookups limit (root_of resolves path) done)
+path_unknown lookups resolves limit path done error e (inr same) = rw (same, e) (refl, refl)
+
+pub path_memory : (lookups : List ℕ → Lookup) (resolves : List ℕ → Option (List ℕ)) (limit : ℕ) (path : List ℕ) (done : List Done) → RefusesWith path (λ ls. grown ls limit (root_of resolves path) done) (opening lookups resolves limit path done) lookups done NoMemory
+path_memory lookups resolves limit path done = grown_extends lookups limit (root_of resolves path) done
+
+pub left_out_same : (root : Option (List ℕ × Option (List ℕ))) (done : List Done) → IsLeftOut root done done
+left_out_same None done = tt
+left_out_same (Some root) done = refl
+
+pub path_refuses_all : {T : Type 0} (lookups : List ℕ → Lookup) (resolves : List ℕ → Option (List ℕ)) (limit : ℕ) (path : List ℕ) (root : Option (List ℕ × Option (List ℕ))) (done later : List Done) (result : Result T ErrorKind) → root_of resolves path ≡ root
+    → IfErr result (RefusesWith path (λ ls. grown ls limit root done) (open_name lookups limit root done) lookups later) → IfErr result (RefusesWith path (λ ls. grown ls limit (root_of resolves path) done) (opening lookups resolves limit path done) lookups later)
+path_refuses_all lookups resolves limit path root done later result e h =
+    let P : Option (List ℕ × Option (List ℕ)) → Type 0 = λ r. IfErr result (RefusesWith path (λ ls. grown ls limit r done) (open_name lookups limit r done) lookups later) in subst P (sym e) h
+
+-- the root that was found
+pub root_found : (root : Option (List ℕ × Option (List ℕ))) (path name text : List ℕ) (resolved : Bool) (found : Option (List ℕ × Bool)) → IsRoot root path found → found ≡ Some (name, resolved) → text ≡ name → root ≡ Some (text, asked_path resolved path)
+root_found root path name text resolved found h e t =
+    let P : Option (List ℕ × Bool) → Type 0 = λ f. IsRoot root path f in
+    rw t (subst P e h)

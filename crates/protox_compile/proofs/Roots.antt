@@ -1,0 +1,76 @@
+-- The visit of a root.
+use Rattle.std.proofs.Common.{◌≡◌, ◌+◌, ◌-◌, ◌≤◌, ◌∷◌, ◌++◌, ◌∙◌, [], ℕ, List, Bool, true, false, refl, sym, ap, length, arith}
+use Rattle.std.specs.Prelude.{nat_lt, if◌then◌else◌, Option, Some, None}
+use Rattle.std.specs.Str.{bytes_eq}
+use Rattle.std.proofs.lemmas.Bool.{lt-ltb, le-ltb}
+use Rattle.pbx_link.specs.Pool.{is_linkable}
+use Rattle.pbx_parse.specs.declared.error.ParseError.TheVariants as parse
+use Rattle.protox_file.specs.Paths.{path_equal}
+use Rattle.protox_file.specs.Told.{Entry, Told, Lookup, NoFile, IsFile, TextFault, IsLookup, AreLookups}
+use Rattle.protox_file.specs.declared.error.ErrorKind.{ErrorKind}
+use Rattle.protox_file.specs.declared.error.ErrorKind.TheVariants.{Parse, Check, OpenFile, FileTooLarge, FileInvalidUtf8, FileNotFound, ImportNotFound, CircularImport, FileNotIncluded, FileShadowed, DuplicateImport, Custom, NameMismatch, FileLimit, Undecodable, NoMemory}
+use Rattle.protox_compile.specs.Walk.{Done, Fault, Open, Visited, Finished, Faulted, Limit, Text, Mismatch, Shadowed, Unlinked, records, imports_of, declared_name, done_as, visit_imports, finish, unless_shadowed, visits}
+use Rattle.protox_compile.specs.Resume.{resume, go_on, Follows}
+use Rattle.protox_compile.specs.Refusals.{Walk, without, Extends, Ends, StopsOpening, IsOpenOf, IsUnshadowed}
+use Rattle.protox_compile.proofs.Extends.{visit_extends}
+use Rattle.protox_compile.proofs.Resume.{visits_step}
+use Rattle.protox_compile.proofs.Right.{right_top, absent_there}
+
+-- the visit of a root
+abbrev pub root_walk : ℕ → Option (List ℕ) → List ℕ → List Done → Walk
+root_walk limit asked n done lookups = visits lookups limit [] asked n done
+
+unshadowed : (n : List ℕ) (asked path : Option (List ℕ)) (done : List Done) (v : List Done × Visited) → IsUnshadowed asked path → unless_shadowed n asked path done v ≡ v
+unshadowed n None path done v h = refl
+unshadowed n (Some asked) None done v h = refl
+unshadowed n (Some asked) (Some path) done v h = rw h refl
+
+module _ (limit : ℕ) (asked : Option (List ℕ)) (n : List ℕ) (done : List Done) where
+  pub root_limit : (lookups : List ℕ → Lookup) → limit ≤ length done → visits lookups limit [] asked n done ≡ (done, Faulted (Limit limit))
+  root_limit lookups h = rw (visits_step, lt-ltb limit (length done + 0 + 1) (omega arith)) refl
+
+  pub root_extends : (lookups : List ℕ → Lookup) → Extends done (visits lookups limit [] asked n done).0
+  root_extends lookups = visit_extends lookups limit (limit - 0) [] asked n done
+
+  module _ (room : length done + 1 ≤ limit) where
+    inside : nat_lt limit (length done + 0 + 1) ≡ false
+    inside = le-ltb _ _ (omega arith)
+
+    ended : (v : List Done × Option Fault) (entry : Entry) → go_on (finish n entry v) (λ d. (d, Finished)) ≡ finish n entry v
+    ended (d, None) entry = by_case (is_linkable (records d) entry.file)
+      where
+        by_case : (b : Bool) → go_on (if b then (d ++ done_as n entry ∷ [], Finished) else (d, Faulted (Unlinked entry.file))) (λ x. (x, Finished)) ≡ (if b then (d ++ done_as n entry ∷ [], Finished) else (d, Faulted (Unlinked entry.file)))
+        by_case true = refl
+        by_case false = refl
+    ended (d, Some fault) entry = refl
+
+    opens : (lookups : List ℕ → Lookup) (f : Open) → IsOpenOf (lookups n) n f → IsUnshadowed asked f.entry.path → visits lookups limit [] asked n done ≡ resume lookups limit (f ∷ []) done
+    unfolding resume
+    opens lookups f o u =
+        let e : f ≡ record { name = n; entry = f.entry; next = 0 } = rw (← o.name_is, ← o.next_is) refl in
+        rw (visits_step, inside, o.lookup_is, o.declared, unshadowed n asked f.entry.path done _ u, e) (sym (ended (visit_imports (λ d m. visits lookups limit (n ∷ []) None m d) (n ∷ []) n [] (imports_of f.entry) done) f.entry))
+
+    pub root_follows : (files : List ℕ → Told) (f : Open) → f.name ≡ n → ((lookup : Lookup) → IsLookup n (files n) lookup → IsOpenOf lookup n f) → IsUnshadowed asked f.entry.path → Follows files (root_walk limit asked n done) limit (f ∷ []) done
+    root_follows files f named o u lookups right = opens lookups f (o (lookups n) (right_top files lookups f [] done n named right)) u
+
+    missing : (lookups : List ℕ → Lookup) → lookups n ≡ NoFile → (visits lookups limit [] asked n done).0 ≡ done
+    missing lookups e = rw (visits_step, inside, e) refl
+
+    pub root_stops : (lookups : List ℕ → Lookup) (error : ErrorKind) → StopsOpening (lookups n) n asked error → Ends error (root_walk limit asked n done) lookups done
+    root_stops lookups (Parse (parse.Syntax file line column expected found)) s = rw (visits_step, inside, s.1, s.0) refl
+    root_stops lookups (Parse parse.NoMemory) s = s
+    root_stops lookups (Check error) s = absurd s
+    root_stops lookups (OpenFile file path fault) s = record { front = root_extends lookups; exact = rw s (missing (without n lookups) (absent_there n lookups)) }
+    root_stops lookups (FileTooLarge file) s = rw (visits_step, inside, s.1, s.0) refl
+    root_stops lookups (FileInvalidUtf8 file) s = rw (visits_step, inside, s.1, s.0) refl
+    root_stops lookups (FileNotFound file) s = rw (visits_step, inside, s) refl
+    root_stops lookups (ImportNotFound x i p y) s = absurd s
+    root_stops lookups (CircularImport y cycle) s = absurd s
+    root_stops lookups (FileNotIncluded path) s = absurd s
+    root_stops lookups (FileShadowed y path shadow) s = rw (visits_step, inside, s.1.lookup_is, s.1.declared, s.1.asked_is, s.1.path_is, s.1.other, s.0) refl
+    root_stops lookups (DuplicateImport x i p y) s = absurd s
+    root_stops lookups (Custom text is_io) s = root_extends lookups
+    root_stops lookups (NameMismatch x declared) s = rw (visits_step, inside, s.1.lookup_is, s.1.other, s.0, s.1.declared_is) refl
+    root_stops lookups (FileLimit l) s = absurd s
+    root_stops lookups (Undecodable file) s = absurd s
+    root_stops lookups NoMemory s = root_extends lookups

@@ -1,0 +1,44 @@
+-- A stack that is kept in a list, its top last.
+use Rattle.std.proofs.Common.{◌≡◌, ◌∷◌, ◌++◌, ◌∙◌, [], ℕ, List, Bool, true, false, refl, sym, map, reverse}
+use Rattle.std.specs.Prelude.{◌||◌}
+use Rattle.std.specs.List.{list_any}
+use Rattle.std.specs.Str.{bytes_eq}
+use Rattle.std.proofs.lemmas.List.{reverse-append, reverse-reverse, map-append}
+use Rattle.std.proofs.lemmas.List.Folds.{list_any-append}
+use Rattle.pbx_link.specs.Rules.{among}
+use Rattle.protox_compile.specs.Walk.{Open}
+
+or_swap : (a b : Bool) → (a || b) ≡ (b || a)
+or_swap true true = refl
+or_swap true false = refl
+or_swap false true = refl
+or_swap false false = refl
+
+or_false : (a b : Bool) → ((a || false) || b) ≡ (a || b)
+or_false true b = refl
+or_false false b = refl
+
+pub list_any_reverse : {X : Type 0} (p : X → Bool) (xs : List X) → list_any p (reverse xs) ≡ list_any p xs
+list_any_reverse p [] = refl
+list_any_reverse p (x ∷ xs) = let e : reverse (x ∷ xs) ≡ reverse xs ++ x ∷ [] = reverse-append (x ∷ []) xs in
+    rw (e, list_any-append, list_any_reverse p xs) (or_swap (list_any p xs) (list_any p (x ∷ [])) ∙ or_false (p x) (list_any p xs))
+
+pub among_names : (fs : List Open) (name : List ℕ) → among (map (λ (f : Open). f.name) fs) name ≡ list_any (λ (f : Open). bytes_eq f.name name) fs
+among_names [] name = refl
+among_names (f ∷ fs) name = rw (among_names fs name) refl
+
+pub reverse_push : {X : Type 0} (xs : List X) (x : X) → reverse (xs ++ x ∷ []) ≡ x ∷ reverse xs
+reverse_push xs x = reverse-append xs (x ∷ [])
+
+pub holds_reversed : (fs : List Open) (name : List ℕ) (answer : Bool) → answer ≡ list_any (λ (f : Open). bytes_eq f.name name) fs → answer ≡ among (map (λ (f : Open). f.name) (reverse fs)) name
+holds_reversed fs name answer e = e ∙ sym (among_names (reverse fs) name ∙ list_any_reverse (λ (f : Open). bytes_eq f.name name) fs)
+
+pub map_reverse : {X Y : Type 0} (f : X → Y) (xs : List X) → map f (reverse xs) ≡ reverse (map f xs)
+map_reverse f [] = refl
+map_reverse f (x ∷ xs) =
+    let e : reverse (x ∷ xs) ≡ reverse xs ++ x ∷ [] = reverse-append (x ∷ []) xs in
+    let g : reverse (f x ∷ map f xs) ≡ reverse (map f xs) ++ f x ∷ [] = reverse-append (f x ∷ []) (map f xs) in
+    rw (e, map-append, map_reverse f xs, g) refl
+
+pub names_reversed : {X Y : Type 0} (f : X → Y) (xs : List X) → map f xs ≡ reverse (map f (reverse xs))
+names_reversed f xs = rw (map_reverse, reverse-reverse) refl

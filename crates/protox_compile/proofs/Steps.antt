@@ -1,0 +1,118 @@
+-- How a step of the stack goes on or ends a walk.
+use Rattle.std.proofs.Common.{◌≡◌, ◌+◌, ◌<◌, ◌≤◌, ◌∙◌, inl, inr, ◌∷◌, ◌++◌, [], ℕ, List, Bool, true, false, refl, sym, ap, subst, length, take, reverse, arith, add-one}
+use Rattle.std.specs.Prelude.{nat_lt, Option, Some, None}
+use Rattle.std.specs.Str.{bytes_eq}
+use Rattle.pbx_link.specs.declared.error.DescriptorError.{DescriptorError}
+use Rattle.pbx_link.specs.Pool.{is_linkable, IsRefused}
+use Rattle.pbx_link.specs.Rules.{among}
+use Rattle.pbx_parse.specs.declared.error.ParseError.TheVariants as parse
+use Rattle.protox_file.specs.Told.{Told, Lookup, NoFile, IsFile, TextFault, IsLookup, AreLookups}
+use Rattle.protox_file.specs.declared.error.ErrorKind.{ErrorKind}
+use Rattle.protox_file.specs.declared.error.ErrorKind.TheVariants.{Parse, Check, OpenFile, FileTooLarge, FileInvalidUtf8, FileNotFound, ImportNotFound, CircularImport, FileNotIncluded, FileShadowed, DuplicateImport, Custom, NameMismatch, FileLimit, Undecodable, NoMemory}
+use Rattle.std.proofs.lemmas.List.{length-map}
+use Rattle.protox_compile.specs.Walk.{Done, Open, Visited, Faulted, Limit, Unlinked, records, imports_of, done_as, is_done, chain_text}
+use Rattle.protox_compile.specs.Resume.{names_of, resume, past, import_of, IsVisit, AreRightAt, Follows, EndsWalks, LeadsTo}
+use Rattle.protox_compile.specs.Refusals.{Walk, without, Extends, Ends, OrNoMemory, IsToldBy, StopsOpening, IsOpenOf, is_absent}
+use Rattle.protox_compile.proofs.Extends.{resume_extends}
+use Rattle.protox_compile.proofs.Measure.{finishes, stops_unlinked, all_finished}
+use Rattle.protox_compile.proofs.Resume.{resume_duplicate, resume_circular, resume_skip, resume_limit, resume_missing, resume_text, resume_mismatch, resume_visit}
+use Rattle.protox_compile.proofs.Right.{right_all, right_without, absent_there, closed_both, right_below, right_top, right_finished}
+
+pub ends_or : (e told : ErrorKind) (walk : Walk) (lookups : List ℕ → Lookup) (done : List Done) → OrNoMemory e told → Extends done (walk lookups).0 → Ends told walk lookups done → Ends e walk lookups done
+ends_or e told walk lookups done (inl memory) x h = rw memory x
+ends_or e told walk lookups done (inr same) x h = rw same h
+
+module _ (files : List ℕ → Told) (limit : ℕ) where
+  -- what is finished so far begins what the walk finishes
+  pub front : (fs : List Open) (done : List Done) (walk : Walk) (lookups : List ℕ → Lookup) → Follows files walk limit fs done → AreLookups files lookups → Extends done (walk lookups).0
+  front fs done walk lookups follows all = rw (follows lookups (right_all files lookups fs done all)) (resume_extends lookups limit fs done)
+
+  pub ends_memory : (fs : List Open) (done : List Done) → EndsWalks files limit fs done NoMemory done
+  ends_memory fs done walk follows lookups all = front fs done walk lookups follows all
+
+  -- a file is finished
+  pub finish_leads : (f : Open) (fs : List Open) (done now : List Done) → nat_lt f.next (length (imports_of f.entry)) ≡ false → is_linkable (records done) f.entry.file ≡ true → now ≡ done ++ done_as f.name f.entry ∷ [] → LeadsTo files limit (f ∷ fs) done fs now
+  finish_leads f fs done now last links is walk follows lookups right =
+      follows lookups (right_finished files lookups f fs done now is right) ∙ finishes lookups limit f fs done now last links is
+
+  -- a file is not linked
+  pub finish_ends : (f : Open) (fs : List Open) (done : List Done) (error : DescriptorError) → nat_lt f.next (length (imports_of f.entry)) ≡ false → is_linkable (records done) f.entry.file ≡ false → IsRefused (records done) f.entry.file error → EndsWalks files limit (f ∷ fs) done (Check error) done
+  finish_ends f fs done error last links refused walk follows lookups all = record {
+    file = f.entry.file;
+    walk_is = follows lookups (right_all files lookups (f ∷ fs) done all) ∙ stops_unlinked lookups limit f fs done last links;
+    refused = refused;
+  }
+
+  module _ (f : Open) (fs : List Open) (done : List Done) (m : List ℕ) (fits : f.next < length (imports_of f.entry)) (is : m ≡ import_of f) where
+    pub ends_duplicate : (e : ErrorKind) → among (take f.next (imports_of f.entry)) m ≡ true → OrNoMemory e (DuplicateImport f.name f.next None m) → EndsWalks files limit (f ∷ fs) done e done
+    ends_duplicate e d o walk follows lookups all =
+        ends_or e _ walk lookups done o (front (f ∷ fs) done walk lookups follows all) (follows lookups (right_all files lookups (f ∷ fs) done all) ∙ resume_duplicate lookups limit f fs done m fits (sym is) d, refl)
+
+    pub ends_circular : (e : ErrorKind) → among (take f.next (imports_of f.entry)) m ≡ false → among (names_of (f ∷ fs)) m ≡ true → OrNoMemory e (CircularImport m (chain_text (reverse (m ∷ names_of (f ∷ fs))))) → EndsWalks files limit (f ∷ fs) done e done
+    ends_circular e d k o walk follows lookups all =
+        ends_or e _ walk lookups done o (front (f ∷ fs) done walk lookups follows all) (follows lookups (right_all files lookups (f ∷ fs) done all) ∙ resume_circular lookups limit f fs done m fits (sym is) d k)
+
+    pub skip_leads : among (take f.next (imports_of f.entry)) m ≡ false → among (names_of (f ∷ fs)) m ≡ false → is_done done m ≡ true → LeadsTo files limit (f ∷ fs) done (past f ∷ fs) done
+    skip_leads d k h walk follows lookups right =
+        follows lookups right ∙ rw add-one (resume_skip lookups limit f fs done m fits (sym is) d k h)
+
+    module _ (visit : IsVisit f fs done m) where
+      pub ends_limit : limit ≤ length done + length fs + 1 → EndsWalks files limit (f ∷ fs) done (FileLimit limit) done
+      ends_limit h walk follows lookups all =
+          follows lookups (right_all files lookups (f ∷ fs) done all) ∙ resume_limit lookups limit f fs done m fits (sym is) visit.unseen visit.closed visit.new (rw length-map (omega arith))
+
+      module _ (room : length done + length fs + 2 ≤ limit) where
+        inside : length done + length (names_of (f ∷ fs)) + 1 ≤ limit
+        inside = rw length-map (omega arith)
+
+        pub visit_leads : (child : Open) → child.name ≡ m → ((lookup : Lookup) → IsLookup m (files m) lookup → IsOpenOf lookup m child) → LeadsTo files limit (f ∷ fs) done (child ∷ past f ∷ fs) done
+        visit_leads child named opens walk follows lookups right =
+            let o : IsOpenOf (lookups m) m child = opens (lookups m) (right_top files lookups child (past f ∷ fs) done m named right) in
+            let e : child ≡ record { name = m; entry = child.entry; next = 0 } = rw (← o.name_is, ← o.next_is) refl in
+            follows lookups (right_below files lookups child f fs done right)
+            ∙ rw (e, add-one) (resume_visit lookups limit f fs done m fits (sym is) visit.unseen visit.closed visit.new inside child.entry o.lookup_is o.declared)
+
+        missing : (lookups : List ℕ → Lookup) → lookups m ≡ NoFile → (resume lookups limit (f ∷ fs) done).0 ≡ done
+        missing lookups e = ap (λ (w : List Done × Visited). w.0) (resume_missing lookups limit f fs done m fits (sym is) visit.unseen visit.closed visit.new inside e)
+
+        module _ (walk : Walk) (follows : Follows files walk limit (f ∷ fs) done) (lookups : List ℕ → Lookup) (all : AreLookups files lookups) where
+          at_once : walk lookups ≡ resume lookups limit (f ∷ fs) done
+          at_once = follows lookups (right_all files lookups (f ∷ fs) done all)
+
+          -- the walk where the import has no file
+          failed : (walk (without m lookups)).0 ≡ done
+          failed =
+              let right : AreRightAt files (without m lookups) (f ∷ fs) done = right_without files lookups (f ∷ fs) done m (closed_both (f ∷ fs) done m visit.closed visit.new) all in
+              ap (λ (w : List Done × Visited). w.0) (follows (without m lookups) right) ∙ missing (without m lookups) (absent_there m lookups)
+
+          stops : (error : ErrorKind) → is_absent error ≡ false → StopsOpening (lookups m) m None error → Ends error walk lookups done
+          stops (Parse (parse.Syntax file line column expected found)) a s = rw s.0 (at_once ∙ resume_text lookups limit f fs done m fits (sym is) visit.unseen visit.closed visit.new inside 1 s.1)
+          stops (Parse parse.NoMemory) a s = s
+          stops (Check error) a s = absurd s
+          stops (OpenFile file path fault) a s = record { front = front (f ∷ fs) done walk lookups follows all; exact = rw s failed }
+          stops (FileTooLarge file) a s = rw s.0 (at_once ∙ resume_text lookups limit f fs done m fits (sym is) visit.unseen visit.closed visit.new inside 4 s.1)
+          stops (FileInvalidUtf8 file) a s = rw s.0 (at_once ∙ resume_text lookups limit f fs done m fits (sym is) visit.unseen visit.closed visit.new inside 5 s.1)
+          stops (FileNotFound file) a s = absurd (cc)
+          stops (ImportNotFound x i p y) a s = absurd s
+          stops (CircularImport y cycle) a s = absurd s
+          stops (FileNotIncluded path) a s = absurd s
+          stops (FileShadowed y path shadow) a s = absurd (cc (s.1.asked_is))
+          stops (DuplicateImport x i p y) a s = absurd s
+          stops (Custom text is_io) a s = front (f ∷ fs) done walk lookups follows all
+          stops (NameMismatch asked declared) a s = rw (s.0, s.1.declared_is) (at_once ∙ resume_mismatch lookups limit f fs done m fits (sym is) visit.unseen visit.closed visit.new inside s.1.entry s.1.lookup_is s.1.other)
+          stops (FileLimit l) a s = absurd s
+          stops (Undecodable file) a s = absurd s
+          stops NoMemory a s = front (f ∷ fs) done walk lookups follows all
+
+          absent_told : (error : ErrorKind) → is_absent error ≡ true → StopsOpening (lookups m) m None error → lookups m ≡ NoFile
+          absent_told (FileNotFound file) a s = s
+          absent_told _ a s = absurd (cc)
+
+          pub ends_import : (error answer : ErrorKind) → IsToldBy (ImportNotFound f.name f.next None m) error answer → StopsOpening (lookups m) m None error → Ends answer walk lookups done
+          ends_import error answer k s = by_case (is_absent error) refl
+            where
+              by_case : (b : Bool) → is_absent error ≡ b → Ends answer walk lookups done
+              by_case true e =
+                  ends_or answer _ walk lookups done (k.absent e) (front (f ∷ fs) done walk lookups follows all)
+                  (at_once ∙ resume_missing lookups limit f fs done m fits (sym is) visit.unseen visit.closed visit.new inside (absent_told error e s), refl)
+              by_case false e = rw (k.other e) (stops error e s)

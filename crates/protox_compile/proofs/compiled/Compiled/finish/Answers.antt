@@ -1,0 +1,30 @@
+use Rattle.std.proofs.Common.{◌≡◌, ◌∙◌, ap, true, refl}
+use Rattle.pbx_desc.specs.declared.file.FileDescriptorProto.{FileDescriptorProto}
+use Rattle.protox_file.specs.Metadata.{Metadata}
+use Rattle.protox_file.specs.Told.{Entry}
+use Rattle.pbx_link.specs.Pool.{IsRefused}
+use Rattle.protox_compile.specs.Compiled.{IsUnlinked}
+use Rattle.protox_compile.proofs.Recorded.{IsFinished, finished, records_known, refused_is_unlinked}
+use Rattle.protox_compile.proofs.compiled.Compiled.finish.Goals as goal
+
+one_more : (c : goal.In-Ok) → IsFinished c.self.inside.files.items c.add.new.files.items c.self.inside.pool c.add_file_descriptor_proto.new.self c.args.frame
+one_more c =
+    let given : c.into_file_descriptor_proto.result ≡ c.args.frame.entry.file = c.into_file_descriptor_proto.ensures ∙ ap (λ (e : Entry). e.file) c.into_parts-name.ensures.file in
+    let told : c.new.result ≡ record { name = c.args.frame.name; path = c.args.frame.entry.path; is_import = true } = rw (c.new.ensures, c.in_ok-path.ensures, c.into_parts-name.ensures.file, c.into_parts-name.ensures.name) refl in
+    finished c.self.inside.files.items c.add.new.files.items c.self.inside.pool c.add_file_descriptor_proto.new.self c.new.result c.into_file_descriptor_proto.result c.args.frame
+    c.self.invariant c.in_ok-add.ensures.ok c.in-Ok.ensures.added given told c.in-Ok.ensures.accepted c.into_parts-name.ensures.declared
+
+pub invariant_of-self-in-Ok : goal.invariant_of-self-in-Ok
+invariant_of-self-in-Ok c = (one_more c).recorded
+
+pub returns-in-Ok-clause-ok : goal.returns-in-Ok-clause-ok
+returns-in-Ok-clause-ok c = rw (← c.self.view_is) (one_more c).done
+
+pub returns-in-Ok-clause-linked : goal.returns-in-Ok-clause-linked
+returns-in-Ok-clause-linked c = rw (← c.self.view_is) (one_more c).linked_is
+
+pub returns-in-Err-clause-refused : goal.returns-in-Err-clause-refused
+returns-in-Err-clause-refused c =
+    let given : c.into_file_descriptor_proto.result ≡ c.args.frame.entry.file = c.into_file_descriptor_proto.ensures ∙ ap (λ (e : Entry). e.file) c.into_parts-name.ensures.file in
+    let refused : IsRefused c.self.inside.pool c.args.frame.entry.file c.in-Err.error = rw given at c.in-Err.ensures.refused in
+    rw (← c.self.view_is, records_known c.self.inside.files.items c.self.inside.pool c.self.invariant, c.from.ensures) (refused_is_unlinked c.self.inside.pool c.args.frame.entry.file c.in-Err.error refused)

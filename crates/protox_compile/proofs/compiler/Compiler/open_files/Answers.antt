@@ -1,0 +1,34 @@
+use Rattle.std.proofs.Common.{◌≡◌, ◌∙◌, IsTrue, arith, rules}
+use Rattle.protox_file.specs.Told.{AreLookups}
+use Rattle.protox_compile.specs.Closures.{StopsAt}
+use Rattle.protox_compile.proofs.Closures.{accepts, stops_at}
+use Rattle.protox_compile.proofs.compiler.Compiler.open_files.Goals as goal
+
+pub returns-in-Err-clause-err : goal.returns-in-Err-clause-err
+returns-in-Err-clause-err g c tells lookups all =
+    let told : IsTrue (g.R.FileResolver.tells c.loop-path.self.resolver) = rw c.loop-path.invariant.tells tells in
+    let looked : AreLookups (g.R.FileResolver.files c.loop-path.self.resolver) lookups = rw (c.loop-path.invariant.files tells) all in
+    let stops : StopsAt lookups (g.R.FileResolver.resolves c.args.self.now.resolver) c.args.self.now.limit c.as_slice-path-items.result.now c.args.self.now.done c.open_file.new.self.done c.in-Err.error
+        = stops_at lookups (g.R.FileResolver.resolves c.args.self.now.resolver) c.args.self.now.limit c.as_slice-path-items.result.now c.loop-path.path-index c.path-item.result (search rules) c.path-item.is
+        c.args.self.now.done c.loop-path.self.done (c.loop-path.invariant.before tells lookups all) _ _
+        (rw (c.loop-path.invariant.resolves tells, c.loop-path.invariant.limit, c.as_str.ensures) at (c.in-Err.ensures.err told lookups looked)) in
+    rw (← c.as_slice-path-items.ensures) stops
+
+pub loop-path-preserved : goal.loop-path-preserved
+loop-path-preserved g c = record {
+  limit = c.in-Ok.ensures.limit ∙ c.loop-path.invariant.limit;
+  tells = c.in-Ok.ensures.keeps_tells ∙ c.loop-path.invariant.tells;
+  files = λ tells.
+      let told : IsTrue (g.R.FileResolver.tells c.loop-path.self.resolver) = rw c.loop-path.invariant.tells tells in
+      c.in-Ok.ensures.keeps_files told ∙ c.loop-path.invariant.files tells;
+  resolves = λ tells.
+      let told : IsTrue (g.R.FileResolver.tells c.loop-path.self.resolver) = rw c.loop-path.invariant.tells tells in
+      c.in-Ok.ensures.keeps_resolves told ∙ c.loop-path.invariant.resolves tells;
+  later = omega (arith, c.loop-path.invariant.later, c.in-Ok.ensures.later);
+  before = λ tells lookups all.
+      let told : IsTrue (g.R.FileResolver.tells c.loop-path.self.resolver) = rw c.loop-path.invariant.tells tells in
+      let looked : AreLookups (g.R.FileResolver.files c.loop-path.self.resolver) lookups = rw (c.loop-path.invariant.files tells) all in
+      accepts lookups (g.R.FileResolver.resolves c.args.self.now.resolver) c.args.self.now.limit c.as_slice-path-items.result.now c.loop-path.path-index c.path-item.result (search rules) c.path-item.is
+      c.args.self.now.done c.loop-path.self.done (c.loop-path.invariant.before tells lookups all) _
+      (rw (c.loop-path.invariant.resolves tells, c.loop-path.invariant.limit, c.as_str.ensures) at (c.in-Ok.ensures.ok told lookups looked));
+}

@@ -1,0 +1,15 @@
+use Rattle.std.proofs.Common.{◌≡◌, ◌≤◌, ℕ, List, IsTrue, take}
+use Rattle.protox_file.specs.Told.{Lookup, AreLookups}
+use Rattle.protox_compile.specs.Opening.{closure, Accepted}
+use Rattle.protox_compile.proofs.compiler.Compiler.open_files.Given as goal
+
+abbrev pub invariant-loop-path : goal.invariant-loop-path
+invariant-loop-path g l = record {
+  limit : l.self.limit ≡ l.fn.self.limit;
+  tells : g.R.FileResolver.tells l.self.resolver ≡ g.R.FileResolver.tells l.fn.self.resolver;
+  files : IsTrue (g.R.FileResolver.tells l.fn.self.resolver) → g.R.FileResolver.files l.self.resolver ≡ g.R.FileResolver.files l.fn.self.resolver;
+  resolves : IsTrue (g.R.FileResolver.tells l.fn.self.resolver) → g.R.FileResolver.resolves l.self.resolver ≡ g.R.FileResolver.resolves l.fn.self.resolver;
+  later : g.R.FileResolver.faults l.fn.self.resolver ≤ g.R.FileResolver.faults l.self.resolver;
+  before : IsTrue (g.R.FileResolver.tells l.fn.self.resolver) → (lookups : List ℕ → Lookup) → AreLookups (g.R.FileResolver.files l.fn.self.resolver) lookups
+      → closure lookups (g.R.FileResolver.resolves l.fn.self.resolver) l.fn.self.limit (take l.path-index l.path-items) l.fn.self.done ≡ (l.self.done, Accepted);
+}

@@ -1,0 +1,33 @@
+use Rattle.std.proofs.Common.{◌≡◌, ◌≤◌, ◌+◌, ◌∷◌, [], rules, length, IsTrue}
+use Rattle.protox_compile.specs.Refusals.{IsUnshadowed}
+use Rattle.protox_compile.specs.Resume.{Follows}
+use Rattle.protox_compile.specs.Opening.{asked_path}
+use Rattle.protox_compile.specs.Walk.{Open}
+use Rattle.protox_file.specs.Told.{Told}
+use Rattle.protox_compile.proofs.Roots.{root_limit, root_follows, root_stops, root_walk}
+use Rattle.protox_compile.proofs.Walks.{later_files, later_ends}
+use Rattle.protox_compile.proofs.walk.visit_root.Goals as goal
+
+pub returns-then-len-limit-clause-err : goal.returns-then-len-limit-clause-err
+returns-then-len-limit-clause-err g c tells lookups all = rw c.too_many.ensures (root_limit c.args.limit (asked_path c.args.resolved c.args.path.now) c.args.root.now c.args.done.now lookups (search rules))
+
+pub returns-in-Ok-clause-ok : goal.returns-in-Ok-clause-ok
+returns-in-Ok-clause-ok g c tells lookups all =
+    let room : length c.args.done.now + 1 ≤ c.args.limit = search rules in
+    let told : IsTrue (g.R.FileResolver.tells c.open_frame.new.resolver) = rw c.open_frame.ensures.keeps_tells tells in
+    let follows : Follows (g.R.FileResolver.files c.args.resolver.now) (root_walk c.args.limit (asked_path c.args.resolved c.args.path.now) c.args.root.now c.args.done.now) c.args.limit (c.in-Ok.frame ∷ []) c.args.done.now
+        = root_follows c.args.limit (asked_path c.args.resolved c.args.path.now) c.args.root.now c.args.done.now room (g.R.FileResolver.files c.args.resolver.now) c.in-Ok.frame c.in-Ok.ensures.fresh.0 (c.in-Ok.ensures.opened tells) c.in-Ok.ensures.unshadowed in
+    later_files (g.R.FileResolver.files c.args.resolver.now) (g.R.FileResolver.files c.open_frame.new.resolver) _ _ _ _ _ _ lookups (c.open_frame.ensures.keeps_files tells) (c.finish_all.ensures.ok told) follows all
+
+pub returns-in-Ok-clause-err : goal.returns-in-Ok-clause-err
+returns-in-Ok-clause-err g c tells lookups all =
+    let room : length c.args.done.now + 1 ≤ c.args.limit = search rules in
+    let told : IsTrue (g.R.FileResolver.tells c.open_frame.new.resolver) = rw c.open_frame.ensures.keeps_tells tells in
+    let follows : Follows (g.R.FileResolver.files c.args.resolver.now) (root_walk c.args.limit (asked_path c.args.resolved c.args.path.now) c.args.root.now c.args.done.now) c.args.limit (c.in-Ok.frame ∷ []) c.args.done.now
+        = root_follows c.args.limit (asked_path c.args.resolved c.args.path.now) c.args.root.now c.args.done.now room (g.R.FileResolver.files c.args.resolver.now) c.in-Ok.frame c.in-Ok.ensures.fresh.0 (c.in-Ok.ensures.opened tells) c.in-Ok.ensures.unshadowed in
+    later_ends (g.R.FileResolver.files c.args.resolver.now) (g.R.FileResolver.files c.open_frame.new.resolver) c.args.limit _ _ _ c.finish_all.result _ lookups (c.open_frame.ensures.keeps_files tells) (c.finish_all.ensures.err told) follows all
+
+pub returns-in-Err-clause-err : goal.returns-in-Err-clause-err
+returns-in-Err-clause-err g c tells lookups all =
+    let room : length c.args.done.now + 1 ≤ c.args.limit = search rules in
+    root_stops c.args.limit (asked_path c.args.resolved c.args.path.now) c.args.root.now c.args.done.now room lookups c.in-Err.error (c.in-Err.ensures.stopped tells (lookups c.args.root.now) (all c.args.root.now))

@@ -1,0 +1,202 @@
+-- What an error says of a walk and of an opening.
+use Rattle.std.specs.Prelude.{◌≡◌, ◌++◌, ◌⊎◌, ℕ, List, Bool, true, false, not, if◌then◌else◌, Option, Some, None}
+use Rattle.std.specs.List.{list_all}
+use Rattle.std.specs.Str.{bytes_eq}
+use Rattle.pbx_desc.specs.declared.file.FileDescriptorProto.{FileDescriptorProto}
+use Rattle.pbx_link.specs.declared.error.DescriptorError.{DescriptorError}
+use Rattle.pbx_link.specs.Pool.{IsRefused}
+use Rattle.pbx_parse.specs.declared.error.ParseError.TheVariants as parse
+use Rattle.protox_file.specs.Paths.{path_equal}
+use Rattle.protox_file.specs.Told.{Entry, Lookup, NoFile, IsFile, TextFault}
+use Rattle.protox_file.specs.declared.error.ErrorKind.{ErrorKind}
+use Rattle.protox_file.specs.declared.error.ErrorKind.TheVariants.{Parse, Check, OpenFile, FileTooLarge, FileInvalidUtf8, FileNotFound, ImportNotFound, CircularImport, FileNotIncluded, FileShadowed, DuplicateImport, Custom, NameMismatch, FileLimit, Undecodable, NoMemory}
+use Rattle.protox_compile.specs.Walk.{Open, Done, Fault, Limit, Text, Mismatch, Shadowed, Duplicate, Circular, NoImport, Unlinked, Visited, Missing, Faulted, records, declared_name}
+use Rattle.protox_compile.specs.Opening.{Opened, NotIncluded, Refused}
+
+-- a walk, by what looking names up comes to
+abbrev pub Walk : Type 0
+Walk = (List ℕ → Lookup) → List Done × Visited
+
+-- the same look-ups, with one name that has no file
+abbrev pub without : List ℕ → (List ℕ → Lookup) → List ℕ → Lookup
+without n lookups m = if bytes_eq m n then NoFile else lookups m
+
+-- a file that was only imported
+abbrev pub is_imported : Done → Bool
+is_imported d = not d.opened
+
+-- the second list begins with the first
+pub record Extends (old new : List Done) : Type 0 where
+  pub more : List Done
+  pub is : new ≡ old ++ more
+
+-- more files stand behind the old ones, as imports
+pub record Grows (old new : List Done) : Type 0 where
+  pub more : List Done
+  pub is : new ≡ old ++ more
+  pub imported : list_all is_imported more ≡ true
+
+-- the record is not linked among the finished files, for this reason
+pub record StopsLinking (error : DescriptorError) (walk : List Done × Visited) (done : List Done) : Type 0 where
+  pub file : FileDescriptorProto
+  pub walk_is : walk ≡ (done, Faulted (Unlinked file))
+  pub refused : IsRefused (records done) file error
+
+-- reading the name failed: the files are those that the walk finishes where the name has no file, and begin those that it finishes
+pub record StopsAtName (n : List ℕ) (walk : Walk) (lookups : List ℕ → Lookup) (done : List Done) : Type 0 where
+  pub front : Extends done (walk lookups).0
+  pub exact : (walk (without n lookups)).0 ≡ done
+
+-- How a walk ended, by the error that was answered: a fault is the walk's own, with the files that it finished before it; after a fault
+-- of the resolver and want of memory there are some of them. No record has the places of its imports so far.
+abbrev pub Ends : ErrorKind → Walk → (List ℕ → Lookup) → List Done → Type 0
+Ends (Parse (parse.Syntax file line column expected found)) walk lookups done = walk lookups ≡ (done, Faulted (Text file 1))
+Ends (Parse parse.NoMemory) walk lookups done = ⊥
+Ends (Check error) walk lookups done = StopsLinking error (walk lookups) done
+Ends (OpenFile name path fault) walk lookups done = StopsAtName name walk lookups done
+Ends (FileTooLarge name) walk lookups done = walk lookups ≡ (done, Faulted (Text name 4))
+Ends (FileInvalidUtf8 name) walk lookups done = walk lookups ≡ (done, Faulted (Text name 5))
+Ends (FileNotFound name) walk lookups done = walk lookups ≡ (done, Missing)
+Ends (ImportNotFound file index place name) walk lookups done = (walk lookups ≡ (done, Faulted (NoImport file index name))) × (place ≡ None)
+Ends (CircularImport name cycle) walk lookups done = walk lookups ≡ (done, Faulted (Circular name cycle))
+Ends (FileNotIncluded path) walk lookups done = ⊥
+Ends (FileShadowed name path shadow) walk lookups done = walk lookups ≡ (done, Faulted (Shadowed name path shadow))
+Ends (DuplicateImport file index place name) walk lookups done = (walk lookups ≡ (done, Faulted (Duplicate file index name))) × (place ≡ None)
+Ends (Custom text is_io) walk lookups done = Extends done (walk lookups).0
+Ends (NameMismatch asked declared) walk lookups done = walk lookups ≡ (done, Faulted (Mismatch asked declared))
+Ends (FileLimit limit) walk lookups done = walk lookups ≡ (done, Faulted (Limit limit))
+Ends (Undecodable file) walk lookups done = ⊥
+Ends NoMemory walk lookups done = Extends done (walk lookups).0
+
+-- only a fault of the resolver has a cause outside of the walk, and it has this one
+abbrev pub HasStepCause : Type 0 → ErrorKind → Type 0
+HasStepCause rose (OpenFile name path fault) = rose
+HasStepCause rose (Custom text is_io) = rose
+HasStepCause rose (FileNotIncluded path) = ⊥
+HasStepCause rose (Undecodable file) = ⊥
+HasStepCause rose kind = Unit {0}
+
+-- this error, or want of memory in its place
+abbrev pub OrNoMemory : ErrorKind → ErrorKind → Type 0
+OrNoMemory error told = (error ≡ NoMemory) ⊎ (error ≡ told)
+
+-- the error that no file has the name
+abbrev pub is_absent : ErrorKind → Bool
+is_absent (FileNotFound name) = true
+is_absent kind = false
+
+-- the error of an import or a root, made of the error at its opening: what is missing is told otherwise
+pub record IsToldBy (missing : ErrorKind) (error answer : ErrorKind) : Type 0 where
+  pub absent : is_absent error ≡ true → OrNoMemory answer missing
+  pub other : is_absent error ≡ false → answer ≡ error
+
+-- the name has just been opened
+pub record IsOpenOf (lookup : Lookup) (name : List ℕ) (f : Open) : Type 0 where
+  pub lookup_is : lookup ≡ IsFile f.entry
+  pub declared : bytes_eq (declared_name f.entry) name ≡ true
+  pub name_is : f.name ≡ name
+  pub next_is : f.next ≡ 0
+
+-- a root that was asked by this path has that path, or none
+abbrev pub IsUnshadowed : Option (List ℕ) → Option (List ℕ) → Type 0
+IsUnshadowed None path = Unit {0}
+IsUnshadowed (Some asked) None = Unit {0}
+IsUnshadowed (Some asked) (Some path) = path_equal path asked ≡ true
+
+-- the declared name is another
+pub record Declares (lookup : Lookup) (name declared : List ℕ) : Type 0 where
+  pub entry : Entry
+  pub lookup_is : lookup ≡ IsFile entry
+  pub other : bytes_eq (declared_name entry) name ≡ false
+  pub declared_is : declared ≡ declared_name entry
+
+-- the file has another path than the one that was asked
+pub record IsShadowed (lookup : Lookup) (name : List ℕ) (asked : Option (List ℕ)) (path shadow : List ℕ) : Type 0 where
+  pub entry : Entry
+  pub lookup_is : lookup ≡ IsFile entry
+  pub declared : bytes_eq (declared_name entry) name ≡ true
+  pub asked_is : asked ≡ Some path
+  pub path_is : entry.path ≡ Some shadow
+  pub other : path_equal shadow path ≡ false
+
+-- why a name that looks up to this was not opened
+abbrev pub StopsOpening : Lookup → List ℕ → Option (List ℕ) → ErrorKind → Type 0
+StopsOpening lookup name asked (Parse (parse.Syntax file line column expected found)) = (file ≡ name) × (lookup ≡ TextFault 1)
+StopsOpening lookup name asked (Parse parse.NoMemory) = ⊥
+StopsOpening lookup name asked (Check error) = ⊥
+StopsOpening lookup name asked (OpenFile file path fault) = file ≡ name
+StopsOpening lookup name asked (FileTooLarge file) = (file ≡ name) × (lookup ≡ TextFault 4)
+StopsOpening lookup name asked (FileInvalidUtf8 file) = (file ≡ name) × (lookup ≡ TextFault 5)
+StopsOpening lookup name asked (FileNotFound file) = lookup ≡ NoFile
+StopsOpening lookup name asked (ImportNotFound file index place n) = ⊥
+StopsOpening lookup name asked (CircularImport n cycle) = ⊥
+StopsOpening lookup name asked (FileNotIncluded path) = ⊥
+StopsOpening lookup name asked (FileShadowed n path shadow) = (n ≡ name) × IsShadowed lookup name asked path shadow
+StopsOpening lookup name asked (DuplicateImport file index place n) = ⊥
+StopsOpening lookup name asked (Custom text is_io) = Unit {0}
+StopsOpening lookup name asked (NameMismatch n declared) = (n ≡ name) × Declares lookup name declared
+StopsOpening lookup name asked (FileLimit limit) = ⊥
+StopsOpening lookup name asked (Undecodable file) = ⊥
+StopsOpening lookup name asked NoMemory = Unit {0}
+
+-- only a fault of the resolver has a cause outside of the name, and it has this one; some kinds never come
+abbrev pub HasOpenCause : Type 0 → ErrorKind → Type 0
+HasOpenCause rose (OpenFile name path fault) = rose
+HasOpenCause rose (Custom text is_io) = rose
+HasOpenCause rose (Check error) = ⊥
+HasOpenCause rose (ImportNotFound file index place name) = ⊥
+HasOpenCause rose (CircularImport name cycle) = ⊥
+HasOpenCause rose (FileNotIncluded path) = ⊥
+HasOpenCause rose (DuplicateImport file index place name) = ⊥
+HasOpenCause rose (FileLimit limit) = ⊥
+HasOpenCause rose (Undecodable file) = ⊥
+HasOpenCause rose kind = Unit {0}
+
+-- how an opening was refused: reading the name failed
+pub record FailsAtName (n : List ℕ) (files : (List ℕ → Lookup) → List Done) (lookups : List ℕ → Lookup) (later : List Done) : Type 0 where
+  pub front : Extends later (files lookups)
+  pub exact : files (without n lookups) ≡ later
+
+-- the record is not linked among the finished files, for this reason
+pub record RefusesLinking (error : DescriptorError) (opened : List Done × Opened) (later : List Done) : Type 0 where
+  pub file : FileDescriptorProto
+  pub opened_is : opened ≡ (later, Refused (Unlinked file))
+  pub refused : IsRefused (records later) file error
+
+-- The error that an opening of the path was refused with, and the files that it left: `files` are those that it would finish, `opened` is
+-- what it comes to.
+abbrev pub RefusesWith : List ℕ → ((List ℕ → Lookup) → List Done) → List Done × Opened → (List ℕ → Lookup) → List Done → ErrorKind → Type 0
+RefusesWith path files opened lookups later (Parse (parse.Syntax file line column expected found)) = opened ≡ (later, Refused (Text file 1))
+RefusesWith path files opened lookups later (Parse parse.NoMemory) = ⊥
+RefusesWith path files opened lookups later (Check error) = RefusesLinking error opened later
+RefusesWith path files opened lookups later (OpenFile name p fault) = FailsAtName name files lookups later
+RefusesWith path files opened lookups later (FileTooLarge name) = opened ≡ (later, Refused (Text name 4))
+RefusesWith path files opened lookups later (FileInvalidUtf8 name) = opened ≡ (later, Refused (Text name 5))
+RefusesWith path files opened lookups later (FileNotFound name) = ⊥
+RefusesWith path files opened lookups later (ImportNotFound file index place name) = (opened ≡ (later, Refused (NoImport file index name))) × (place ≡ None)
+RefusesWith path files opened lookups later (CircularImport name cycle) = opened ≡ (later, Refused (Circular name cycle))
+RefusesWith path files opened lookups later (FileNotIncluded p) = (p ≡ path) × (opened ≡ (later, NotIncluded))
+RefusesWith path files opened lookups later (FileShadowed name asked shadow) = opened ≡ (later, Refused (Shadowed name asked shadow))
+RefusesWith path files opened lookups later (DuplicateImport file index place name) = (opened ≡ (later, Refused (Duplicate file index name))) × (place ≡ None)
+RefusesWith path files opened lookups later (Custom text is_io) = Extends later (files lookups)
+RefusesWith path files opened lookups later (NameMismatch asked declared) = opened ≡ (later, Refused (Mismatch asked declared))
+RefusesWith path files opened lookups later (FileLimit limit) = opened ≡ (later, Refused (Limit limit))
+RefusesWith path files opened lookups later (Undecodable file) = ⊥
+RefusesWith path files opened lookups later NoMemory = Extends later (files lookups)
+
+-- what is known of the error over every resolver: a fault of its own has this cause, and some kinds never come
+abbrev pub HasOpeningCause : List ℕ → Type 0 → ErrorKind → Type 0
+HasOpeningCause path rose (OpenFile name p fault) = rose
+HasOpeningCause path rose (Custom text is_io) = rose
+HasOpeningCause path rose (FileNotFound name) = ⊥
+HasOpeningCause path rose (FileNotIncluded p) = p ≡ path
+HasOpeningCause path rose (Undecodable file) = ⊥
+HasOpeningCause path rose kind = Unit {0}
+
+-- the same, of one of several paths
+abbrev pub HasOpeningsCause : Type 0 → ErrorKind → Type 0
+HasOpeningsCause rose (OpenFile name p fault) = rose
+HasOpeningsCause rose (Custom text is_io) = rose
+HasOpeningsCause rose (FileNotFound name) = ⊥
+HasOpeningsCause rose (Undecodable file) = ⊥
+HasOpeningsCause rose kind = Unit {0}

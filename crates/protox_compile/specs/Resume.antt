@@ -1,0 +1,66 @@
+-- What is left of a walk whose open files stand on a stack, the innermost first.
+use Rattle.std.specs.Prelude.{◌≡◌, ◌+◌, ◌∷◌, [], ℕ, List, Bool, true, false, ◌||◌, map, take, drop, slice_index_or, Option, None}
+use Rattle.pbx_link.specs.Rules.{among}
+use Rattle.protox_file.specs.Told.{Told, Lookup, IsLookup, AreLookups}
+use Rattle.protox_compile.specs.Walk.{Done, Fault, Visited, Finished, Missing, Faulted, Open, imports_of, is_done, visit_imports, finish, visits}
+use Rattle.protox_file.specs.declared.error.ErrorKind.{ErrorKind}
+use Rattle.protox_compile.specs.Refusals.{Walk, Ends}
+use Rattle.protox_compile.specs.declared.step.Import.{Import}
+use Rattle.protox_compile.specs.declared.step.Import.TheVariants.{Finished as FinishedImport, Visit}
+
+abbrev pub names_of : List Open → List (List ℕ)
+names_of fs = map (λ (f : Open). f.name) fs
+
+-- the imports that an open file has left
+abbrev pub imports_left : (List ℕ → Lookup) → ℕ → List (List ℕ) → Open → List Done → List Done × Option Fault
+imports_left lookups limit chain f done = visit_imports (λ d m. visits lookups limit (f.name ∷ chain) None m d) (f.name ∷ chain) f.name (take f.next (imports_of f.entry)) (drop f.next (imports_of f.entry)) done
+
+abbrev pub go_on : List Done × Visited → (List Done → List Done × Visited) → List Done × Visited
+go_on (done, Finished) rest = rest done
+go_on (done, Missing) rest = (done, Missing)
+go_on (done, Faulted fault) rest = (done, Faulted fault)
+
+-- the end of the walk, where these files are open, the innermost first
+unfoldable pub resume : (List ℕ → Lookup) → ℕ → List Open → List Done → List Done × Visited
+resume lookups limit [] done = (done, Finished)
+resume lookups limit (f ∷ fs) done = go_on (finish f.name f.entry (imports_left lookups limit (names_of fs) f done)) (resume lookups limit fs)
+
+-- past the import that comes next
+abbrev pub past : Open → Open
+past f = record f { next = f.next + 1 }
+
+-- the import that comes next
+abbrev pub import_of : Open → List ℕ
+import_of f = slice_index_or (imports_of f.entry) f.next []
+
+-- the import that comes next is to be visited
+pub record IsVisit (f : Open) (fs : List Open) (done : List Done) (name : List ℕ) : Type 0 where
+  pub name_is : name ≡ import_of f
+  pub unseen : among (take f.next (imports_of f.entry)) name ≡ false
+  pub closed : among (names_of (f ∷ fs)) name ≡ false
+  pub new : is_done done name ≡ false
+
+-- a file of this name was opened: it is open or finished
+abbrev pub was_opened : List Open → List Done → List ℕ → Bool
+was_opened fs done name = among (names_of fs) name || is_done done name
+
+-- the look-ups are right at each file that was opened
+abbrev pub AreRightAt : (List ℕ → Told) → (List ℕ → Lookup) → List Open → List Done → Type 0
+AreRightAt files lookups fs done = (name : List ℕ) → was_opened fs done name ≡ true → IsLookup name (files name) (lookups name)
+
+-- what a walk comes to is what is left of it on the stack
+abbrev pub Follows : (List ℕ → Told) → Walk → ℕ → List Open → List Done → Type 0
+Follows files walk limit fs done = (lookups : List ℕ → Lookup) → AreRightAt files lookups fs done → walk lookups ≡ resume lookups limit fs done
+
+-- every walk that has this left on the stack ends so by the error
+abbrev pub EndsWalks : (List ℕ → Told) → ℕ → List Open → List Done → ErrorKind → List Done → Type 0
+EndsWalks files limit fs done error later = (walk : Walk) → Follows files walk limit fs done → (lookups : List ℕ → Lookup) → AreLookups files lookups → Ends error walk lookups later
+
+-- every walk that has the one left has the other left
+abbrev pub LeadsTo : (List ℕ → Told) → ℕ → List Open → List Done → List Open → List Done → Type 0
+LeadsTo files limit fs done gs later = (walk : Walk) → Follows files walk limit fs done → Follows files walk limit gs later
+
+-- what an import asks for
+abbrev pub AdvancesOrVisits : Open → List Open → List Done → Import → Type 0
+AdvancesOrVisits f fs done FinishedImport = (files : List ℕ → Told) (limit : ℕ) → LeadsTo files limit (f ∷ fs) done (past f ∷ fs) done
+AdvancesOrVisits f fs done (Visit name) = IsVisit f fs done name

@@ -1,0 +1,165 @@
+//! The compiler: files and all that they import.
+
+ghost use Rattle.std.specs.Prelude.{◌≡◌, ◌≤◌, [], IfOk, IfErr, OnOk, OnErr, IsTrue, List, ℕ, map, min};
+ghost use Rattle.std.specs.Slice.Iter.{iter_rest};
+ghost use Rattle.protox_io.specs.Count.{Rose};
+ghost use Rattle.protox_file.specs.Told.{Lookup, AreLookups};
+ghost use Rattle.protox_compile.specs.Walk.{is_done, records};
+ghost use Rattle.protox_compile.specs.Opening.{opening, closure, root_of, grown, Accepted};
+ghost use Rattle.protox_compile.specs.Refusals.{RefusesWith, HasOpeningCause, HasOpeningsCause, Grows};
+ghost use Rattle.protox_compile.specs.State.{Opens, IsLeftOut};
+ghost use Rattle.protox_compile.specs.Closures.{StopsAt};
+ghost use Rattle.protox_compile.specs.Compiled.{IsOrdered, metadata_of};
+
+use crate::compiled::Compiled;
+use crate::root::open_path;
+use pbx_link::DescriptorPool;
+use pbx_wire::Texts;
+use protox_file::{Error, FileMetadata, FileResolver};
+use std::alloc::Global;
+use std::marker::Model;
+
+// The most files, those that are open and those that are finished together.
+const MOST_FILES: u32 = 65536;
+
+/// Files in order, each with all that it imports before it, of one resolver.
+#[derive(Drop)]
+pub struct Compiler<R> {
+    resolver: R,
+    compiled: Compiled,
+    limit: u32,
+    alloc: Global,
+}
+
+impl<R> Model for Compiler<R> {
+    ghost use Rattle.std.specs.Coded.{codes};
+    ghost use Rattle.pbx_wire.specs.contracts.rec.Rec as rec;
+    ghost use Rattle.protox_compile.specs.State.{State};
+
+    ghost Value = { State R };
+
+    ghost coded = { Prim.hlevel (codes, rec.the_row.coded, R.code) };
+
+    ghost view = { λ c. record { resolver = c.resolver; done = c.compiled; limit = c.limit } };
+}
+
+impl<R: FileResolver> Compiler<R> {
+    /// No files, of a resolver. Hands the resolver back where memory runs out.
+    pub fn with_file_resolver(alloc: Global, resolver: R) -> Result<Compiler<R>, R>
+        ensures ok { IfOk result (λ compiler. compiler ≡ record { resolver = resolver; done = []; limit = 65536 }) }
+        ensures err { IfErr result (λ back. back ≡ resolver) }
+    {
+        match Compiled::new(alloc) {
+            Ok(compiled) => Ok(Compiler {
+                resolver,
+                compiled,
+                limit: MOST_FILES,
+                alloc,
+            }),
+            Err(_) => Err(resolver),
+        }
+    }
+
+    /// Sets how many files there may be, those that are open and those that are finished together; more than 65,536 is
+    /// 65,536. Files that are there stay.
+    pub fn file_limit(&mut self, limit: u32) -> &mut Self
+        ensures same { result.ghost_name ≡ self.entry.ghost_name }
+        ensures value { result.now ≡ record self.old { limit = min limit 65536 } }
+    {
+        self.limit = limit.min(MOST_FILES);
+        self
+    }
+
+    /// Opens the file at a path, with all that it imports, each before what imports it.
+    ///
+    /// The name of the path is what the resolver says, and else `path_to_file_name`. A file that is there already is
+    /// marked as opened, and nothing is read. A refused call leaves the files that were there with their marks, and adds
+    /// the imports that were finished, as imports.
+    pub fn open_file(&mut self, path: &str) -> Result<(), Error>
+        // Over a resolver that tells, it does what opening is.
+        ensures ok { IsTrue (R.tells self.old.resolver) → (lookups : List ℕ → Lookup) → AreLookups (R.files self.old.resolver) lookups → OnOk result (opening lookups (R.resolves self.old.resolver) self.old.limit path.now self.old.done ≡ (self.new.done, Accepted)) }
+
+        // It is refused with the fault of the opening, or for want of memory or a fault of the resolver.
+        ensures err { IsTrue (R.tells self.old.resolver) → (lookups : List ℕ → Lookup) → AreLookups (R.files self.old.resolver) lookups → IfErr result (RefusesWith path.now
+            (λ ls. grown ls self.old.limit (root_of (R.resolves self.old.resolver) path.now) self.old.done)
+            (opening lookups (R.resolves self.old.resolver) self.old.limit path.now self.old.done) lookups self.new.done) }
+        ensures root { IsTrue (R.tells self.old.resolver) → OnErr result (IsLeftOut (root_of (R.resolves self.old.resolver) path.now) self.old.done self.new.done) }
+
+        // Over every resolver, files are added as imports, and then one of all is marked.
+        ensures opens { OnOk result (Opens self.old.done self.new.done) }
+        ensures grows { OnErr result (Grows self.old.done self.new.done) }
+        ensures cause { IfErr result (HasOpeningCause path.now (Rose (R.faults self.old.resolver) (R.faults self.new.resolver) (R.at_end self.new.resolver))) }
+        ensures later { R.faults self.old.resolver ≤ R.faults self.new.resolver }
+        ensures limit { self.new.limit ≡ self.old.limit }
+        ensures keeps_tells { R.tells self.new.resolver ≡ R.tells self.old.resolver }
+        ensures keeps_files { IsTrue (R.tells self.old.resolver) → R.files self.new.resolver ≡ R.files self.old.resolver }
+        ensures keeps_resolves { IsTrue (R.tells self.old.resolver) → R.resolves self.new.resolver ≡ R.resolves self.old.resolver }
+    {
+        open_path(
+            &mut self.resolver,
+            self.alloc,
+            self.limit,
+            &mut self.compiled,
+            path,
+        )
+    }
+
+    /// Opens the files at paths in order, up to the first that is refused, as `open_file` does each.
+    pub fn open_files(&mut self, paths: &Texts) -> Result<(), Error>
+        ensures ok { IsTrue (R.tells self.old.resolver) → (lookups : List ℕ → Lookup) → AreLookups (R.files self.old.resolver) lookups → OnOk result (closure lookups (R.resolves self.old.resolver) self.old.limit paths.now self.old.done ≡ (self.new.done, Accepted)) }
+        ensures err { IsTrue (R.tells self.old.resolver) → (lookups : List ℕ → Lookup) → AreLookups (R.files self.old.resolver) lookups → IfErr result (StopsAt lookups (R.resolves self.old.resolver) self.old.limit paths.now self.old.done self.new.done) }
+        ensures cause { IfErr result (HasOpeningsCause (Rose (R.faults self.old.resolver) (R.faults self.new.resolver) (R.at_end self.new.resolver))) }
+        ensures later { R.faults self.old.resolver ≤ R.faults self.new.resolver }
+        ensures limit { self.new.limit ≡ self.old.limit }
+        ensures keeps_tells { R.tells self.new.resolver ≡ R.tells self.old.resolver }
+        ensures keeps_files { IsTrue (R.tells self.old.resolver) → R.files self.new.resolver ≡ R.files self.old.resolver }
+        ensures keeps_resolves { IsTrue (R.tells self.old.resolver) → R.resolves self.new.resolver ≡ R.resolves self.old.resolver }
+    {
+        for path in paths.as_slice() {
+            match self.open_file(path.as_str()) {
+                Ok(()) => {}
+                Err(error) => return Err(error),
+            }
+        }
+        Ok(())
+    }
+
+    /// What is known of each file, in order; takes no memory.
+    pub fn files(&self) -> Files<'_>
+        ensures files { iter_rest result ≡ map metadata_of self.now.done }
+    {
+        self.compiled.metadata().iter()
+    }
+
+    /// Whether a file of this name is there; takes no memory.
+    pub fn is_compiled(&self, name: &str) -> bool
+        ensures { result ≡ is_done self.now.done name.now }
+    {
+        self.compiled.contains(name)
+    }
+
+    /// The records of the files, in order; takes no memory. What is opened later is not in it.
+    pub fn descriptor_pool(&self) -> DescriptorPool
+        ensures pool { result ≡ records self.now.done }
+        // Each record has its file's name, no name stands twice, and each import of a file stands before it.
+        ensures ordered { IsOrdered [] self.now.done }
+    {
+        self.compiled.pool()
+    }
+
+    /// The resolver.
+    pub fn into_resolver(self) -> R
+        ensures { result ≡ self.resolver }
+    {
+        let Compiler {
+            resolver,
+            compiled: _,
+            limit: _,
+            alloc: _,
+        } = self;
+        resolver
+    }
+}
+
+/// What is known of each file, in order.
+pub type Files<'a> = std::slice::Iter<'a, FileMetadata>;

@@ -1,0 +1,14 @@
+//! Compiling: files and all that they import, in order.
+#![tactic(auto)]
+
+mod compiled;
+mod compiler;
+mod frame;
+mod opening;
+mod refusal;
+mod root;
+mod stack;
+mod step;
+mod walk;
+
+pub use compiler::{Compiler, Files};

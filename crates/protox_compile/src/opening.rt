@@ -1,0 +1,74 @@
+ghost use Rattle.std.specs.Prelude.{◌≡◌, ◌≤◌, ◌<◌, ◌^◌, length, IfOk, IfErr, IsTrue, MatchOption, true, false, Some};
+ghost use Rattle.std.specs.Option.{option_copied};
+ghost use Rattle.std.specs.Str.{bytes_eq};
+ghost use Rattle.protox_io.specs.Count.{Rose};
+ghost use Rattle.protox_file.specs.Paths.{path_equal};
+ghost use Rattle.protox_file.specs.Told.{Lookup, IsLookup};
+ghost use Rattle.protox_compile.specs.Walk.{imports_of, declared_name};
+ghost use Rattle.protox_compile.specs.Opening.{asked_path};
+ghost use Rattle.protox_compile.specs.Refusals.{IsOpenOf, IsUnshadowed, StopsOpening, HasOpenCause};
+
+use crate::frame::Frame;
+use crate::refusal::{mismatch, shadowed};
+use pbx_wire::{NoMemory, Text};
+use protox_file::{Error, File, FileResolver, looked_up_once, path_eq};
+use std::alloc::Global;
+
+/// The path of a file, where it is another than the one that was asked.
+pub(crate) fn shadow_of<'a>(own: Option<&'a str>, resolved: bool, path: &str) -> Option<&'a str>
+    ensures { MatchOption result (IsUnshadowed (asked_path resolved path.now) (option_copied own.entry))
+        (λ shadow. (resolved ≡ true) × (option_copied own.entry ≡ Some shadow.now) × (path_equal shadow.now path.now ≡ false)) }
+{
+    match own {
+        Some(own) => {
+            if resolved && !path_eq(own, path) {
+                Some(own)
+            } else {
+                None
+            }
+        }
+        None => None,
+    }
+}
+
+fn is_named(file: &File, name: &str) -> bool
+    ensures { result ≡ bytes_eq (declared_name file.now) name.now }
+{
+    file.name() == name
+}
+
+/// Opens a name, and tests the name that its file declares, and the path of a root that was resolved.
+pub(crate) fn open_frame<R: FileResolver>(
+    resolver: &mut R,
+    alloc: Global,
+    name: &str,
+    resolved: bool,
+    path: &str,
+) -> Result<Frame, Error>
+    ensures opened { IsTrue (R.tells resolver.old) → (lookup : Lookup) → IsLookup name.now (R.files resolver.old name.now) lookup → IfOk result (IsOpenOf lookup name.now) }
+    ensures unshadowed { IfOk result (λ f. IsUnshadowed (asked_path resolved path.now) f.entry.path) }
+    ensures fresh { IfOk result (λ f. (f.name ≡ name.now) × (f.next ≡ 0) × (length (imports_of f.entry) < 2 ^ 64)) }
+    ensures stopped { IsTrue (R.tells resolver.old) → (lookup : Lookup) → IsLookup name.now (R.files resolver.old name.now) lookup → IfErr result (StopsOpening lookup name.now (asked_path resolved path.now)) }
+    ensures cause { IfErr result (HasOpenCause (Rose (R.faults resolver.old) (R.faults resolver.new) (R.at_end resolver.new))) }
+    ensures later { R.faults resolver.old ≤ R.faults resolver.new }
+    ensures keeps_tells { R.tells resolver.new ≡ R.tells resolver.old }
+    ensures keeps_files { IsTrue (R.tells resolver.old) → R.files resolver.new ≡ R.files resolver.old }
+    ensures keeps_resolves { IsTrue (R.tells resolver.old) → R.resolves resolver.new ≡ R.resolves resolver.old }
+{
+    looked_up_once();
+    let file = match resolver.open_file(alloc, name) {
+        Ok(file) => file,
+        Err(error) => return Err(error),
+    };
+    if !is_named(&file, name) {
+        return Err(mismatch(alloc, name, &file));
+    }
+    if let Some(shadow) = shadow_of(file.path(), resolved, path) {
+        return Err(shadowed(alloc, name, path, shadow));
+    }
+    let _count = file.file_descriptor_proto().dependency.as_slice().len();
+    match Text::from_str(alloc, name) {
+        Ok(name) => Ok(Frame::new(name, file)),
+        Err(NoMemory) => Err(Error::from(NoMemory)),
+    }
+}

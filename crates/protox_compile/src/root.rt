@@ -1,0 +1,120 @@
+//! The opening of a path.
+
+ghost use Rattle.std.specs.Prelude.{◌≡◌, ◌≤◌, [], IfOk, IfErr, OnOk, OnErr, IsTrue, List, ℕ, map, min, true, false};
+ghost use Rattle.protox_io.specs.Count.{Rose};
+ghost use Rattle.protox_file.specs.Told.{Lookup, AreLookups};
+ghost use Rattle.protox_compile.specs.Walk.{is_done};
+ghost use Rattle.protox_compile.specs.Opening.{opening, open_name as open_name_in, open_done, path_in, root_of, grown, Accepted, asked_path};
+ghost use Rattle.protox_compile.specs.Refusals.{RefusesWith, HasOpeningCause, Grows};
+ghost use Rattle.protox_compile.specs.State.{Opens, IsRoot, IsShadowedBy, IsLeftOut};
+
+use crate::compiled::Compiled;
+use crate::opening::shadow_of;
+use crate::refusal::{not_included, root_error, shadowed};
+use crate::walk::visit_root;
+use pbx_wire::{NoMemory, Text};
+use protox_file::{Error, FileResolver, path_to_file_name};
+use std::alloc::Global;
+
+/// The name that a path asks for, and whether the resolver knows the path.
+fn root_by<R: FileResolver>(
+    resolver: &R,
+    alloc: Global,
+    path: &str,
+) -> Result<Option<(Text, bool)>, NoMemory>
+    ensures { IsTrue (R.tells resolver.now) → IfOk result (IsRoot (root_of (R.resolves resolver.now) path.now) path.now) }
+{
+    match resolver.resolve_path(alloc, path)? {
+        Some(name) => Ok(Some((name, true))),
+        None => match path_to_file_name(alloc, path)? {
+            Some(name) => Ok(Some((name, false))),
+            None => Ok(None),
+        },
+    }
+}
+
+/// Marks a file that is finished, unless it has another path than the one that was asked.
+fn open_again(
+    alloc: Global,
+    done: &mut Compiled,
+    name: &str,
+    resolved: bool,
+    path: &str,
+) -> Result<(), Error>
+    ensures ok { OnOk result (open_done name.now (asked_path resolved path.now) (path_in name.now done.old) done.old ≡ (done.new, Accepted)) }
+    ensures err { OnErr result (done.new ≡ done.old) }
+    ensures refused { IfErr result (IsShadowedBy name.now (asked_path resolved path.now) (path_in name.now done.old)) }
+{
+    if let Some(shadow) = shadow_of(done.path_of(name), resolved, path) {
+        return Err(shadowed(alloc, name, path, shadow));
+    }
+    done.mark(name);
+    Ok(())
+}
+
+/// Opens the file of a name.
+fn open_name<R: FileResolver>(
+    resolver: &mut R,
+    alloc: Global,
+    limit: u32,
+    done: &mut Compiled,
+    name: &str,
+    resolved: bool,
+    path: &str,
+) -> Result<(), Error>
+    ensures ok { IsTrue (R.tells resolver.old) → (lookups : List ℕ → Lookup) → AreLookups (R.files resolver.old) lookups → OnOk result (open_name_in lookups limit (Some (name.now, asked_path resolved path.now)) done.old ≡ (done.new, Accepted)) }
+    ensures err { IsTrue (R.tells resolver.old) → (lookups : List ℕ → Lookup) → AreLookups (R.files resolver.old) lookups → IfErr result (RefusesWith path.now (λ ls. grown ls limit (Some (name.now, asked_path resolved path.now)) done.old) (open_name_in lookups limit (Some (name.now, asked_path resolved path.now)) done.old) lookups done.new) }
+    ensures opens { OnOk result (Opens done.old done.new) }
+    ensures grows { OnErr result (Grows done.old done.new) }
+    ensures root { OnErr result (is_done done.new name.now ≡ is_done done.old name.now) }
+    ensures cause { IfErr result (HasOpeningCause path.now (Rose (R.faults resolver.old) (R.faults resolver.new) (R.at_end resolver.new))) }
+    ensures later { R.faults resolver.old ≤ R.faults resolver.new }
+    ensures keeps_tells { R.tells resolver.new ≡ R.tells resolver.old }
+    ensures keeps_files { IsTrue (R.tells resolver.old) → R.files resolver.new ≡ R.files resolver.old }
+    ensures keeps_resolves { IsTrue (R.tells resolver.old) → R.resolves resolver.new ≡ R.resolves resolver.old }
+{
+    if done.contains(name) {
+        return open_again(alloc, done, name, resolved, path);
+    }
+    match visit_root(resolver, alloc, limit, done, name, resolved, path) {
+        Ok(()) => {
+            done.mark(name);
+            Ok(())
+        }
+        Err(error) => Err(root_error(alloc, path, error)),
+    }
+}
+
+/// Opens a path: finishes its file with all that it imports, and marks it as opened.
+pub(crate) fn open_path<R: FileResolver>(
+    resolver: &mut R,
+    alloc: Global,
+    limit: u32,
+    done: &mut Compiled,
+    path: &str,
+) -> Result<(), Error>
+    ensures ok { IsTrue (R.tells resolver.old) → (lookups : List ℕ → Lookup) → AreLookups (R.files resolver.old) lookups → OnOk result (opening lookups (R.resolves resolver.old) limit path.now done.old ≡ (done.new, Accepted)) }
+    ensures err { IsTrue (R.tells resolver.old) → (lookups : List ℕ → Lookup) → AreLookups (R.files resolver.old) lookups → IfErr result (RefusesWith path.now (λ ls. grown ls limit (root_of (R.resolves resolver.old) path.now) done.old) (opening lookups (R.resolves resolver.old) limit path.now done.old) lookups done.new) }
+    ensures opens { OnOk result (Opens done.old done.new) }
+    ensures grows { OnErr result (Grows done.old done.new) }
+    ensures root { IsTrue (R.tells resolver.old) → OnErr result (IsLeftOut (root_of (R.resolves resolver.old) path.now) done.old done.new) }
+    ensures cause { IfErr result (HasOpeningCause path.now (Rose (R.faults resolver.old) (R.faults resolver.new) (R.at_end resolver.new))) }
+    ensures later { R.faults resolver.old ≤ R.faults resolver.new }
+    ensures keeps_tells { R.tells resolver.new ≡ R.tells resolver.old }
+    ensures keeps_files { IsTrue (R.tells resolver.old) → R.files resolver.new ≡ R.files resolver.old }
+    ensures keeps_resolves { IsTrue (R.tells resolver.old) → R.resolves resolver.new ≡ R.resolves resolver.old }
+{
+    match root_by(resolver, alloc, path) {
+        Ok(Some((name, resolved))) => open_name(
+            resolver,
+            alloc,
+            limit,
+            done,
+            name.as_str(),
+            resolved,
+            path,
+        ),
+        Ok(None) => Err(not_included(alloc, path)),
+        Err(NoMemory) => Err(Error::from(NoMemory)),
+    }
+}

@@ -1,0 +1,111 @@
+ghost use Rattle.std.specs.Prelude.{◌≡◌, ◌≤◌, ◌<◌, ◌^◌, ◌+◌, ◌∷◌, [], false, IfOk, IfErr, OnOk, OnErr, IsTrue, length, ◌++◌, List, ℕ};
+ghost use Rattle.protox_io.specs.Count.{Rose};
+ghost use Rattle.protox_file.specs.Told.{Lookup, AreLookups};
+ghost use Rattle.protox_compile.specs.Walk.{imports_of, visits, Finished, is_done};
+ghost use Rattle.protox_compile.specs.Opening.{asked_path};
+ghost use Rattle.protox_compile.specs.Refusals.{Walk, Ends, HasStepCause, Grows};
+ghost use Rattle.protox_compile.specs.Resume.{past, Follows, EndsWalks};
+
+use crate::compiled::Compiled;
+use crate::frame::Frame;
+use crate::opening::open_frame;
+use crate::refusal::too_many;
+use crate::stack::Stack;
+use crate::step::{Import, next_import, open_import};
+use pbx_wire::NoMemory;
+use protox_file::{Error, FileResolver};
+use std::alloc::Global;
+
+/// Puts an open file among those that wait, past the import that it waits for.
+fn suspend(parents: &mut Stack, mut file: Frame) -> Result<(), NoMemory>
+    requires { file.next < length (imports_of file.entry) }
+    ensures ok { OnOk result (parents.new ≡ past file ∷ parents.old) }
+    ensures err { OnErr result (parents.new ≡ parents.old) }
+{
+    file.advance();
+    parents.push(file)
+}
+
+/// Finishes the imports of an open file that no other waits for, and then that file.
+fn finish_all<R: FileResolver>(
+    resolver: &mut R,
+    alloc: Global,
+    limit: u32,
+    done: &mut Compiled,
+    root: Frame,
+) -> Result<(), Error>
+    requires start { root.next ≡ 0 }
+    requires bound { length (imports_of root.entry) < 2 ^ 64 }
+    requires room { length done.old + 1 ≤ limit }
+    requires new { is_done done.old root.name ≡ false }
+    ensures root { OnErr result (is_done done.new root.name ≡ false) }
+    ensures grows { Grows done.old done.new }
+    ensures ok { IsTrue (R.tells resolver.old) → (walk : Walk) → Follows (R.files resolver.old) walk limit (root ∷ []) done.old → (lookups : List ℕ → Lookup) → AreLookups (R.files resolver.old) lookups → OnOk result (walk lookups ≡ (done.new, Finished)) }
+    ensures err { IsTrue (R.tells resolver.old) → IfErr result (λ e. EndsWalks (R.files resolver.old) limit (root ∷ []) done.old e done.new) }
+    ensures cause { IfErr result (HasStepCause (Rose (R.faults resolver.old) (R.faults resolver.new) (R.at_end resolver.new))) }
+    ensures later { R.faults resolver.old ≤ R.faults resolver.new }
+    ensures keeps_tells { R.tells resolver.new ≡ R.tells resolver.old }
+    ensures keeps_files { IsTrue (R.tells resolver.old) → R.files resolver.new ≡ R.files resolver.old }
+    ensures keeps_resolves { IsTrue (R.tells resolver.old) → R.resolves resolver.new ≡ R.resolves resolver.old }
+{
+    let mut current = root;
+    let mut parents = Stack::new(alloc);
+    'walk: loop {
+        if current.has_next() {
+            match next_import(alloc, done, &parents, &current)? {
+                Import::Finished => current.advance(),
+                Import::Visit(name) => {
+                    let child = open_import(
+                        resolver,
+                        alloc,
+                        limit,
+                        done,
+                        &parents,
+                        &current,
+                        name.as_str(),
+                    )?;
+                    if suspend(&mut parents, current).is_err() {
+                        return Err(Error::from(NoMemory));
+                    }
+                    current = child;
+                }
+            }
+        } else {
+            done.finish(alloc, current)?;
+            match parents.pop() {
+                Some(parent) => current = parent,
+                None => return Ok(()),
+            }
+        }
+    }
+}
+
+/// Visits a name from the files that are finished.
+pub(crate) fn visit_root<R: FileResolver>(
+    resolver: &mut R,
+    alloc: Global,
+    limit: u32,
+    done: &mut Compiled,
+    root: &str,
+    resolved: bool,
+    path: &str,
+) -> Result<(), Error>
+    requires { is_done done.old root.now ≡ false }
+    ensures root { OnErr result (is_done done.new root.now ≡ false) }
+    ensures grows { Grows done.old done.new }
+    ensures ok { IsTrue (R.tells resolver.old) → (lookups : List ℕ → Lookup) → AreLookups (R.files resolver.old) lookups → OnOk result (visits lookups limit [] (asked_path resolved path.now) root.now done.old ≡ (done.new, Finished)) }
+    ensures err { IsTrue (R.tells resolver.old) → (lookups : List ℕ → Lookup) → AreLookups (R.files resolver.old) lookups → IfErr result (λ e. Ends e (λ ls. visits ls limit [] (asked_path resolved path.now) root.now done.old) lookups done.new) }
+    ensures cause { IfErr result (HasStepCause (Rose (R.faults resolver.old) (R.faults resolver.new) (R.at_end resolver.new))) }
+    ensures later { R.faults resolver.old ≤ R.faults resolver.new }
+    ensures keeps_tells { R.tells resolver.new ≡ R.tells resolver.old }
+    ensures keeps_files { IsTrue (R.tells resolver.old) → R.files resolver.new ≡ R.files resolver.old }
+    ensures keeps_resolves { IsTrue (R.tells resolver.old) → R.resolves resolver.new ≡ R.resolves resolver.old }
+{
+    if done.len() >= limit as usize {
+        return Err(too_many(limit));
+    }
+    match open_frame(resolver, alloc, root, resolved, path) {
+        Ok(frame) => finish_all(resolver, alloc, limit, done, frame),
+        Err(error) => Err(error),
+    }
+}
