@@ -175,6 +175,7 @@ fn copy_text(alloc: Global, text: &Option<Text>) -> Result<Option<Text>, NoMemor
 }
 
 /// The file that bytes are which are read from this path.
+#[tactic(auto, using(crate::proofs::Readings::told_text, crate::proofs::Readings::told_no_text))]
 fn read_bytes(alloc: Global, name: &str, path: &str, bytes: &[u8]) -> Result<File, Error>
     ensures told { IsTold name.now (told_held (Stored bytes.now) (Some path.now)) result }
     ensures cause { IfErr result (HasCause name.now ⊥) }

@@ -5,7 +5,6 @@ use pbx_link::DescriptorError;
 use pbx_parse::ParseError;
 use pbx_wire::{DecodeError, List, NoMemory, Text};
 use std::alloc::Global;
-use std::process::Abort;
 use std::test::Fail;
 
 /// A broken rule of linking in `root.proto`.
@@ -82,139 +81,157 @@ fn undecodable(alloc: Global) -> Result<Error, Fail> {
     Ok(Error::from_kind(ErrorKind::Undecodable { file }))
 }
 
+fn opening(alloc: Global) -> Result<Error, Fail> {
+    let fault = Text::from_str(alloc, "disk fault")?;
+    Ok(Error::open_file(alloc, "m.proto", "./m.proto", fault))
+}
+
 fn not_built(alloc: Global) -> Result<Error, Fail> {
     let file = Text::from_str(alloc, "root.proto")?;
     Ok(Error::from(DescriptorError::NotBuilt { file }))
 }
 
-/// The error has this line, and this long one.
-fn says(
-    rt: &impl Abort,
-    alloc: Global,
-    error: &Error,
-    line: &str,
-    long_line: &str,
-) -> Result<(), Fail> {
-    let said = error.line(alloc)?;
-    assert_eq!(rt; said.as_str(), line);
-    let said = error.long_line(alloc)?;
-    assert_eq!(rt; said.as_str(), long_line, "at {line}");
-    Ok(())
+/// An error of each kind, by the number of the kind.
+fn made(alloc: Global, kind: u8, place: Option<(u32, u32)>) -> Result<Error, Fail> {
+    match kind {
+        1 => syntax_error(alloc),
+        2 => broken(alloc, &[4, 0, 2, 0, 6], 7),
+        3 => opening(alloc),
+        4 => Ok(Error::file_too_large(alloc, "g.proto")),
+        5 => Ok(Error::file_invalid_utf8(alloc, "g.proto")),
+        6 => Ok(Error::file_not_found(alloc, "x.proto")),
+        7 => import_not_found(alloc, place),
+        8 => circular_import(alloc),
+        9 => file_not_included(alloc),
+        10 => file_shadowed(alloc),
+        11 => duplicate_import(alloc, place),
+        12 => Ok(Error::from_io(alloc, "failed to load file!")),
+        13 => name_mismatch(alloc),
+        14 => Ok(Error::from_kind(ErrorKind::FileLimit { limit: 65536 })),
+        15 => undecodable(alloc),
+        _ => Ok(Error::from(NoMemory)),
+    }
 }
 
 #[test]
 fn errors_have_lines(rt: HostRuntime) -> Result<(), Fail> {
     let alloc = rt.alloc();
-    let disk_fault = Text::from_str(alloc, "disk fault")?;
-    let rows: [(Error, &str); 12] = [
+    let rows: [(u8, &str); 16] = [
+        (1, "expected an identifier, but found '{'"),
+        (2, "rule 7: reference not bound at 4.0.2.0.6"),
+        (3, "error opening file './m.proto'"),
+        (4, "file 'g.proto' is too large"),
+        (5, "file 'g.proto' is not valid utf-8"),
+        (6, "file 'x.proto' not found"),
+        (7, "import 'notfound.proto' not found"),
         (
-            Error::open_file(alloc, "m.proto", "./m.proto", disk_fault),
-            "error opening file './m.proto'",
-        ),
-        (
-            Error::file_too_large(alloc, "g.proto"),
-            "file 'g.proto' is too large",
-        ),
-        (
-            Error::file_invalid_utf8(alloc, "g.proto"),
-            "file 'g.proto' is not valid utf-8",
-        ),
-        (
-            Error::file_not_found(alloc, "x.proto"),
-            "file 'x.proto' not found",
-        ),
-        (
-            circular_import(alloc)?,
+            8,
             "import cycle detected: root.proto -> dep.proto -> root.proto",
         ),
+        (9, "file 'x.proto' is not in any include path"),
         (
-            file_not_included(alloc)?,
-            "file 'x.proto' is not in any include path",
-        ),
-        (
-            file_shadowed(alloc)?,
+            10,
             "path './foo.proto' is shadowed by 'include/foo.proto' in the include paths",
         ),
+        (11, "import 'existing.proto' was listed twice"),
+        (12, "failed to load file!"),
+        (13, "file 'a.proto' declares the name 'b.proto'"),
+        (14, "more than 65536 files"),
         (
-            Error::from_io(alloc, "failed to load file!"),
-            "failed to load file!",
-        ),
-        (
-            name_mismatch(alloc)?,
-            "file 'a.proto' declares the name 'b.proto'",
-        ),
-        (
-            Error::from_kind(ErrorKind::FileLimit { limit: 65536 }),
-            "more than 65536 files",
-        ),
-        (
-            undecodable(alloc)?,
+            15,
             "file 'o.proto' does not decode under the built-in schema",
         ),
-        (Error::from(NoMemory), "out of memory"),
+        (16, "out of memory"),
     ];
-    for (error, line) in rows {
-        let long_line = match error.kind() {
-            ErrorKind::OpenFile { .. } => "error opening file './m.proto': disk fault",
-            _ => line,
-        };
-        says(&rt, alloc, &error, line, long_line)?;
+    for (kind, want) in rows {
+        let line = made(alloc, kind, None)?.line(alloc)?;
+        assert_eq!(rt; line.as_str(), want);
     }
     Ok(())
 }
 
 #[test]
-fn errors_of_places_have_long_lines(rt: HostRuntime) -> Result<(), Fail> {
+fn errors_have_long_lines(rt: HostRuntime) -> Result<(), Fail> {
     let alloc = rt.alloc();
-    let rows: [(Error, &str, &str); 9] = [
+    let rows: [(u8, Option<(u32, u32)>, &str); 18] = [
         (
-            syntax_error(alloc)?,
-            "expected an identifier, but found '{'",
+            1,
+            None,
             "root.proto:1:9: expected an identifier, but found '{'",
         ),
         (
-            broken(alloc, &[4, 0, 2, 0, 6], 7)?,
-            "rule 7: reference not bound at 4.0.2.0.6",
+            2,
+            None,
             "root.proto: rule 7: reference not bound at 4.0.2.0.6",
         ),
+        (3, None, "error opening file './m.proto': disk fault"),
+        (4, None, "file 'g.proto' is too large"),
+        (5, None, "file 'g.proto' is not valid utf-8"),
+        (6, None, "file 'x.proto' not found"),
         (
-            broken(alloc, &[], 1)?,
-            "rule 1: file given twice at ",
-            "root.proto: rule 1: file given twice at ",
-        ),
-        (
-            Error::from(DescriptorError::Decode(DecodeError::Varint(3))),
-            "record does not decode",
-            "record does not decode",
-        ),
-        (
-            not_built(alloc)?,
-            "record not built yet",
-            "root.proto: record not built yet",
-        ),
-        (
-            import_not_found(alloc, Some((2, 1)))?,
-            "import 'notfound.proto' not found",
+            7,
+            Some((2, 1)),
             "root.proto:2:1: import 'notfound.proto' not found",
         ),
+        (7, None, "root.proto: import 'notfound.proto' not found"),
         (
-            import_not_found(alloc, None)?,
-            "import 'notfound.proto' not found",
-            "root.proto: import 'notfound.proto' not found",
+            8,
+            None,
+            "import cycle detected: root.proto -> dep.proto -> root.proto",
+        ),
+        (9, None, "file 'x.proto' is not in any include path"),
+        (
+            10,
+            None,
+            "path './foo.proto' is shadowed by 'include/foo.proto' in the include paths",
         ),
         (
-            duplicate_import(alloc, Some((1, 26)))?,
-            "import 'existing.proto' was listed twice",
+            11,
+            Some((1, 26)),
             "root.proto:1:26: import 'existing.proto' was listed twice",
         ),
         (
-            duplicate_import(alloc, None)?,
-            "import 'existing.proto' was listed twice",
+            11,
+            None,
             "root.proto: import 'existing.proto' was listed twice",
         ),
+        (12, None, "failed to load file!"),
+        (13, None, "file 'a.proto' declares the name 'b.proto'"),
+        (14, None, "more than 65536 files"),
+        (
+            15,
+            None,
+            "file 'o.proto' does not decode under the built-in schema",
+        ),
+        (16, None, "out of memory"),
     ];
-    for (error, line, long_line) in rows {
-        says(&rt, alloc, &error, line, long_line)?;
+    for (kind, place, want) in rows {
+        let line = made(alloc, kind, place)?.long_line(alloc)?;
+        assert_eq!(rt; line.as_str(), want);
+    }
+    Ok(())
+}
+
+/// Further errors of linking.
+fn of_linking(alloc: Global, which: u8) -> Result<Error, Fail> {
+    match which {
+        0 => Ok(Error::from(DescriptorError::Decode(DecodeError::Varint(3)))),
+        1 => not_built(alloc),
+        _ => broken(alloc, &[], 1),
+    }
+}
+
+#[test]
+fn errors_of_linking_have_lines(rt: HostRuntime) -> Result<(), Fail> {
+    let alloc = rt.alloc();
+    let rows: [(u8, &str); 3] = [
+        (0, "record does not decode"),
+        (1, "root.proto: record not built yet"),
+        (2, "root.proto: rule 1: file given twice at "),
+    ];
+    for (which, want) in rows {
+        let line = of_linking(alloc, which)?.long_line(alloc)?;
+        assert_eq!(rt; line.as_str(), want);
     }
     Ok(())
 }
@@ -250,45 +267,41 @@ fn rules_have_words(rt: HostRuntime) -> Result<(), Fail> {
 #[test]
 fn errors_name_files_and_sorts(rt: HostRuntime) -> Result<(), Fail> {
     let alloc = rt.alloc();
-    let disk_fault = Text::from_str(alloc, "disk fault")?;
-    let opening = Error::open_file(alloc, "m.proto", "./m.proto", disk_fault);
-    let rows: [(Error, Option<&str>, &str); 10] = [
-        (syntax_error(alloc)?, Some("root.proto"), "text"),
-        (opening, Some("m.proto"), "reading"),
-        (
-            Error::file_too_large(alloc, "g.proto"),
-            Some("g.proto"),
-            "text",
-        ),
-        (
-            Error::file_not_found(alloc, "x.proto"),
-            Some("x.proto"),
-            "absence",
-        ),
-        (
-            import_not_found(alloc, None)?,
-            Some("root.proto"),
-            "absence",
-        ),
-        (file_not_included(alloc)?, None, "absence"),
-        (Error::from_io(alloc, "failed"), None, "reading"),
-        (Error::new(alloc, "refused"), None, "other"),
-        (
-            Error::from(DescriptorError::Decode(DecodeError::NoMemory)),
-            None,
-            "other",
-        ),
-        (Error::from(ParseError::NoMemory), None, "other"),
+    let rows: [(u8, Option<&str>, &str); 16] = [
+        (1, Some("root.proto"), "text"),
+        (2, Some("root.proto"), "other"),
+        (3, Some("m.proto"), "reading"),
+        (4, Some("g.proto"), "text"),
+        (5, Some("g.proto"), "text"),
+        (6, Some("x.proto"), "absence"),
+        (7, Some("root.proto"), "absence"),
+        (8, Some("root.proto"), "other"),
+        (9, None, "absence"),
+        (10, Some("foo.proto"), "other"),
+        (11, Some("root.proto"), "other"),
+        (12, None, "reading"),
+        (13, Some("a.proto"), "other"),
+        (14, None, "other"),
+        (15, Some("o.proto"), "other"),
+        (16, None, "other"),
     ];
-    for (error, file, sort) in rows {
-        assert_eq!(rt; error.file(), file, "at {error:?}");
-        assert_eq!(rt; error.is_parse(), sort == "text", "at {error:?}");
-        assert_eq!(rt; error.is_io(), sort == "reading", "at {error:?}");
-        assert_eq!(rt;
-            error.is_file_not_found(),
-            sort == "absence",
-            "at {error:?}"
-        );
+    for (kind, file, sort) in rows {
+        let error = made(alloc, kind, None)?;
+        assert_eq!(rt; error.file(), file, "at {kind}");
+        assert_eq!(rt; error.is_parse(), sort == "text", "at {kind}");
+        assert_eq!(rt; error.is_io(), sort == "reading", "at {kind}");
+        assert_eq!(rt; error.is_file_not_found(), sort == "absence", "at {kind}");
     }
+    Ok(())
+}
+
+#[test]
+fn want_of_memory_stands_alone(rt: HostRuntime) -> Result<(), Fail> {
+    let alloc = rt.alloc();
+    let inside = Error::from(DescriptorError::Decode(DecodeError::NoMemory));
+    assert!(rt; matches!(inside.kind(), ErrorKind::NoMemory));
+    let outside = Error::from(ParseError::NoMemory);
+    assert!(rt; matches!(outside.kind(), ErrorKind::NoMemory));
+    assert!(rt; !Error::new(alloc, "refused").is_io());
     Ok(())
 }

@@ -51,19 +51,22 @@ fn resolve<R: FileResolver>(resolver: &R, alloc: Global, path: &str) -> Result<T
     }
 }
 
+/// The file is that of the source.
+fn is_source(rt: &impl Abort, file: &File) {
+    assert_eq!(rt; file.name(), "m.proto");
+    assert_eq!(rt; file.path(), None);
+    assert_eq!(rt; file.source(), Some(SOURCE));
+    assert_eq!(rt; file.encoded(), None);
+    assert_eq!(rt; file.file_descriptor_proto().message_type.len(), 1);
+}
+
 #[test]
 fn sources_are_files(rt: HostRuntime) -> Result<(), Fail> {
     let alloc = rt.alloc();
     looked_up_once();
     let file = File::from_source(alloc, "m.proto", SOURCE)?;
-    let copy = file.copy(alloc)?;
-    for it in [file, copy] {
-        assert_eq!(rt; it.name(), "m.proto");
-        assert_eq!(rt; it.path(), None);
-        assert_eq!(rt; it.source(), Some(SOURCE));
-        assert_eq!(rt; it.encoded(), None);
-        assert_eq!(rt; it.file_descriptor_proto().message_type.len(), 1);
-    }
+    is_source(&rt, &file);
+    is_source(&rt, &file.copy(alloc)?);
     match File::from_source(alloc, "m.proto", "message {") {
         Err(error) => {
             assert!(rt; error.is_parse());
