@@ -94,6 +94,7 @@ impl<R: FileResolver> Compiler<R> {
         ensures keeps_tells { R.tells self.new.resolver ≡ R.tells self.old.resolver }
         ensures keeps_files { IsTrue (R.tells self.old.resolver) → R.files self.new.resolver ≡ R.files self.old.resolver }
         ensures keeps_resolves { IsTrue (R.tells self.old.resolver) → R.resolves self.new.resolver ≡ R.resolves self.old.resolver }
+        ensures keeps_disk { IsTrue (R.tells self.old.resolver) → R.disk self.new.resolver ≡ R.disk self.old.resolver }
     {
         open_path(
             &mut self.resolver,
@@ -114,6 +115,7 @@ impl<R: FileResolver> Compiler<R> {
         ensures keeps_tells { R.tells self.new.resolver ≡ R.tells self.old.resolver }
         ensures keeps_files { IsTrue (R.tells self.old.resolver) → R.files self.new.resolver ≡ R.files self.old.resolver }
         ensures keeps_resolves { IsTrue (R.tells self.old.resolver) → R.resolves self.new.resolver ≡ R.resolves self.old.resolver }
+        ensures keeps_disk { IsTrue (R.tells self.old.resolver) → R.disk self.new.resolver ≡ R.disk self.old.resolver }
     {
         for path in paths.as_slice() {
             match self.open_file(path.as_str()) {

@@ -54,6 +54,7 @@ pub(crate) fn open_frame<R: FileResolver>(
     ensures keeps_tells { R.tells resolver.new ≡ R.tells resolver.old }
     ensures keeps_files { IsTrue (R.tells resolver.old) → R.files resolver.new ≡ R.files resolver.old }
     ensures keeps_resolves { IsTrue (R.tells resolver.old) → R.resolves resolver.new ≡ R.resolves resolver.old }
+    ensures keeps_disk { IsTrue (R.tells resolver.old) → R.disk resolver.new ≡ R.disk resolver.old }
 {
     looked_up_once();
     let file = match resolver.open_file(alloc, name) {

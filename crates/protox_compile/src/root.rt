@@ -72,6 +72,7 @@ fn open_name<R: FileResolver>(
     ensures keeps_tells { R.tells resolver.new ≡ R.tells resolver.old }
     ensures keeps_files { IsTrue (R.tells resolver.old) → R.files resolver.new ≡ R.files resolver.old }
     ensures keeps_resolves { IsTrue (R.tells resolver.old) → R.resolves resolver.new ≡ R.resolves resolver.old }
+    ensures keeps_disk { IsTrue (R.tells resolver.old) → R.disk resolver.new ≡ R.disk resolver.old }
 {
     if done.contains(name) {
         return open_again(alloc, done, name, resolved, path);
@@ -103,6 +104,7 @@ pub(crate) fn open_path<R: FileResolver>(
     ensures keeps_tells { R.tells resolver.new ≡ R.tells resolver.old }
     ensures keeps_files { IsTrue (R.tells resolver.old) → R.files resolver.new ≡ R.files resolver.old }
     ensures keeps_resolves { IsTrue (R.tells resolver.old) → R.resolves resolver.new ≡ R.resolves resolver.old }
+    ensures keeps_disk { IsTrue (R.tells resolver.old) → R.disk resolver.new ≡ R.disk resolver.old }
 {
     match root_by(resolver, alloc, path) {
         Ok(Some((name, resolved))) => open_name(

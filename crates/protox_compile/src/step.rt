@@ -86,6 +86,7 @@ pub(crate) fn open_import<R: FileResolver>(
     ensures keeps_tells { R.tells resolver.new ≡ R.tells resolver.old }
     ensures keeps_files { IsTrue (R.tells resolver.old) → R.files resolver.new ≡ R.files resolver.old }
     ensures keeps_resolves { IsTrue (R.tells resolver.old) → R.resolves resolver.new ≡ R.resolves resolver.old }
+    ensures keeps_disk { IsTrue (R.tells resolver.old) → R.disk resolver.new ≡ R.disk resolver.old }
 {
     if done.len() + parents.len() + 1 >= limit as usize {
         return Err(too_many(limit));

@@ -49,6 +49,8 @@ impl<D: Disk> FileResolver for IncludeFileResolver<D> {
 
     ghost resolves = { λ r. resolved r.include };
 
+    ghost disk = { λ r. D.holds r.disk };
+
     ghost faults = { λ r. D.faults r.disk };
 
     ghost at_end = { λ r. D.at_end r.disk };

@@ -1,6 +1,7 @@
 ghost use Rattle.std.specs.Prelude.{◌≡◌, ◌≤◌, ◌∷◌, ◌++◌, ◌==◌, ◌^◌, ◌-◌, [], ℕ, List, Some, None, All, OnOk, OnErr, IfOk, IfErr, IfSome, IsTrue, IsFalse, MatchOption, true, if◌then◌else◌};
 ghost use Rattle.std.specs.Option.{option_copied};
 ghost use Rattle.protox_io.specs.Count.{Rose, raised};
+ghost use Rattle.protox_io.specs.Disk.{Missing};
 ghost use Rattle.protox_file.specs.Causes.{HasCause, IsTold};
 ghost use Rattle.protox_file.specs.Memory.{told_put, told_by, named_by, is_listed, IsFault, NoFault};
 ghost use Rattle.protox_file.specs.Paths.{name_of};
@@ -194,6 +195,8 @@ impl FileResolver for MemoryResolver {
     ghost files = { λ r. told_by r.files };
 
     ghost resolves = { λ r. named_by r.names };
+
+    ghost disk = { λ _ _. Missing };
 
     ghost faults = { λ r. r.faults };
 

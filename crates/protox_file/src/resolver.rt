@@ -1,5 +1,7 @@
 ghost use Rattle.std.specs.Prelude.{◌≡◌, ◌≤◌, ℕ, Bool, List, Option, Some, IsTrue, IfOk, IfErr, IfSome};
 ghost use Rattle.protox_io.specs.Count.{Rose};
+ghost use Rattle.protox_io.specs.Disk.{Held};
+ghost use Rattle.protox_io.specs.Paths.{Component};
 ghost use Rattle.protox_file.specs.Causes.{HasCause, IsTold};
 ghost use Rattle.protox_file.specs.Paths.{name_of};
 ghost use Rattle.protox_file.specs.Told.{Told};
@@ -20,6 +22,9 @@ pub trait FileResolver {
     /// The name of each path that it resolves.
     ghost resolves: { Self → List ℕ → Option (List ℕ) };
 
+    /// What stands on the disk that it reads, if it reads one.
+    ghost disk: { Self → List Component → Held };
+
     /// How often it has failed.
     ghost faults: { Self → ℕ };
 
@@ -39,7 +44,8 @@ pub trait FileResolver {
         ensures later { faults self.old ≤ faults self.new }
         ensures keeps_tells { tells self.new ≡ tells self.old }
         ensures keeps_files { IsTrue (tells self.old) → files self.new ≡ files self.old }
-        ensures keeps_resolves { IsTrue (tells self.old) → resolves self.new ≡ resolves self.old };
+        ensures keeps_resolves { IsTrue (tells self.old) → resolves self.new ≡ resolves self.old }
+        ensures keeps_disk { IsTrue (tells self.old) → disk self.new ≡ disk self.old };
 
     /// Whether the count of faults stands at its end, so that a further fault does not raise it.
     fn spent(&self) -> bool

@@ -35,6 +35,7 @@ walk-preserved-in-Finished g c =
       tells = c.walk.invariant.tells;
       files = c.walk.invariant.files;
       resolves = c.walk.invariant.resolves;
+      disk = c.walk.invariant.disk;
       later = c.walk.invariant.later;
       leads = λ tells walk follows.
           same_stack (g.R.FileResolver.files c.args.resolver.now) walk c.args.limit (past c.walk.current ∷ c.walk.parents) (c.advance.new.self ∷ c.walk.parents) c.walk.done (ap (λ f. f ∷ c.walk.parents) (sym next))
@@ -54,6 +55,7 @@ walk-preserved-in-Visit g c =
       tells = c.in_ok-child-in-Visit.ensures.keeps_tells ∙ c.walk.invariant.tells;
       files = λ tells. c.in_ok-child-in-Visit.ensures.keeps_files (same tells) ∙ c.walk.invariant.files tells;
       resolves = λ tells. c.in_ok-child-in-Visit.ensures.keeps_resolves (same tells) ∙ c.walk.invariant.resolves tells;
+      disk = λ tells. c.in_ok-child-in-Visit.ensures.keeps_disk (same tells) ∙ c.walk.invariant.disk tells;
       later = omega (arith, c.walk.invariant.later, c.in_ok-child-in-Visit.ensures.later);
       leads = λ tells walk follows.
           same_stack (g.R.FileResolver.files c.args.resolver.now) walk c.args.limit (c.in_ok-child-in-Visit.child ∷ past c.walk.current ∷ c.walk.parents) (c.in_ok-child-in-Visit.child ∷ c.suspend.new.parents) c.walk.done (ap (λ fs. c.in_ok-child-in-Visit.child ∷ fs) (sym pushed))
@@ -72,6 +74,7 @@ walk-preserved g c =
       tells = c.walk.invariant.tells;
       files = c.walk.invariant.files;
       resolves = c.walk.invariant.resolves;
+      disk = c.walk.invariant.disk;
       later = c.walk.invariant.later;
       leads = λ tells walk follows.
           same_stack (g.R.FileResolver.files c.args.resolver.now) walk c.args.limit c.walk.parents (c.in-Some.parent ∷ c.pop.new.self) c.finish.new.self popped

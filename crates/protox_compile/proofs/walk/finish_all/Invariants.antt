@@ -10,6 +10,7 @@ invariant-walk g l = record {
   tells : g.R.FileResolver.tells l.resolver ≡ g.R.FileResolver.tells l.fn.resolver;
   files : IsTrue (g.R.FileResolver.tells l.fn.resolver) → g.R.FileResolver.files l.resolver ≡ g.R.FileResolver.files l.fn.resolver;
   resolves : IsTrue (g.R.FileResolver.tells l.fn.resolver) → g.R.FileResolver.resolves l.resolver ≡ g.R.FileResolver.resolves l.fn.resolver;
+  disk : IsTrue (g.R.FileResolver.tells l.fn.resolver) → g.R.FileResolver.disk l.resolver ≡ g.R.FileResolver.disk l.fn.resolver;
   later : g.R.FileResolver.faults l.fn.resolver ≤ g.R.FileResolver.faults l.resolver;
   leads : IsTrue (g.R.FileResolver.tells l.fn.resolver) → LeadsTo (g.R.FileResolver.files l.fn.resolver) l.limit (l.fn.root ∷ []) l.fn.done (l.current ∷ l.parents) l.done;
   fresh : Fresh l.fn.root.name (l.current ∷ l.parents) l.done;

@@ -24,6 +24,9 @@ loop-path-preserved g c = record {
   resolves = λ tells.
       let told : IsTrue (g.R.FileResolver.tells c.loop-path.self.resolver) = rw c.loop-path.invariant.tells tells in
       c.in-Ok.ensures.keeps_resolves told ∙ c.loop-path.invariant.resolves tells;
+  disk = λ tells.
+      let told : IsTrue (g.R.FileResolver.tells c.loop-path.self.resolver) = rw c.loop-path.invariant.tells tells in
+      c.in-Ok.ensures.keeps_disk told ∙ c.loop-path.invariant.disk tells;
   later = omega (arith, c.loop-path.invariant.later, c.in-Ok.ensures.later);
   before = λ tells lookups all.
       let told : IsTrue (g.R.FileResolver.tells c.loop-path.self.resolver) = rw c.loop-path.invariant.tells tells in

@@ -9,6 +9,7 @@ invariant-loop-path g l = record {
   tells : g.R.FileResolver.tells l.self.resolver ≡ g.R.FileResolver.tells l.fn.self.resolver;
   files : IsTrue (g.R.FileResolver.tells l.fn.self.resolver) → g.R.FileResolver.files l.self.resolver ≡ g.R.FileResolver.files l.fn.self.resolver;
   resolves : IsTrue (g.R.FileResolver.tells l.fn.self.resolver) → g.R.FileResolver.resolves l.self.resolver ≡ g.R.FileResolver.resolves l.fn.self.resolver;
+  disk : IsTrue (g.R.FileResolver.tells l.fn.self.resolver) → g.R.FileResolver.disk l.self.resolver ≡ g.R.FileResolver.disk l.fn.self.resolver;
   later : g.R.FileResolver.faults l.fn.self.resolver ≤ g.R.FileResolver.faults l.self.resolver;
   before : IsTrue (g.R.FileResolver.tells l.fn.self.resolver) → (lookups : List ℕ → Lookup) → AreLookups (g.R.FileResolver.files l.fn.self.resolver) lookups
       → closure lookups (g.R.FileResolver.resolves l.fn.self.resolver) l.fn.self.limit (take l.path-index l.path-items) l.fn.self.done ≡ (l.self.done, Accepted);
