@@ -6,4 +6,4 @@ pub returns-clause-pool : goal.returns-clause-pool
 returns-clause-pool c = rw (← c.self.view_is) (c.copy.ensures ∙ sym (records_known c.self.inside.files.items c.self.inside.pool c.self.invariant))
 
 pub returns-clause-ordered : goal.returns-clause-ordered
-returns-clause-ordered c = rw (← c.self.view_is) (ordered [] c.self.inside.files.items [] c.self.inside.pool tt c.self.invariant c.file_at.ensures.pooled)
+returns-clause-ordered c = rw (← c.self.view_is) (ordered [] c.self.inside.files.items [] c.self.inside.pool tt c.self.invariant c.file_at-first.ensures.pooled)
