@@ -91,7 +91,10 @@ module _ {K N : Type 0} (cmp : K → K → Ordering) (key : K → N) (eq : N →
         left ∙ at_drop_more (places_from (earlier eq names) place i) names i d within
         ∙ place_not (earlier eq names) place i (get_or names i d) (drop (i + 1) names) (told false (was_new added _ e taken))
 
-    pub seen_more : (q : N) → has (insert_key cmp ks k) q ≡ earlier eq names (i + 1) q
+    seen_more : (q : N) → has (insert_key cmp ks k) q ≡ earlier eq names (i + 1) q
     seen_more q =
         has_inserted q k ks ∙ ap (λ b. b || has ks q) (ap (eq q) is ∙ either_way q (get_or names i d)) ∙ ap (λ b. eq (get_or names i d) q || b) (seen q)
         ∙ swap (eq (get_or names i d) q) (earlier eq names i q) ∙ sym (list_any_more (λ other. eq other q) names i d within)
+
+    pub seen_after : (after : List K) → after ≡ insert_key cmp ks k → (q : N) → has after q ≡ earlier eq names (i + 1) q
+    seen_after after e q = ap (λ xs. has xs q) e ∙ seen_more q

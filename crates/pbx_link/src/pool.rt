@@ -1,4 +1,4 @@
-ghost use Rattle.std.specs.Prelude.{◌≡◌, ◌↔◌, [], ◌∷◌, ◌++◌, true, length, map, slice_get, IfOk, OnOk, IfErr, OnErr, IsTrue};
+ghost use Rattle.std.specs.Prelude.{◌≡◌, ◌↔◌, [], ◌∷◌, ◌++◌, true, length, map, slice_get, IfOk, OnOk, IfErr, OnErr, IsTrue, ⊤};
 ghost use Rattle.std.specs.List.{list_all};
 ghost use Rattle.std.specs.Option.{option_copied};
 ghost use Rattle.pbx_link.specs.Linked.{linked as linked_of};
@@ -11,7 +11,7 @@ use crate::records::{Records, with_record};
 use pbx_desc::FileDescriptorProto;
 use pbx_shared::Shared;
 use pbx_wire::NoMemory;
-use std::alloc::Global;
+use std::alloc::{AllocError, Global};
 use std::marker::Model;
 
 /// The linked records of files, each of which keeps the rules among those before it. Contracts see the list of them.
@@ -40,7 +40,7 @@ impl Model for DescriptorPool {
 }
 
 impl DescriptorPool {
-    /// The pool without files. The only error is want of memory.
+    /// The pool without files. The only error is want of memory, which does not come so far.
     pub fn new(alloc: Global) -> Result<DescriptorPool, NoMemory>
         ensures { IfOk result (λ pool. pool ≡ []) }
     {
@@ -120,6 +120,17 @@ impl DescriptorPool {
         self.files = files;
         done?;
         Ok(())
+    }
+}
+
+// `copy` as the bound `Clone` has it: it never fails.
+impl Clone for DescriptorPool {
+    ghost is_clone = { λ pool copy. copy ≡ pool };
+
+    ghost is_infallible = { λ _. ⊤ };
+
+    fn clone(&self) -> Result<DescriptorPool, AllocError> {
+        Ok(self.copy())
     }
 }
 

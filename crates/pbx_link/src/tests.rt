@@ -78,7 +78,8 @@ fn expect_rule(
     place: &[i32],
 ) -> Result<(), DescriptorError> {
     let mut pool = pool(alloc)?;
-    match pool.add_file_descriptor_proto(file) {
+    let refused = pool.add_file_descriptor_proto(file);
+    match &refused {
         Err(
             DescriptorError::Rule {
                 file: _,
@@ -86,7 +87,7 @@ fn expect_rule(
                 rule: by,
             },
         ) => {
-            assert_eq!(rt; by, rule);
+            assert_eq!(rt; *by, rule);
             assert_eq!(rt; told.as_slice(), place);
         }
         _ => assert!(rt; false),
@@ -107,67 +108,36 @@ fn refuse(rt: &impl Abort, alloc: Global, rows: &[Refused<'_>]) -> Result<(), De
     Ok(())
 }
 
+const GOOD: FieldRow<'static> = ("x", Some(1));
+
+#[rattlefmt::skip]
+const AT_THEIR_PLACES: [Refused<'static>; 13] = [
+    ("a.proto", &[], &[], 1, &[1]),
+    ("b.proto", &["a.proto", "c.proto"], &[], 2, &[3, 1]),
+    ("b.proto", &["b.proto"], &[], 2, &[3, 0]),
+    ("b.proto", &[], &[("", &[])], 4, &[4, 0, 1]),
+    ("b.proto", &[], &[("B", &[]), ("1C", &[])], 4, &[4, 1, 1]),
+    ("b.proto", &[], &[("B", &[GOOD, ("y.z", Some(2))])], 4, &[4, 0, 2, 1, 1]),
+    ("b.proto", &[], &[("B", &[]), ("A", &[])], 5, &[4, 1, 1]),
+    ("b.proto", &[], &[("B", &[]), ("C", &[]), ("B", &[])], 5, &[4, 2, 1]),
+    ("b.proto", &[], &[("B", &[GOOD, ("y", Some(2)), ("x", Some(3))])], 5, &[4, 0, 2, 2, 1]),
+    ("b.proto", &[], &[("B", &[GOOD]), ("C", &[("x", Some(0))])], 6, &[4, 1, 2, 0, 3]),
+    ("b.proto", &[], &[("B", &[GOOD, ("y", Some(2)), ("z", Some(1))])], 6, &[4, 0, 2, 2, 3]),
+    ("b.proto", &[], &[("B", &[("x", None)])], 6, &[4, 0, 2, 0, 3]),
+    ("b.proto", &[], &[("B", &[("x", Some(-1))])], 6, &[4, 0, 2, 0, 3]),
+];
+
+#[rattlefmt::skip]
+const OF_TWO_RULES: [Refused<'static>; 4] = [
+    ("a.proto", &["c.proto"], &[], 1, &[1]),
+    ("b.proto", &["c.proto"], &[("1B", &[])], 2, &[3, 0]),
+    ("b.proto", &[], &[("A", &[]), ("1B", &[])], 4, &[4, 1, 1]),
+    ("b.proto", &[], &[("B", &[GOOD, GOOD])], 5, &[4, 0, 2, 1, 1]),
+];
+
 #[test]
 fn rules_are_told_at_their_places(rt: HostRuntime) -> Result<(), Fail> {
-    let good: FieldRow<'_> = ("x", Some(1));
-    let rows: [Refused<'_>; 13] = [
-        ("a.proto", &[], &[], 1, &[1]),
-        ("b.proto", &["a.proto", "c.proto"], &[], 2, &[3, 1]),
-        ("b.proto", &["b.proto"], &[], 2, &[3, 0]),
-        ("b.proto", &[], &[("", &[])], 4, &[4, 0, 1]),
-        ("b.proto", &[], &[("B", &[]), ("1C", &[])], 4, &[4, 1, 1]),
-        (
-            "b.proto",
-            &[],
-            &[("B", &[good, ("y.z", Some(2))])],
-            4,
-            &[4, 0, 2, 1, 1],
-        ),
-        ("b.proto", &[], &[("B", &[]), ("A", &[])], 5, &[4, 1, 1]),
-        (
-            "b.proto",
-            &[],
-            &[("B", &[]), ("C", &[]), ("B", &[])],
-            5,
-            &[4, 2, 1],
-        ),
-        (
-            "b.proto",
-            &[],
-            &[("B", &[good, ("y", Some(2)), ("x", Some(3))])],
-            5,
-            &[4, 0, 2, 2, 1],
-        ),
-        (
-            "b.proto",
-            &[],
-            &[("B", &[good]), ("C", &[("x", Some(0))])],
-            6,
-            &[4, 1, 2, 0, 3],
-        ),
-        (
-            "b.proto",
-            &[],
-            &[("B", &[good, ("y", Some(2)), ("z", Some(1))])],
-            6,
-            &[4, 0, 2, 2, 3],
-        ),
-        (
-            "b.proto",
-            &[],
-            &[("B", &[("x", None)])],
-            6,
-            &[4, 0, 2, 0, 3],
-        ),
-        (
-            "b.proto",
-            &[],
-            &[("B", &[("x", Some(-1))])],
-            6,
-            &[4, 0, 2, 0, 3],
-        ),
-    ];
-    refuse(&rt, rt.alloc(), &rows)?;
+    refuse(&rt, rt.alloc(), &AT_THEIR_PLACES)?;
     let mut nameless = file(rt.alloc(), "", &[])?;
     nameless.name = None;
     expect_rule(&rt, rt.alloc(), nameless, 4, &[1])?;
@@ -176,20 +146,7 @@ fn rules_are_told_at_their_places(rt: HostRuntime) -> Result<(), Fail> {
 
 #[test]
 fn the_least_rule_is_told(rt: HostRuntime) -> Result<(), Fail> {
-    let twice: FieldRow<'_> = ("x", Some(1));
-    let rows: [Refused<'_>; 4] = [
-        ("a.proto", &["c.proto"], &[], 1, &[1]),
-        ("b.proto", &["c.proto"], &[("1B", &[])], 2, &[3, 0]),
-        ("b.proto", &[], &[("A", &[]), ("1B", &[])], 4, &[4, 1, 1]),
-        (
-            "b.proto",
-            &[],
-            &[("B", &[twice, twice])],
-            5,
-            &[4, 0, 2, 1, 1],
-        ),
-    ];
-    refuse(&rt, rt.alloc(), &rows)?;
+    refuse(&rt, rt.alloc(), &OF_TWO_RULES)?;
     Ok(())
 }
 
@@ -200,7 +157,8 @@ fn expect_not_built(
     file: FileDescriptorProto,
 ) -> Result<(), DescriptorError> {
     let mut pool = pool(alloc)?;
-    match pool.add_file_descriptor_proto(file) {
+    let refused = pool.add_file_descriptor_proto(file);
+    match &refused {
         Err(DescriptorError::NotBuilt { file }) => assert_eq!(rt; file.as_str(), "a.proto"),
         _ => assert!(rt; false),
     }
@@ -295,6 +253,10 @@ fn fields_get_their_json_names(rt: HostRuntime) -> Result<(), Fail> {
     Ok(())
 }
 
+fn cloned<T: Clone>(item: &T) -> Result<T, Fail> {
+    Ok(item.clone()?)
+}
+
 #[test]
 fn a_copy_stays_as_it_is(rt: HostRuntime) -> Result<(), Fail> {
     let alloc = rt.alloc();
@@ -302,12 +264,14 @@ fn a_copy_stays_as_it_is(rt: HostRuntime) -> Result<(), Fail> {
     assert!(rt; empty.is_empty());
     let mut pool = pool(alloc)?;
     let before = pool.copy();
+    let clone = cloned(&pool)?;
     let mut second = file(alloc, "b.proto", &[("B", &[])])?;
     import(&mut second, alloc, &["a.proto"])?;
     pool.add_file_descriptor_proto(second)?;
     pool.add_file_descriptor_proto(file(alloc, "c.proto", &[])?)?;
     assert_eq!(rt; pool.len(), 3);
     assert_eq!(rt; before.len(), 1);
+    assert_eq!(rt; clone.len(), 1);
     assert!(rt; before.get_file_by_name("b.proto").is_none());
     assert!(rt; pool.get_file_by_name("b.proto").is_some());
     assert!(rt; pool.file_at(2).is_some());
@@ -315,19 +279,32 @@ fn a_copy_stays_as_it_is(rt: HostRuntime) -> Result<(), Fail> {
     Ok(())
 }
 
+/// That the pool has a message of the name, in the file.
+fn expect_message(
+    rt: &impl Abort,
+    pool: &DescriptorPool,
+    name: &str,
+    declared: &str,
+) -> Result<(), Fail> {
+    let message = pool.get_message_by_name(name).ok_or("not found")?;
+    assert_eq!(rt; message.name(), name);
+    assert_eq!(rt; message.full_name(), name);
+    let file = message.parent_file();
+    assert_eq!(rt; file.name(), declared);
+    let parent = message.parent_pool();
+    assert_eq!(rt; parent.len(), pool.len());
+    Ok(())
+}
+
+const TWO_MESSAGES: [MessageRow<'static>; 2] = [("B", &[]), ("Bb", &[])];
+
 #[test]
 fn messages_are_found_by_their_exact_names(rt: HostRuntime) -> Result<(), Fail> {
     let mut pool = pool(rt.alloc())?;
-    let rows: [MessageRow<'_>; 2] = [("B", &[]), ("Bb", &[])];
-    pool.add_file_descriptor_proto(file(rt.alloc(), "b.proto", &rows)?)?;
-    let found = [("A", "a.proto"), ("B", "b.proto"), ("Bb", "b.proto")];
-    for (name, declared) in found {
-        let message = pool.get_message_by_name(name).ok_or("not found")?;
-        assert_eq!(rt; message.name(), name);
-        assert_eq!(rt; message.full_name(), name);
-        assert_eq!(rt; message.parent_file().name(), declared);
-        assert_eq!(rt; message.parent_pool().len(), 2);
-    }
+    pool.add_file_descriptor_proto(file(rt.alloc(), "b.proto", &TWO_MESSAGES)?)?;
+    expect_message(&rt, &pool, "A", "a.proto")?;
+    expect_message(&rt, &pool, "B", "b.proto")?;
+    expect_message(&rt, &pool, "Bb", "b.proto")?;
     for name in [".A", "a", "AA", ""] {
         assert!(rt; pool.get_message_by_name(name).is_none());
     }

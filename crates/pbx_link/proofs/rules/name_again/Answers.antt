@@ -5,7 +5,7 @@ use Rattle.std.proofs.lemmas.List.{at_drop_all, length-map}
 use Rattle.std.proofs.lemmas.Map.Text.{is_eq-slice_cmp}
 use Rattle.std.proofs.lemmas.Slice.Eq.{bytes_eq-Decides}
 use Rattle.pbx_link.proofs.Searched.{places_from}
-use Rattle.pbx_link.proofs.Seen.{has, earlier, again, left_more, seen_more}
+use Rattle.pbx_link.proofs.Seen.{earlier, again, left_more, seen_after}
 use Rattle.pbx_link.proofs.rules.name_again.Goals as goal
 
 pub returns-then-not-branch : goal.returns-then-not-branch
@@ -26,10 +26,9 @@ loop-index-preserved g c =
       left = λ place. left_more (λ x y. slice_cmp nat_cmp x.now y.now) (λ k. k.now) bytes_eq (λ x y. is_eq-slice_cmp x.now y.now) bytes_eq-Decides
           (map g.T.Named.name_of c.args.items.now) c.loop-index.index (g.T.Named.name_of c.index-items-index.result) c.name.result c.loop-index.seen.keys
           within is c.loop-index.invariant.seen place c.in_ok-insert.field-0 (c.loop-index.invariant.left place) c.in_ok-insert.ensures.added c.if-not-branch.false;
-      seen = λ q. ap (λ ks. has (λ x y. slice_cmp nat_cmp x.now y.now) (λ k. k.now) bytes_eq (λ x y. is_eq-slice_cmp x.now y.now) bytes_eq-Decides ks q) c.in_ok-insert.ensures.keys
-          ∙ seen_more (λ x y. slice_cmp nat_cmp x.now y.now) (λ k. k.now) bytes_eq (λ x y. is_eq-slice_cmp x.now y.now) bytes_eq-Decides
+      seen = seen_after (λ x y. slice_cmp nat_cmp x.now y.now) (λ k. k.now) bytes_eq (λ x y. is_eq-slice_cmp x.now y.now) bytes_eq-Decides
           (map g.T.Named.name_of c.args.items.now) c.loop-index.index (g.T.Named.name_of c.index-items-index.result) c.name.result c.loop-index.seen.keys
-          within is c.loop-index.invariant.seen q;
+          within is c.loop-index.invariant.seen c.insert.new.self.keys c.in_ok-insert.ensures.keys;
     }
 
 pub returns : goal.returns

@@ -5,7 +5,7 @@ use Rattle.std.proofs.lemmas.List.{at_drop_all, length-map}
 use Rattle.pbx_desc.specs.declared.field.FieldDescriptorProto.{FieldDescriptorProto}
 use Rattle.pbx_link.specs.Shapes.{number_or_zero}
 use Rattle.pbx_link.proofs.Searched.{places_from}
-use Rattle.pbx_link.proofs.Seen.{has, earlier, again, left_more, seen_more}
+use Rattle.pbx_link.proofs.Seen.{earlier, again, left_more, seen_after}
 use Rattle.pbx_link.proofs.rules.number_again.Goals as goal
 
 tied : (x y : ℕ) → is_eq (nat_cmp x y) ≡ (x == y)
@@ -39,9 +39,8 @@ loop-index-preserved c =
     record {
       left = λ place. left_more nat_cmp (λ k. k) equal tied Decides-eqb (map number c.args.fields.now) c.loop-index.index (number c.index-fields-index.result) c.number_or_zero.result c.loop-index.seen.keys
           within is c.loop-index.invariant.seen place c.in_ok-insert.field-0 (c.loop-index.invariant.left place) c.in_ok-insert.ensures.added c.if-not-branch.false;
-      seen = λ q. ap (λ ks. has nat_cmp (λ k. k) equal tied Decides-eqb ks q) c.in_ok-insert.ensures.keys
-          ∙ seen_more nat_cmp (λ k. k) equal tied Decides-eqb (map number c.args.fields.now) c.loop-index.index (number c.index-fields-index.result) c.number_or_zero.result c.loop-index.seen.keys
-          within is c.loop-index.invariant.seen q;
+      seen = seen_after nat_cmp (λ k. k) equal tied Decides-eqb (map number c.args.fields.now) c.loop-index.index (number c.index-fields-index.result) c.number_or_zero.result c.loop-index.seen.keys
+          within is c.loop-index.invariant.seen c.insert.new.self.keys c.in_ok-insert.ensures.keys;
     }
 
 pub returns : goal.returns
