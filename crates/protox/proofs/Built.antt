@@ -1,12 +1,10 @@
--- What linking gives of a shape that keeps the rules.
-use Rattle.std.proofs.Common.{◌≡◌, ◌<◌, ℕ, zero, suc, List, [], ◌∷◌, map, Bool, true, false, not, ◌&&◌, ◌||◌, ◌==◌, nat_lt, if◌then◌else◌, Some, None, find, refl, ap, sym, ◌∙◌, subst, arith}
-use Rattle.std.specs.List.{list_any, list_all, fold}
+-- What the types of linked files are, and what their own names in JSON give.
+use Rattle.std.proofs.Common.{◌≡◌, ℕ, zero, suc, List, [], ◌∷◌, map, Bool, true, false, not, ◌&&◌, ◌||◌, ◌==◌, if◌then◌else◌, Some, None, find, refl, ap, sym, ◌∙◌, subst}
+use Rattle.std.specs.List.{list_any, list_all, fold, flat_map}
 use Rattle.std.specs.Str.{bytes_eq}
-use Rattle.std.proofs.lemmas.Bool.Decides.{nat_tests}
 use Rattle.std.proofs.lemmas.Slice.Eq.{bytes_eq-Decides}
-use Rattle.pbx_wire.specs.Text.{is_number}
-use Rattle.pbx_content.specs.Shape.{fields_at, field_of}
-use Rattle.pbx_content.specs.Sound.{AreAbove}
+use Rattle.pbx_content.specs.Shape.{fields_at, fields_of, field_of}
+use Rattle.pbx_content.specs.Sound.{IsProper}
 use Rattle.pbx_content.specs.declared.shape.FieldShape.{FieldShape}
 use Rattle.pbx_desc.specs.declared.field.FieldDescriptorProto.{FieldDescriptorProto}
 use Rattle.pbx_desc.specs.declared.message.DescriptorProto.{DescriptorProto}
@@ -14,9 +12,9 @@ use Rattle.pbx_desc.specs.declared.file.FileDescriptorProto.{FileDescriptorProto
 use Rattle.pbx_json.specs.Found.{HasNoOneof}
 use Rattle.pbx_json.specs.Named.{IsWellNamed}
 use Rattle.pbx_json.specs.Names.{json_name_is, or_else, name_is}
-use Rattle.pbx_link.specs.Rules.{are_distinct, is_field_number, ascend, keeps_field_rules, keeps_rules}
 use Rattle.pbx_link.specs.Shapes.{field_shape, has_up_to, inserted, message_shape, shape_of}
 use Rattle.protox.specs.Parts.{IsBuilt}
+use Rattle.protox.specs.Top.{are_distinct, has_own_names}
 
 both : (a b : Bool) → (a && b) ≡ true → (a ≡ true) × (b ≡ true)
 both true b h = (refl, h)
@@ -26,40 +24,34 @@ neither : (b : Bool) → not b ≡ true → b ≡ false
 neither true h = absurd (cc)
 neither false h = refl
 
--- ---- numbers
+-- ---- no field of linked files is of a oneof
 
-number_is : (n : ℕ) → is_field_number n ≡ true → is_number n ≡ true
-number_is n h = (both (nat_lt 0 n && nat_lt n 536870912) _ h).0
+inserted_alone : (f : FieldShape) (gs : List FieldShape) → f.oneof ≡ None → HasNoOneof gs → HasNoOneof (inserted f gs)
+inserted_alone f [] o h = (o, tt)
+inserted_alone f (g ∷ gs) o h = at (has_up_to f.number (g ∷ gs)) (inserted_alone f gs o h.1)
+  where
+    at : (b : Bool) → HasNoOneof (inserted f gs) → HasNoOneof (if b then g ∷ inserted f gs else f ∷ g ∷ gs)
+    at true ih = (h.0, ih)
+    at false ih = (o, h)
 
-above : (n : ℕ) (fs : List FieldShape) → ascend n fs ≡ true → AreAbove n fs
-above n [] h = tt
-above n (f ∷ fs) h =
-    let first = both (nat_lt n f.number && is_field_number f.number) _ h in
-    let second = both (nat_lt n f.number) _ first.0 in
-    let more : n < f.number = grind (arith, nat_tests, second.0) in
-    (more, number_is f.number second.1, above f.number fs first.1)
+sorted_alone : (fs : List FieldDescriptorProto) (done : List FieldShape) → HasNoOneof done → HasNoOneof (fold (λ sorted f. inserted f sorted) done (map field_shape fs))
+sorted_alone [] done h = h
+sorted_alone (f ∷ fs) done h = sorted_alone fs (inserted (field_shape f) done) (inserted_alone (field_shape f) done refl h)
 
--- ---- fields as records give them: of no oneof, and with their own name in JSON
+messages_alone : (ms : List DescriptorProto) (t : ℕ) → HasNoOneof (fields_at (map message_shape ms) t)
+messages_alone [] t = tt
+messages_alone (m ∷ ms) zero = sorted_alone m.field [] tt
+messages_alone (m ∷ ms) (suc t) = messages_alone ms t
+
+-- ---- fields of no oneof, and with their own name in JSON
 
 abbrev AreSimple : List FieldShape → Type 0
 AreSimple [] = Unit {0}
 AreSimple (f ∷ fs) = (f.oneof ≡ None) × (f.json_name ≡ f.name) × AreSimple fs
 
-simple_inserted : (f : FieldShape) (gs : List FieldShape) → f.oneof ≡ None → f.json_name ≡ f.name → AreSimple gs → AreSimple (inserted f gs)
-simple_inserted f [] o n h = (o, n, tt)
-simple_inserted f (g ∷ gs) o n h = at (has_up_to f.number (g ∷ gs)) (simple_inserted f gs o n h.2)
-  where
-    at : (b : Bool) → AreSimple (inserted f gs) → AreSimple (if b then g ∷ inserted f gs else f ∷ g ∷ gs)
-    at true ih = (h.0, h.1, ih)
-    at false ih = (o, n, h)
-
-simple_sorted : (fs : List FieldDescriptorProto) (done : List FieldShape) → AreSimple done → AreSimple (fold (λ sorted f. inserted f sorted) done (map field_shape fs))
-simple_sorted [] done h = h
-simple_sorted (f ∷ fs) done h = simple_sorted fs (inserted (field_shape f) done) (simple_inserted (field_shape f) done refl refl h)
-
-alone : (fs : List FieldShape) → AreSimple fs → HasNoOneof fs
-alone [] h = tt
-alone (f ∷ fs) h = (h.0, alone fs h.2)
+simple : (fs : List FieldShape) → HasNoOneof fs → list_all (λ (f : FieldShape). bytes_eq f.json_name f.name) fs ≡ true → AreSimple fs
+simple [] h own = tt
+simple (f ∷ fs) h own = let parts = both (bytes_eq f.json_name f.name) _ own in (h.0, (bytes_eq-Decides f.json_name f.name).0 parts.0, simple fs h.1 parts.1)
 
 -- ---- names
 
@@ -116,32 +108,9 @@ well_named fs h d n f e =
     let again : find (json_name_is f.json_name) fs ≡ Some f = ap (λ name. find (json_name_is name) fs) own ∙ found_again n fs f e h d in
     ap (λ o. or_else o (find (name_is f.json_name) fs)) again
 
--- ---- all types of a file
-
-record AreBuilt (fs : List FieldShape) : Type 0 where
-  proper : AreAbove 0 fs
-  alone_in_it : HasNoOneof fs
-  named : IsWellNamed fs
-
-nothing_built : AreBuilt []
-nothing_built = record { proper = tt; alone_in_it = tt; named = λ n f e. absurd (cc) }
-
-message_built : (m : DescriptorProto) → keeps_field_rules (message_shape m) ≡ true → AreBuilt (message_shape m).fields
-message_built m h =
-    let parts = both (are_distinct (map (λ f. f.name) (message_shape m).fields)) _ h in
-    let simple = simple_sorted m.field [] tt in
-    record { proper = above 0 (message_shape m).fields parts.1; alone_in_it = alone (message_shape m).fields simple; named = well_named (message_shape m).fields simple parts.0 }
-
-messages_built : (ms : List DescriptorProto) (t : ℕ) → list_all keeps_field_rules (map message_shape ms) ≡ true → AreBuilt (fields_at (map message_shape ms) t)
-messages_built [] t h = nothing_built
-messages_built (m ∷ ms) zero h = message_built m (both (keeps_field_rules (message_shape m)) _ h).0
-messages_built (m ∷ ms) (suc t) h = messages_built ms t (both (keeps_field_rules (message_shape m)) _ h).1
-
-pub linked_built : (file : FileDescriptorProto) → keeps_rules (shape_of file) ≡ true → IsBuilt (shape_of file)
-linked_built file h =
-    let rules = (both (are_distinct (map (λ m. m.full_name) (shape_of file).messages)) _ h).1 in
-    record {
-      proper = λ t. (messages_built file.message_type t rules).proper;
-      alone = λ t. (messages_built file.message_type t rules).alone_in_it;
-      named = λ t. (messages_built file.message_type t rules).named;
-    }
+-- the types of linked files whose fields have their own names
+pub is_built : (files : List FileDescriptorProto) (t : ℕ) → IsProper (shape_of files) → has_own_names (fields_of (shape_of files) t) ≡ true → IsBuilt (shape_of files) t
+is_built files t proper h =
+    let parts = both (list_all (λ (f : FieldShape). bytes_eq f.json_name f.name) (fields_of (shape_of files) t)) _ h in
+    let none : HasNoOneof (fields_of (shape_of files) t) = messages_alone (flat_map (λ f. f.message_type) files) t in
+    record { proper = proper; alone = none; named = well_named (fields_of (shape_of files) t) (simple (fields_of (shape_of files) t) none parts.0) parts.1 }

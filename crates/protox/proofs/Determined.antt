@@ -1,127 +1,168 @@
 -- What an input is transcoded to is determined, and it is refused for no reason.
-use Rattle.std.proofs.Common.{◌≡◌, inl, inr, ◌≤◌, ◌∙◌, ℕ, List, length, true, false, Some, None, ap, sym, subst, arith}
-use Rattle.std.specs.Str.{is_utf8}
+use Rattle.std.proofs.Common.{◌≡◌, ◌≤◌, ◌∙◌, ◌++◌, ◌∷◌, [], inl, inr, ◌⊎◌, ℕ, List, length, true, false, Bool, not, if◌then◌else◌, Option, Some, None, ap, sym, subst, refl, arith}
 use Rattle.serde_json.specs.Data.{Data}
 use Rattle.serde_json.specs.Written.{compact_text}
 use Rattle.pbx_content.specs.Content.{Content}
 use Rattle.pbx_content.specs.Encoding.{encoded}
+use Rattle.pbx_content.specs.Shape.{fields_of}
 use Rattle.pbx_content.specs.declared.shape.Shape.{Shape}
 use Rattle.pbx_desc.specs.declared.file.FileDescriptorProto.{FileDescriptorProto}
-use Rattle.pbx_json.specs.Stands.{Stands}
 use Rattle.pbx_json.specs.Canonical.{canonical}
-use Rattle.pbx_link.specs.Rules.{keeps_rules, message_named}
-use Rattle.pbx_link.specs.Shapes.{shape_of}
-use Rattle.pbx_parse.specs.Reads.{Reads}
-use Rattle.protox_io.specs.Disk.{Held, Missing, Oversized, Stored}
-use Rattle.protox.specs.Class.{limit, json_of, Done, Refusing, Judges, IsNotBuilt, Transcodes, ForType}
+use Rattle.pbx_json.specs.Stands.{Stands}
+use Rattle.pbx_link.specs.Shapes.{shape_of, message_named}
+use Rattle.pbx_parse.specs.declared.error.ParseError.TheVariants as parse
+use Rattle.protox_file.specs.Paths.{resolved}
+use Rattle.protox_file.specs.Told.{Lookup}
+use Rattle.protox_file.specs.declared.error.ErrorKind.{ErrorKind}
+use Rattle.protox_file.specs.declared.error.ErrorKind.TheVariants as kinds
+use Rattle.protox_compile.specs.Walk.{Done, records}
+use Rattle.protox_compile.specs.Opening.{Opened, Accepted, NotIncluded, Refused, opening, closure, after_opening, grown, root_of}
+use Rattle.protox_compile.specs.Refusals.{RefusesWith}
+use Rattle.protox_compile.specs.Closures.{StopsAt}
+use Rattle.protox.specs.Class.{limit, folder, json_of, Done as Ended, Refusing, Judges}
+use Rattle.protox.specs.Top.{ForFiles, IsNotBuilt, IsRefused, IsTranscoded, Refuses, Transcodes, has_own_names, is_fault, is_refusal, most_files}
 use Rattle.protox.specs.Words.{Args}
+use Rattle.protox.specs.declared.error.TopError.{TopError}
+use Rattle.protox.specs.declared.error.TopError.TheVariants as top
 use Rattle.protox.specs.declared.stop.Refusal.{Refusal}
-use Rattle.protox.specs.declared.stop.Refusal.TheVariants.{TooLong, NotJson, Absent, NotBuilt, Syntax, TypeNotFound}
+use Rattle.protox.specs.declared.stop.Refusal.TheVariants.{TooLong, NotJson, Top}
 
-abbrev pub OneRecord : Type 0
-OneRecord = (name source : List ℕ) (f g : FileDescriptorProto) → Reads name source f → Reads name source g → f ≡ g
+-- ---- a refused path keeps the paths from being accepted
 
--- what is known where a file and its type are found
-record IsKnown (args : Args) (held : Held) (P : Shape → ℕ → Type 0) : Type 0 where
-  source : List ℕ
-  stored : held ≡ Stored source
-  utf8 : is_utf8 source ≡ true
-  descriptor : FileDescriptorProto
-  reads : Reads args.file source descriptor
-  kept : keeps_rules (shape_of descriptor) ≡ true
-  place : ℕ
-  named : message_named args.type_name (shape_of descriptor) ≡ Some place
-  so : P (shape_of descriptor) place
+abbrev IsStopped : List Done × Opened → Type 0
+IsStopped (done, Accepted) = ⊥
+IsStopped (done, NotIncluded) = Unit {0}
+IsStopped (done, Refused fault) = Unit {0}
 
-known : (args : Args) (held : Held) (P : Shape → ℕ → Type 0) → ForType args held P → IsKnown args held P
-known args held P h = record {
-  source = h.0;
-  stored = h.1;
-  utf8 = h.2;
-  descriptor = h.3.0;
-  reads = h.3.1;
-  kept = h.3.2.0;
-  place = h.3.2.1.0;
-  named = h.3.2.1.1;
-  so = h.3.2.1.2;
-}
+stopped_by : (o p : List Done × Opened) → o ≡ p → IsStopped p → IsStopped o
+stopped_by o p e h = let P : List Done × Opened → Type 0 = λ x. IsStopped x in subst P (sym e) h
 
-module _ (one : OneRecord) (args : Args) (held : Held) (P : Shape → ℕ → Type 0) (k : IsKnown args held P) where
-  same_source : (other : List ℕ) → held ≡ Stored other → other ≡ k.source
-  same_source other h = let e : Stored other ≡ Stored k.source = sym h ∙ k.stored in cc
+stopped : (path : List ℕ) (files : (List ℕ → Lookup) → List Done) (o : List Done × Opened) (lookups : List ℕ → Lookup) (later : List Done) (error : ErrorKind) → is_fault error ≡ false → RefusesWith path files o lookups later error → IsStopped o
+stopped path files o lookups later (kinds.Parse (parse.Syntax file line column expected found)) f h = stopped_by o _ h tt
+stopped path files o lookups later (kinds.Parse parse.NoMemory) f h = absurd h
+stopped path files o lookups later (kinds.Check e) f h = stopped_by o _ h.opened_is tt
+stopped path files o lookups later (kinds.OpenFile name p fault) f h = absurd (cc)
+stopped path files o lookups later (kinds.FileTooLarge name) f h = stopped_by o _ h tt
+stopped path files o lookups later (kinds.FileInvalidUtf8 name) f h = stopped_by o _ h tt
+stopped path files o lookups later (kinds.FileNotFound name) f h = absurd h
+stopped path files o lookups later (kinds.ImportNotFound file index place name) f h = stopped_by o _ h.0 tt
+stopped path files o lookups later (kinds.CircularImport name cycle) f h = stopped_by o _ h tt
+stopped path files o lookups later (kinds.FileNotIncluded p) f h = stopped_by o _ h.1 tt
+stopped path files o lookups later (kinds.FileShadowed name asked shadow) f h = stopped_by o _ h tt
+stopped path files o lookups later (kinds.DuplicateImport file index place name) f h = stopped_by o _ h.0 tt
+stopped path files o lookups later (kinds.Custom text is_io) f h = absurd (cc)
+stopped path files o lookups later (kinds.NameMismatch asked declared) f h = stopped_by o _ h tt
+stopped path files o lookups later (kinds.FileLimit n) f h = stopped_by o _ h tt
+stopped path files o lookups later (kinds.Undecodable file) f h = absurd h
+stopped path files o lookups later kinds.NoMemory f h = absurd (cc)
 
-  same_record : (other : List ℕ) (descriptor : FileDescriptorProto) → held ≡ Stored other → Reads args.file other descriptor → descriptor ≡ k.descriptor
-  same_record other descriptor h reads =
-      let Q : List ℕ → Type 0 = λ s. Reads args.file s descriptor in
-      one args.file k.source descriptor k.descriptor (subst Q (same_source other h) reads) k.reads
+not_accepted : (o : List Done × Opened) (rest : List Done → List Done × Opened) (files : List Done) → IsStopped o → after_opening o rest ≡ (files, Accepted) → ⊥
+not_accepted (done, Accepted) rest files s e = absurd s
+not_accepted (done, NotIncluded) rest files s e = let k : NotIncluded ≡ Accepted = ap (λ p. p.1) e in cc
+not_accepted (done, Refused fault) rest files s e = let k : Refused fault ≡ Accepted = ap (λ p. p.1) e in cc
 
-  same_place : (other : List ℕ) (descriptor : FileDescriptorProto) (place : ℕ) → held ≡ Stored other → Reads args.file other descriptor → message_named args.type_name (shape_of descriptor) ≡ Some place → place ≡ k.place
-  same_place other descriptor place h reads named =
-      let e : Some place ≡ Some k.place = sym named ∙ ap (λ d. message_named args.type_name (shape_of d)) (same_record other descriptor h reads) ∙ k.named in
-      cc
+module _ (lookups : List ℕ → Lookup) (resolves : List ℕ → Option (List ℕ)) (n : ℕ) where
+  closure_of_both : (before rest : List (List ℕ)) (old : List Done) → closure lookups resolves n (before ++ rest) old ≡ after_opening (closure lookups resolves n before old) (closure lookups resolves n rest)
+  closure_of_both [] rest old = refl
+  closure_of_both (p ∷ ps) rest old = at (λ done. closure_of_both ps rest done) (opening lookups resolves n p old)
+    where
+      at : ((done : List Done) → closure lookups resolves n (ps ++ rest) done ≡ after_opening (closure lookups resolves n ps done) (closure lookups resolves n rest)) → (o : List Done × Opened) → after_opening o (closure lookups resolves n (ps ++ rest)) ≡ after_opening (after_opening o (closure lookups resolves n ps)) (closure lookups resolves n rest)
+      at later (done, Accepted) = later done
+      at later (done, NotIncluded) = refl
+      at later (done, Refused fault) = refl
 
-  -- what is said of the type is said of this one
-  moved : (Q : Shape → ℕ → Type 0) (other : List ℕ) (descriptor : FileDescriptorProto) (place : ℕ) → held ≡ Stored other → Reads args.file other descriptor → message_named args.type_name (shape_of descriptor) ≡ Some place
-      → Q (shape_of descriptor) place → Q (shape_of k.descriptor) k.place
-  moved Q other descriptor place h reads named q =
-      let first : Q (shape_of k.descriptor) place = (let R : FileDescriptorProto → Type 0 = λ d. Q (shape_of d) place in subst R (same_record other descriptor h reads) q) in
-      (let S : ℕ → Type 0 = λ t. Q (shape_of k.descriptor) t in subst S (same_place other descriptor place h reads named) first)
+  accepted_alone : (paths : List (List ℕ)) (files later : List Done) (error : ErrorKind) → is_fault error ≡ false → closure lookups resolves n paths [] ≡ (files, Accepted) → StopsAt lookups resolves n paths [] later error → ⊥
+  accepted_alone paths files later error f whole s =
+      let there : after_opening (opening lookups resolves n s.path s.middle) (closure lookups resolves n s.after) ≡ (files, Accepted) =
+      sym (closure_of_both s.before (s.path ∷ s.after) [] ∙ ap (λ o. after_opening o (closure lookups resolves n (s.path ∷ s.after))) s.accepted) ∙ ap (λ ps. closure lookups resolves n ps []) (sym s.split) ∙ whole in
+      not_accepted (opening lookups resolves n s.path s.middle) (closure lookups resolves n s.after) files
+      (stopped s.path (λ ls. grown ls n (root_of resolves s.path) s.middle) (opening lookups resolves n s.path s.middle) lookups later error f s.refused) there
+
+-- ---- what is transcoded is refused for no reason
 
 -- the same tree
 same_tree : (input : List ℕ) (a b : Data) → json_of input ≡ Some a → json_of input ≡ Some b → a ≡ b
 same_tree input a b h k = let e : Some a ≡ Some b = sym h ∙ k in cc
 
-not_built : OneRecord → (args : Args) (held : Held) (tree : Data) (wire text : List ℕ) → IsKnown args held (λ shape t. Transcodes shape t tree wire text) → IsNotBuilt args held tree → ⊥
-not_built one args held tree wire text k (inl large) = let e : Oversized ≡ Stored k.source = sym large ∙ k.stored in cc
-not_built one args held tree wire text k (inr (inl bad)) =
-    let same = same_source one args held (λ shape t. Transcodes shape t tree wire text) k bad.0 bad.1 in
-    let e : true ≡ false = sym k.utf8 ∙ ap is_utf8 (sym same) ∙ bad.2 in
-    cc
-not_built one args held tree wire text k (inr (inr (inl broken))) =
-    let same = same_record one args held (λ shape t. Transcodes shape t tree wire text) k broken.0 broken.3.0 broken.1 broken.3.1 in
-    let e : true ≡ false = sym k.kept ∙ ap (λ d. keeps_rules (shape_of d)) (sym same) ∙ broken.3.2 in
-    cc
-not_built one args held tree wire text k (inr (inr (inr nothing))) =
-    let other = known args held (λ shape t. (c : Content) → ¬ Stands shape t false tree c) nothing in
-    let none = moved one args held (λ shape t. Transcodes shape t tree wire text) k (λ shape t. (c : Content) → ¬ Stands shape t false tree c) other.source other.descriptor other.place other.stored other.reads other.named other.so in
-    none k.so.0 k.so.1
+same_files : (x y : List Done) (o : List Done × Opened) → o ≡ (x, Accepted) → o ≡ (y, Accepted) → x ≡ y
+same_files x y o h k = let e : (x, Accepted) ≡ (y, Accepted) = sym h ∙ k in ap (λ p. p.0) e
+
+same_place : (a b : ℕ) (o : Option ℕ) → o ≡ Some a → o ≡ Some b → a ≡ b
+same_place a b o h k = let e : Some a ≡ Some b = sym h ∙ k in cc
 
 nothing_there : (place : ℕ) → None ≡ Some place → ⊥
 nothing_there place e = cc
 
-pub done_alone : OneRecord → (args : Args) (held : Held) (input wire text : List ℕ) (refusal : Refusal) → Judges args held input (Done wire text) → Judges args held input (Refusing refusal) → ⊥
-done_alone one args held input wire text TooLong h r = let short : length input ≤ limit = h.0 in omega (arith, short, r)
-done_alone one args held input wire text NotJson h r = let e : None ≡ Some h.1.0 = sym r.1 ∙ h.1.1 in cc
-done_alone one args held input wire text Absent h r =
-    let k = known args held (λ shape t. Transcodes shape t h.1.0 wire text) h.1.2 in
-    let e : Missing ≡ Stored k.source = sym r.1.2 ∙ k.stored in
-    cc
-done_alone one args held input wire text NotBuilt h r =
-    let same : r.1.0 ≡ h.1.0 = same_tree input r.1.0 h.1.0 r.1.1 h.1.1 in
-    not_built one args held h.1.0 wire text (known args held (λ shape t. Transcodes shape t h.1.0 wire text) h.1.2) (let Q : Data → Type 0 = λ d. IsNotBuilt args held d in subst Q same r.1.2)
-done_alone one args held input wire text (Syntax line column expected found) h r =
-    let k = known args held (λ shape t. Transcodes shape t h.1.0 wire text) h.1.2 in
-    let same : k.source ≡ r.1.2.0 = sym (same_source one args held (λ shape t. Transcodes shape t h.1.0 wire text) k r.1.2.0 r.1.2.1) in
-    let Q : List ℕ → Type 0 = λ s. Reads args.file s k.descriptor in
-    r.1.2.3 k.descriptor (subst Q same k.reads)
-done_alone one args held input wire text TypeNotFound h r =
-    let k = known args held (λ shape t. Transcodes shape t h.1.0 wire text) h.1.2 in
-    let same = same_record one args held (λ shape t. Transcodes shape t h.1.0 wire text) k r.1.2.0 r.1.2.3.0 r.1.2.1 r.1.2.3.1 in
-    nothing_there k.place (sym r.1.2.3.2.1 ∙ ap (λ d. message_named args.type_name (shape_of d)) same ∙ k.named)
+not_both : (b : Bool) → b ≡ true → b ≡ false → ⊥
+not_both b h k = let e : true ≡ false = sym h ∙ k in cc
 
--- what a tree is transcoded to is determined
-transcodes_once : (shape : Shape) (t : ℕ) (tree : Data) (wire text later_wire later_text : List ℕ) → Transcodes shape t tree wire text → Transcodes shape t tree later_wire later_text → (wire ≡ later_wire) × (text ≡ later_text)
-transcodes_once shape t tree wire text later_wire later_text h k =
+not_built : (name : List ℕ) (tree : Data) (files : List FileDescriptorProto) (set wire : List ℕ) (written : Data) → IsTranscoded name tree files set wire written → IsNotBuilt name tree files → ⊥
+not_built name tree files set wire written h r =
+    let same : r.0 ≡ h.0 = same_place r.0 h.0 (message_named name (shape_of files)) r.1 h.1 in
+    let P : ℕ → Type 0 = λ t. (has_own_names (fields_of (shape_of files) t) ≡ false) ⊎ ((c : Content) → ¬ Stands (shape_of files) t false tree c) in
+    elim (subst P same r.2) [ inl other ↦ not_both (has_own_names (fields_of (shape_of files) h.0)) h.2 other | inr none ↦ none h.3.0 h.3.1 ]
+
+not_refused : (name : List ℕ) (tree : Data) (files : List FileDescriptorProto) (set wire : List ℕ) (written : Data) (error : TopError) → is_refusal error ≡ true → IsTranscoded name tree files set wire written → IsRefused name tree files error → ⊥
+not_refused name tree files set wire written (top.File error) k h r = absurd r
+not_refused name tree files set wire written (top.JsonNames message key) k h r = absurd r
+not_refused name tree files set wire written (top.WellKnownShape message) k h r = absurd r
+not_refused name tree files set wire written (top.TypeNotFound n) k h r = nothing_there h.0 (sym r.1 ∙ h.1)
+not_refused name tree files set wire written top.TooDeep k h r = absurd r
+not_refused name tree files set wire written top.NoMemory k h r = absurd (cc)
+not_refused name tree files set wire written top.NotBuilt k h r = not_built name tree files set wire written h r
+
+among : (lookups : List ℕ → Lookup) (resolves : List ℕ → Option (List ℕ)) (paths : List (List ℕ)) (P : List FileDescriptorProto → Type 0) (files : List Done) → closure lookups resolves most_files paths [] ≡ (files, Accepted) → ForFiles lookups resolves paths P → P (records files)
+among lookups resolves paths P files e h =
+    let Q : List Done → Type 0 = λ fs. P (records fs) in
+    subst Q (same_files h.0 files (closure lookups resolves most_files paths []) h.1 e) h.2
+
+no_fault : (error : ErrorKind) → is_refusal (top.File error) ≡ true → is_fault error ≡ false
+no_fault error h = at (is_fault error) h
+  where
+    at : (b : Bool) → (if b then false else true) ≡ true → b ≡ false
+    at true k = absurd (cc)
+    at false k = refl
+
+refuses_not : (lookups : List ℕ → Lookup) (resolves : List ℕ → Option (List ℕ)) (paths : List (List ℕ)) (name : List ℕ) (tree : Data) (set wire : List ℕ) (written : Data) (error : TopError) → is_refusal error ≡ true
+    → ForFiles lookups resolves paths (λ files. IsTranscoded name tree files set wire written) → Refuses lookups resolves paths name tree error → ⊥
+refuses_not lookups resolves paths name tree set wire written (top.File error) k h r = accepted_alone lookups resolves most_files paths h.0 r.0 error (no_fault error k) h.1 r.1
+refuses_not lookups resolves paths name tree set wire written (top.JsonNames message key) k h r = absurd r.2
+refuses_not lookups resolves paths name tree set wire written (top.WellKnownShape message) k h r = absurd r.2
+refuses_not lookups resolves paths name tree set wire written (top.TypeNotFound n) k h r =
+    not_refused name tree (records h.0) set wire written (top.TypeNotFound n) k h.2 (among lookups resolves paths (λ files. IsRefused name tree files (top.TypeNotFound n)) h.0 h.1 r)
+refuses_not lookups resolves paths name tree set wire written top.TooDeep k h r = absurd r.2
+refuses_not lookups resolves paths name tree set wire written top.NoMemory k h r = absurd (cc)
+refuses_not lookups resolves paths name tree set wire written top.NotBuilt k h r =
+    not_refused name tree (records h.0) set wire written top.NotBuilt k h.2 (among lookups resolves paths (λ files. IsRefused name tree files top.NotBuilt) h.0 h.1 r)
+
+pub done_alone : (args : Args) (lookups : List ℕ → Lookup) (input wire text : List ℕ) (refusal : Refusal) → Judges args lookups input (Ended wire text) → Judges args lookups input (Refusing refusal) → ⊥
+done_alone args lookups input wire text TooLong h r = let short : length input ≤ limit = h.0 in omega (arith, short, r)
+done_alone args lookups input wire text NotJson h r = let e : None ≡ Some h.1.0 = sym r.1 ∙ h.1.1 in cc
+done_alone args lookups input wire text (Top line) h r =
+    let same : r.1.0 ≡ h.1.0 = same_tree input r.1.0 h.1.0 r.1.1 h.1.1 in
+    let given = h.1.2 in
+    let refused = r.1.2 in
+    let Q : Data → Type 0 = λ d. Refuses lookups (resolved folder) (args.file ∷ []) args.type_name d refused.0 in
+    refuses_not lookups (resolved folder) (args.file ∷ []) args.type_name h.1.0 given.0 wire given.1 refused.0 refused.1 given.2 (subst Q same refused.2)
+
+-- ---- what is transcoded is determined
+
+transcodes_once : (shape : Shape) (t : ℕ) (tree : Data) (wire later_wire : List ℕ) (written later_written : Data) → Transcodes shape t tree wire written → Transcodes shape t tree later_wire later_written → (wire ≡ later_wire) × (written ≡ later_written)
+transcodes_once shape t tree wire later_wire written later_written h k =
     let content : h.0 ≡ k.0 = (let e : Some h.0 ≡ Some k.0 = sym h.1 ∙ k.1 in cc) in
-    let same_trees : h.4.0 ≡ k.4.0 = (let e : Some h.4.0 ≡ Some k.4.0 = sym h.4.1 ∙ ap (canonical shape t) content ∙ k.4.1 in cc) in
-    (h.3 ∙ ap (encoded shape t) content ∙ sym k.3, h.4.3 ∙ ap compact_text same_trees ∙ sym k.4.3)
+    let same : written ≡ later_written = (let e : Some written ≡ Some later_written = sym h.4 ∙ ap (canonical shape t) content ∙ k.4 in cc) in
+    (h.3 ∙ ap (encoded shape t) content ∙ sym k.3, same)
 
-pub done_once : OneRecord → (args : Args) (held : Held) (input wire text later_wire later_text : List ℕ) → Judges args held input (Done wire text) → Judges args held input (Done later_wire later_text)
-    → (wire ≡ later_wire) × (text ≡ later_text)
-done_once one args held input wire text later_wire later_text h r =
-    let k = known args held (λ shape t. Transcodes shape t h.1.0 wire text) h.1.2 in
-    let other = known args held (λ shape t. Transcodes shape t r.1.0 later_wire later_text) r.1.2 in
-    let same : r.1.0 ≡ h.1.0 = same_tree input r.1.0 h.1.0 r.1.1 h.1.1 in
-    let there = moved one args held (λ shape t. Transcodes shape t h.1.0 wire text) k (λ shape t. Transcodes shape t r.1.0 later_wire later_text) other.source other.descriptor other.place other.stored other.reads other.named other.so in
-    transcodes_once (shape_of k.descriptor) k.place h.1.0 wire text later_wire later_text k.so
-    (let Q : Data → Type 0 = λ d. Transcodes (shape_of k.descriptor) k.place d later_wire later_text in subst Q same there)
+pub done_once : (args : Args) (lookups : List ℕ → Lookup) (input wire text later_wire later_text : List ℕ) → Judges args lookups input (Ended wire text) → Judges args lookups input (Ended later_wire later_text) → (wire ≡ later_wire) × (text ≡ later_text)
+done_once args lookups input wire text later_wire later_text h k =
+    let same : k.1.0 ≡ h.1.0 = same_tree input k.1.0 h.1.0 k.1.1 h.1.1 in
+    let a = h.1.2 in
+    let b = k.1.2 in
+    let files = a.2.0 in
+    let first : IsTranscoded args.type_name h.1.0 (records files) a.0 wire a.1 = a.2.2 in
+    let other : IsTranscoded args.type_name k.1.0 (records files) b.0 later_wire b.1 = among lookups (resolved folder) (args.file ∷ []) (λ fs. IsTranscoded args.type_name k.1.0 fs b.0 later_wire b.1) files a.2.1 b.2 in
+    let place : other.0 ≡ first.0 = same_place other.0 first.0 (message_named args.type_name (shape_of (records files))) other.1 first.1 in
+    let P : ℕ → Type 0 = λ t. Transcodes (shape_of (records files)) t k.1.0 later_wire b.1 in
+    let Q : Data → Type 0 = λ d. Transcodes (shape_of (records files)) first.0 d later_wire b.1 in
+    let once = transcodes_once (shape_of (records files)) first.0 h.1.0 wire later_wire a.1 b.1 first.3 (subst Q same (subst P place other.3)) in
+    (once.0, a.3 ∙ ap compact_text once.1 ∙ sym b.3)

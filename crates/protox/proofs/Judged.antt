@@ -1,104 +1,192 @@
 -- From the answers of the parts to what the whole run comes to.
-use Rattle.std.proofs.Common.{◌≡◌, inl, inr, ◌≤◌, Result, Ok, Err, IfOk, IfErr, ℕ, List, length, Some, None, sym, subst}
+use Rattle.std.proofs.Common.{◌≡◌, ◌∷◌, [], ◌≤◌, ◌∙◌, inl, inr, Bool, true, false, if◌then◌else◌, IsTrue, Result, Ok, Err, IfOk, IfErr, MatchOption, ℕ, List, length, Option, Some, None, codes, sym, subst}
 use Rattle.serde_json.specs.Data.{Data}
-use Rattle.pbx_content.specs.declared.shape.Shape.{Shape}
-use Rattle.pbx_link.specs.Rules.{message_named}
-use Rattle.protox_io.specs.Disk.{Held, Stored}
-use Rattle.protox.specs.Class.{limit, json_of, ForType, Transcodes}
-use Rattle.protox.specs.Parts.{IsLinked, IsLinkStop, IsTypeStop, IsInputStop, IsSourceStop, IsFileStop, IsTranscoded, IsBuilt, UntoldFor}
-use Rattle.protox.proofs.Built.{linked_built}
-use Rattle.protox.specs.Stops.{PlanStops}
+use Rattle.serde_json.specs.Written.{has_float, compact_text}
+use Rattle.pbx_desc.specs.declared.file.FileDescriptorProto.{FileDescriptorProto}
+use Rattle.pbx_json.specs.Laws.{CanonicalIsPlain}
+use Rattle.pbx_link.specs.Shapes.{shape_of}
+use Rattle.protox_io.specs.Count.{Rose}
+use Rattle.protox_io.specs.Disk.{Held}
+use Rattle.protox_io.specs.Paths.{Component}
+use Rattle.protox_file.specs.Include.{Include}
+use Rattle.protox_file.specs.Paths.{resolved}
+use Rattle.protox_file.specs.Told.{Told, Lookup, AreLookups, told_below}
+use Rattle.protox_file.specs.declared.error.ErrorKind.{ErrorKind}
+use Rattle.protox_file.specs.declared.error.ErrorKind.TheVariants as kinds
+use Rattle.protox_compile.specs.Walk.{Done, records}
+use Rattle.protox_compile.specs.Opening.{Accepted, closure}
+use Rattle.protox_compile.specs.Closures.{StopsAt}
+use Rattle.protox_compile.specs.State.{State}
+use Rattle.protox.specs.Top.{ForFiles, IsCaused, IsRefused, IsTranscoded, Refuses, is_fault, is_memory, most_files, of_error}
+use Rattle.protox.specs.Class.{limit, folder, json_of, AreRead, ForTree, Gives}
+use Rattle.protox.specs.Parts.{IsFileStop, IsInputStop, IsStopOf}
+use Rattle.protox.specs.Stops.{Caused, PlanStops}
 use Rattle.protox.specs.Words.{Args}
-use Rattle.protox.specs.declared.stop.Refusal.TheVariants.{TooLong, NotJson, Absent, NotBuilt, Syntax, TypeNotFound}
+use Rattle.protox.specs.declared.error.TopError.{TopError}
+use Rattle.protox.specs.declared.error.TopError.TheVariants as top
+use Rattle.protox.specs.declared.stop.Refusal.TheVariants.{TooLong, NotJson, Top}
+use Rattle.protox.specs.declared.stop.Object.TheVariants.{Input, File, Path, Output}
 use Rattle.protox.specs.declared.stop.Stop.{Stop}
 use Rattle.protox.specs.declared.stop.Stop.TheVariants.{Words, Refused, Broken, NoMemory}
 
+-- two facts of a result give another
+pub ok_both : {X E : Type 0} {P Q S : X → Type 0} (r : Result X E) → ((x : X) → P x → Q x → S x) → IfOk r P → IfOk r Q → IfOk r S
+ok_both (Ok x) f p q = f x p q
+ok_both (Err e) f p q = tt
+
+pub ok_of : {X E : Type 0} (P : X → Type 0) (r : Result X E) (x : X) → r ≡ Ok x → IfOk r P → P x
+ok_of {X = X} {E = E} P r x e h = let Q : Result X E → Type 0 = λ y. IfOk y P in subst Q e h
+
+pub err_of : {X E : Type 0} (P : E → Type 0) (r : Result X E) (x : E) → r ≡ Err x → IfErr r P → P x
+err_of {X = X} {E = E} P r x e h = let Q : Result X E → Type 0 = λ y. IfErr y P in subst Q e h
+
+pub some_of : {X : Type 0} (N : Type 0) (P : X → Type 0) (o : Option X) (x : X) → o ≡ Some x → MatchOption o N P → P x
+some_of {X = X} N P o x e h = let Q : Option X → Type 0 = λ y. MatchOption y N P in subst Q e h
+
+-- ---- what a compiler without files answers
+
+abbrev pub fresh : {R : Type 0} → R → State R
+fresh r = record { resolver = r; done = []; limit = 65536 }
+
+module _ {R : Type 0} (tells : R → Bool) (files : R → List ℕ → Told) (resolves : R → List ℕ → Option (List ℕ)) (r : R) (s : State R) (paths : List (List ℕ)) (later : List Done) where
+  pub stopped : (name : List ℕ) (tree : Data) (error : ErrorKind) → s ≡ fresh r
+      → (IsTrue (tells s.resolver) → (lookups : List ℕ → Lookup) → AreLookups (files s.resolver) lookups → StopsAt lookups (resolves s.resolver) s.limit paths s.done later error)
+      → IsTrue (tells r) → (lookups : List ℕ → Lookup) → AreLookups (files r) lookups → Refuses lookups (resolves r) paths name tree (of_error error)
+  stopped name tree error e h t lookups are = at (is_memory error)
+    where
+      P : State R → Type 0
+      P c = (IsTrue (tells c.resolver) → (ls : List ℕ → Lookup) → AreLookups (files c.resolver) ls → StopsAt ls (resolves c.resolver) c.limit paths c.done later error)
+
+      stops : StopsAt lookups (resolves r) most_files paths [] later error
+      stops = (subst P e h) t lookups are
+
+      at : (b : Bool) → Refuses lookups (resolves r) paths name tree (if b then top.NoMemory else top.File error)
+      at true = tt
+      at false = (later, stops)
+
+  pub accepted : s ≡ fresh r
+      → (IsTrue (tells s.resolver) → (lookups : List ℕ → Lookup) → AreLookups (files s.resolver) lookups → closure lookups (resolves s.resolver) s.limit paths s.done ≡ (later, Accepted))
+      → IsTrue (tells r) → (lookups : List ℕ → Lookup) → AreLookups (files r) lookups → closure lookups (resolves r) most_files paths [] ≡ (later, Accepted)
+  accepted e h t lookups are =
+      let P : State R → Type 0 = λ c. (IsTrue (tells c.resolver) → (ls : List ℕ → Lookup) → AreLookups (files c.resolver) ls → closure ls (resolves c.resolver) c.limit paths c.done ≡ (later, Accepted)) in
+      (subst P e h) t lookups are
+
+-- what is refused among the files of the closure
+pub all_refused : (lookups : List ℕ → Lookup) (resolves : List ℕ → Option (List ℕ)) (paths : List (List ℕ)) (name : List ℕ) (tree : Data) (later : List Done) (files : List FileDescriptorProto) (error : TopError) → files ≡ records later
+    → closure lookups resolves most_files paths [] ≡ (later, Accepted) → IsRefused name tree files error → Refuses lookups resolves paths name tree error
+all_refused lookups resolves paths name tree later files (top.File error) e all h = absurd h
+all_refused lookups resolves paths name tree later files (top.JsonNames message key) e all h = absurd h
+all_refused lookups resolves paths name tree later files (top.WellKnownShape message) e all h = absurd h
+all_refused lookups resolves paths name tree later files (top.TypeNotFound n) e all h = (later, all, (let P : List FileDescriptorProto → Type 0 = λ fs. IsRefused name tree fs (top.TypeNotFound n) in subst P e h))
+all_refused lookups resolves paths name tree later files top.TooDeep e all h = absurd h
+all_refused lookups resolves paths name tree later files top.NoMemory e all h = tt
+all_refused lookups resolves paths name tree later files top.NotBuilt e all h = (later, all, (let P : List FileDescriptorProto → Type 0 = λ fs. IsRefused name tree fs top.NotBuilt in subst P e h))
+
+pub all_given : (lookups : List ℕ → Lookup) (resolves : List ℕ → Option (List ℕ)) (paths : List (List ℕ)) (name : List ℕ) (tree : Data) (later : List Done) (files : List FileDescriptorProto) (set wire : List ℕ) (written : Data) → files ≡ records later
+    → closure lookups resolves most_files paths [] ≡ (later, Accepted) → IsTranscoded name tree files set wire written → ForFiles lookups resolves paths (λ fs. IsTranscoded name tree fs set wire written)
+all_given lookups resolves paths name tree later files set wire written e all h =
+    (later, all, (let P : List FileDescriptorProto → Type 0 = λ fs. IsTranscoded name tree fs set wire written in subst P e h))
+
+-- ---- the folder of a run
+
+-- what is said of the resolver of the folder is said of the disk
+pub of_folder : {D : Type 0} (tells : D → Bool) (holds : D → List Component → Held) (r : Include D) (disk : D) (include file : List ℕ) (paths : List (List ℕ)) (Q : (List ℕ → Lookup) → (List ℕ → Option (List ℕ)) → List (List ℕ) → Type 0)
+    → r ≡ record { include = include; disk = disk } → include ≡ codes "." → paths ≡ file ∷ []
+    → (IsTrue (tells r.disk) → (lookups : List ℕ → Lookup) → AreLookups (told_below (holds r.disk) r.include) lookups → Q lookups (resolved r.include) paths)
+    → IsTrue (tells disk) → (lookups : List ℕ → Lookup) → AreRead (holds disk) lookups → Q lookups (resolved folder) (file ∷ [])
+of_folder {D = D} tells holds r disk include file paths Q is dot one h t lookups are =
+    let P : Include D → Type 0 = λ x. (IsTrue (tells x.disk) → (ls : List ℕ → Lookup) → AreLookups (told_below (holds x.disk) x.include) ls → Q ls (resolved x.include) paths) in
+    let first : P (record { include = include; disk = disk }) = subst P is h in
+    let S : List ℕ → Type 0 = λ x. (IsTrue (tells disk) → (ls : List ℕ → Lookup) → AreLookups (told_below (holds disk) x) ls → Q ls (resolved x) paths) in
+    let second : S (codes ".") = subst S dot first in
+    (let N : List (List ℕ) → Type 0 = λ ps. Q lookups (resolved folder) ps in subst N one (second t lookups are))
+
+pub gives : (type_name file : List ℕ) (lookups : List ℕ → Lookup) (tree : Data) (set wire : List ℕ) (written : Data) (given text : List ℕ) → CanonicalIsPlain → ForFiles lookups (resolved folder) (file ∷ []) (λ files. IsTranscoded type_name tree files set wire written)
+    → given ≡ wire → (has_float written ≡ false → text ≡ compact_text written) → Gives type_name file lookups tree given text
+gives type_name file lookups tree set wire written given text plain h e printed =
+    let P : List ℕ → Type 0 = λ w. ForFiles lookups (resolved folder) (file ∷ []) (λ files. IsTranscoded type_name tree files set w written) in
+    let told = h.2.3 in
+    (set, written, subst P (sym e) h, printed (plain (shape_of (records h.0)) h.2.0 told.0 written told.4))
+
+-- ---- stops
+
+pub file_stop : (type_name file : List ℕ) (lookups : List ℕ → Lookup) (tree : Data) (error : TopError) (stop : Stop) → IsStopOf error stop → Refuses lookups (resolved folder) (file ∷ []) type_name tree error → IsFileStop type_name file lookups tree stop
+file_stop type_name file lookups tree error Words s h = absurd s
+file_stop type_name file lookups tree error (Refused TooLong) s h = absurd s
+file_stop type_name file lookups tree error (Refused NotJson) s h = absurd s
+file_stop type_name file lookups tree error (Refused (Top line)) s h = (error, s.0, h, s.1)
+file_stop type_name file lookups tree error (Broken Input) s h = absurd s
+file_stop type_name file lookups tree (top.File error) (Broken (File line)) s h = (error, s.0, s.1)
+file_stop type_name file lookups tree (top.JsonNames message key) (Broken (File line)) s h = absurd s
+file_stop type_name file lookups tree (top.WellKnownShape message) (Broken (File line)) s h = absurd s
+file_stop type_name file lookups tree (top.TypeNotFound n) (Broken (File line)) s h = absurd s
+file_stop type_name file lookups tree top.TooDeep (Broken (File line)) s h = absurd s
+file_stop type_name file lookups tree top.NoMemory (Broken (File line)) s h = absurd s
+file_stop type_name file lookups tree top.NotBuilt (Broken (File line)) s h = absurd s
+file_stop type_name file lookups tree error (Broken Path) s h = absurd s
+file_stop type_name file lookups tree error (Broken Output) s h = absurd s
+file_stop type_name file lookups tree error NoMemory s h = tt
+
+fault_rose : (rose : Type 0) (error : ErrorKind) → is_fault error ≡ true → IsCaused rose (top.File error) → rose
+fault_rose rose (kinds.Parse e) f c = absurd (cc)
+fault_rose rose (kinds.Check e) f c = absurd (cc)
+fault_rose rose (kinds.OpenFile name path fault) f c = c
+fault_rose rose (kinds.FileTooLarge name) f c = absurd (cc)
+fault_rose rose (kinds.FileInvalidUtf8 name) f c = absurd (cc)
+fault_rose rose (kinds.FileNotFound name) f c = absurd (cc)
+fault_rose rose (kinds.ImportNotFound file index place name) f c = absurd (cc)
+fault_rose rose (kinds.CircularImport name cycle) f c = absurd (cc)
+fault_rose rose (kinds.FileNotIncluded path) f c = absurd (cc)
+fault_rose rose (kinds.FileShadowed name path shadow) f c = absurd (cc)
+fault_rose rose (kinds.DuplicateImport file index place name) f c = absurd (cc)
+fault_rose rose (kinds.Custom text is_io) f c = c
+fault_rose rose (kinds.NameMismatch asked declared) f c = absurd (cc)
+fault_rose rose (kinds.FileLimit n) f c = absurd (cc)
+fault_rose rose (kinds.Undecodable file) f c = absurd (cc)
+fault_rose rose kinds.NoMemory f c = absurd c
+
+pub stop_caused : (rose : Type 0) (error : TopError) (stop : Stop) → IsStopOf error stop → IsCaused rose error → Caused rose ⊥ ⊥ stop
+stop_caused rose error Words s c = absurd s
+stop_caused rose error (Refused refusal) s c = tt
+stop_caused rose error (Broken Input) s c = absurd s
+stop_caused rose (top.File error) (Broken (File line)) s c = fault_rose rose error s.0 c
+stop_caused rose (top.JsonNames message key) (Broken (File line)) s c = absurd s
+stop_caused rose (top.WellKnownShape message) (Broken (File line)) s c = absurd s
+stop_caused rose (top.TypeNotFound n) (Broken (File line)) s c = absurd s
+stop_caused rose top.TooDeep (Broken (File line)) s c = absurd s
+stop_caused rose top.NoMemory (Broken (File line)) s c = absurd s
+stop_caused rose top.NotBuilt (Broken (File line)) s c = absurd s
+stop_caused rose error (Broken Path) s c = absurd s
+stop_caused rose error (Broken Output) s c = absurd s
+stop_caused rose error NoMemory s c = tt
+
+-- the cause is that of the disk that is handed back
+pub of_disk : {D : Type 0} (faults : D → ℕ) (at_end : D → Bool) (a b x y : D) (error : TopError) → x ≡ a → b ≡ y → IsCaused (Rose (faults x) (faults y) (at_end y)) error → IsCaused (Rose (faults a) (faults b) (at_end b)) error
+of_disk {D = D} faults at_end a b x y error e k h =
+    let P : D → Type 0 = λ d. IsCaused (Rose (faults d) (faults y) (at_end y)) error in
+    let Q : D → Type 0 = λ d. IsCaused (Rose (faults a) (faults d) (at_end d)) error in
+    subst Q (sym k) (subst P e h)
+
 -- the input ended the run
-pub input_judged : (args : Args) (held : Held) (input : List ℕ) (stop : Stop) → IsInputStop input stop → PlanStops args held input stop
-input_judged args held input Words h = absurd h
-input_judged args held input (Refused TooLong) h = h
-input_judged args held input (Refused NotJson) h = h
-input_judged args held input (Refused Absent) h = absurd h
-input_judged args held input (Refused NotBuilt) h = absurd h
-input_judged args held input (Refused (Syntax line column expected found)) h = absurd h
-input_judged args held input (Refused TypeNotFound) h = absurd h
-input_judged args held input (Broken object) h = h
-input_judged args held input NoMemory h = tt
+pub input_judged : (args : Args) (lookups : List ℕ → Lookup) (input : List ℕ) (stop : Stop) → IsInputStop input stop → PlanStops args lookups input stop
+input_judged args lookups input Words h = absurd h
+input_judged args lookups input (Refused TooLong) h = h
+input_judged args lookups input (Refused NotJson) h = h
+input_judged args lookups input (Refused (Top line)) h = absurd h
+input_judged args lookups input (Broken Input) h = tt
+input_judged args lookups input (Broken (File line)) h = absurd h
+input_judged args lookups input (Broken Path) h = absurd h
+input_judged args lookups input (Broken Output) h = absurd h
+input_judged args lookups input NoMemory h = tt
 
--- the file or the tree ended the run
-pub file_judged : (args : Args) (held : Held) (input : List ℕ) (tree : Data) (stop : Stop) → length input ≤ limit → json_of input ≡ Some tree → IsFileStop args held tree stop → PlanStops args held input stop
-file_judged args held input tree Words short is h = absurd h
-file_judged args held input tree (Refused TooLong) short is h = absurd h
-file_judged args held input tree (Refused NotJson) short is h = absurd h
-file_judged args held input tree (Refused Absent) short is h = (short, (tree, is, h))
-file_judged args held input tree (Refused NotBuilt) short is h = (short, (tree, is, h))
-file_judged args held input tree (Refused (Syntax line column expected found)) short is h = (short, (tree, is, h))
-file_judged args held input tree (Refused TypeNotFound) short is h = (short, (tree, is, h))
-file_judged args held input tree (Broken object) short is h = h
-file_judged args held input tree NoMemory short is h = tt
-
--- the disk ended the run
-pub source_judged : (args : Args) (held : Held) (tree : Data) (stop : Stop) → IsSourceStop held stop → IsFileStop args held tree stop
-source_judged args held tree Words h = absurd h
-source_judged args held tree (Refused TooLong) h = absurd h
-source_judged args held tree (Refused NotJson) h = absurd h
-source_judged args held tree (Refused Absent) h = h
-source_judged args held tree (Refused NotBuilt) h = inl h
-source_judged args held tree (Refused (Syntax line column expected found)) h = absurd h
-source_judged args held tree (Refused TypeNotFound) h = absurd h
-source_judged args held tree (Broken object) h = h
-source_judged args held tree NoMemory h = tt
-
--- the source ended the run
-pub link_judged : (args : Args) (held : Held) (source : List ℕ) (tree : Data) (stop : Stop) → held ≡ Stored source → IsLinkStop args.file source stop → IsFileStop args held tree stop
-link_judged args held source tree Words is h = absurd h
-link_judged args held source tree (Refused TooLong) is h = absurd h
-link_judged args held source tree (Refused NotJson) is h = absurd h
-link_judged args held source tree (Refused Absent) is h = absurd h
-link_judged args held source tree (Refused NotBuilt) is (inl broken) = inr (inl (source, is, broken))
-link_judged args held source tree (Refused NotBuilt) is (inr kept) = inr (inr (inl (source, is, kept.0, kept.1)))
-link_judged args held source tree (Refused (Syntax line column expected found)) is h = (source, is, h.0, h.1)
-link_judged args held source tree (Refused TypeNotFound) is h = absurd h
-link_judged args held source tree (Broken object) is h = absurd h
-link_judged args held source tree NoMemory is h = tt
-
--- the type or the tree ended the run
-pub type_judged : (args : Args) (held : Held) (source : List ℕ) (shape : Shape) (tree : Data) (stop : Stop) → held ≡ Stored source → IsLinked args.file source shape → IsTypeStop args.type_name shape tree stop → IsFileStop args held tree stop
-type_judged args held source shape tree Words is linked h = absurd h
-type_judged args held source shape tree (Refused TooLong) is linked h = absurd h
-type_judged args held source shape tree (Refused NotJson) is linked h = absurd h
-type_judged args held source shape tree (Refused Absent) is linked h = absurd h
-type_judged args held source shape tree (Refused NotBuilt) is linked h =
-    let record_of = linked.1 in
-    let P : Shape → Type 0 = λ s. UntoldFor args.type_name s tree NotBuilt in
-    inr (inr (inr (source, is, linked.0, (record_of.0, record_of.1, (record_of.2, subst P record_of.3 h)))))
-type_judged args held source shape tree (Refused (Syntax line column expected found)) is linked h = absurd h
-type_judged args held source shape tree (Refused TypeNotFound) is linked h =
-    let record_of = linked.1 in
-    let P : Shape → Type 0 = λ s. message_named args.type_name s ≡ None in
-    (source, is, linked.0, (record_of.0, record_of.1, (record_of.2, subst P record_of.3 h)))
-type_judged args held source shape tree (Broken object) is linked h = absurd h
-type_judged args held source shape tree NoMemory is linked h = tt
-
--- the tree was transcoded
-pub done_judged : (args : Args) (held : Held) (source : List ℕ) (shape : Shape) (tree : Data) (wire text : List ℕ) → held ≡ Stored source → IsLinked args.file source shape → IsTranscoded args.type_name shape tree wire text
-    → ForType args held (λ s t. Transcodes s t tree wire text)
-done_judged args held source shape tree wire text is linked h =
-    let record_of = linked.1 in
-    let P : Shape → Type 0 = λ s. IsTranscoded args.type_name s tree wire text in
-    (source, is, linked.0, (record_of.0, record_of.1, (record_of.2, subst P record_of.3 h)))
-
--- one fact of a result gives another
-pub ok_then : {X E : Type 0} {P Q : X → Type 0} (r : Result X E) → ((x : X) → P x → Q x) → IfOk r P → IfOk r Q
-ok_then (Ok x) f p = f x p
-ok_then (Err e) f p = tt
-
-pub err_then : {X E : Type 0} {P Q : E → Type 0} (r : Result X E) → ((e : E) → P e → Q e) → IfErr r P → IfErr r Q
-err_then (Ok x) f p = tt
-err_then (Err e) f p = f e p
-
--- what is linked keeps the rules
-pub is_built : (file source : List ℕ) (shape : Shape) → IsLinked file source shape → IsBuilt shape
-is_built file source shape h =
-    let record_of = h.1 in
-    (let P : Shape → Type 0 = λ s. IsBuilt s in subst P (sym record_of.3) (linked_built record_of.0 record_of.2))
+-- a file, the type's name or the tree ended the run
+pub file_judged : (args : Args) (lookups : List ℕ → Lookup) (input : List ℕ) (tree : Data) (stop : Stop) → length input ≤ limit → json_of input ≡ Some tree → IsFileStop args.type_name args.file lookups tree stop → PlanStops args lookups input stop
+file_judged args lookups input tree Words short is h = absurd h
+file_judged args lookups input tree (Refused TooLong) short is h = absurd h
+file_judged args lookups input tree (Refused NotJson) short is h = absurd h
+file_judged args lookups input tree (Refused (Top line)) short is h = (short, (tree, is, h))
+file_judged args lookups input tree (Broken Input) short is h = absurd h
+file_judged args lookups input tree (Broken (File line)) short is h = h
+file_judged args lookups input tree (Broken Path) short is h = absurd h
+file_judged args lookups input tree (Broken Output) short is h = absurd h
+file_judged args lookups input tree NoMemory short is h = tt

@@ -1,15 +1,15 @@
 -- What holds of what runs come to.
 use Rattle.std.specs.Prelude.{◌≡◌, ℕ, List}
-use Rattle.protox_io.specs.Disk.{Held}
+use Rattle.protox_file.specs.Told.{Lookup}
 use Rattle.protox.specs.Words.{Args}
 use Rattle.protox.specs.Class.{Done, Refusing, Judges}
 use Rattle.protox.specs.declared.stop.Refusal.{Refusal}
 
 -- Where the input is transcoded, it is refused for no reason.
 abbrev pub DoneAlone : Type 0
-DoneAlone = (args : Args) (held : Held) (input wire text : List ℕ) (refusal : Refusal) → Judges args held input (Done wire text) → Judges args held input (Refusing refusal) → ⊥
+DoneAlone = (args : Args) (lookups : List ℕ → Lookup) (input wire text : List ℕ) (refusal : Refusal) → Judges args lookups input (Done wire text) → Judges args lookups input (Refusing refusal) → ⊥
 
 -- The wire bytes and the text are determined.
 abbrev pub DoneOnce : Type 0
-DoneOnce = (args : Args) (held : Held) (input wire text later_wire later_text : List ℕ) → Judges args held input (Done wire text) → Judges args held input (Done later_wire later_text)
+DoneOnce = (args : Args) (lookups : List ℕ → Lookup) (input wire text later_wire later_text : List ℕ) → Judges args lookups input (Done wire text) → Judges args lookups input (Done later_wire later_text)
     → (wire ≡ later_wire) × (text ≡ later_text)

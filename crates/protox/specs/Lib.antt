@@ -1,4 +1,5 @@
 pub mod Words
+pub mod Top
 pub mod Class
 pub mod Outcome
 pub mod Stops

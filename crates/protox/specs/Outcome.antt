@@ -1,33 +1,23 @@
 -- What a run leaves, on plain values: the status, the bytes on out, the disk and the line on err.
-use Rattle.std.specs.Prelude.{◌≡◌, ◌∷◌, ◌++◌, [], ℕ, List, Option, Some, None, codes, decimal}
+use Rattle.std.specs.Prelude.{◌≡◌, ◌∷◌, ◌++◌, [], ℕ, List, Option, Some, None, codes}
 use Rattle.std.specs.List.{concat}
-use Rattle.protox_io.specs.Disk.{Held, Stored, found}
+use Rattle.protox_io.specs.Disk.{Held, Stored}
 use Rattle.protox_io.specs.Paths.{Component, disk_key}
-use Rattle.protox.specs.Words.{Args, args_of, file_path}
+use Rattle.protox_file.specs.Told.{Lookup}
+use Rattle.protox.specs.Words.{Args, args_of}
 use Rattle.protox.specs.Class.{Ending, Done, Refusing, Judges}
 use Rattle.protox.specs.declared.stop.Refusal.{Refusal}
-use Rattle.protox.specs.declared.stop.Refusal.TheVariants.{TooLong, NotJson, Absent, NotBuilt, Syntax, TypeNotFound}
-
-abbrev pub Ends : Args → (List Component → Held) → List ℕ → Ending → Type 0
-Ends args disk input ending = Judges args (found (disk (disk_key (file_path args.file)))) input ending
+use Rattle.protox.specs.declared.stop.Refusal.TheVariants.{TooLong, NotJson, Top}
 
 -- a line, as the pieces that stand in it one after another
 abbrev pub Pieces : Type 0
 Pieces = List (List ℕ)
 
--- where a token stands, and what was expected in its place
-abbrev pub place_line : List ℕ → List ℕ → List ℕ → List ℕ → List ℕ → Pieces
-place_line file line column expected found =
-    file ∷ codes ":" ∷ line ∷ codes ":" ∷ column ∷ codes ": expected " ∷ expected ∷ codes ", but found " ∷ found ∷ []
-
 -- the line of a refusal
-abbrev pub refusal_line : Args → Refusal → Pieces
-refusal_line args TooLong = codes "input is longer than 1073741824 bytes" ∷ []
-refusal_line args NotJson = codes "input is not JSON" ∷ []
-refusal_line args Absent = codes "file '" ∷ args.file ∷ codes "' is not in any include path" ∷ []
-refusal_line args NotBuilt = codes "not built yet" ∷ []
-refusal_line args (Syntax line column expected found) = place_line args.file (decimal line) (decimal column) expected found
-refusal_line args TypeNotFound = codes "type '" ∷ args.type_name ∷ codes "' not found" ∷ []
+abbrev pub refusal_line : Refusal → Pieces
+refusal_line TooLong = codes "input is longer than 1073741824 bytes" ∷ []
+refusal_line NotJson = codes "input is not JSON" ∷ []
+refusal_line (Top line) = line ∷ []
 
 abbrev pub words_line : Pieces
 words_line = codes "words not built yet" ∷ []
@@ -49,12 +39,12 @@ abbrev pub Leaves : Args → (List Component → Held) → Ending → ℕ → Li
 Leaves args disk (Done wire text) status out later line =
     (status ≡ 0) × (out ≡ text ++ codes "\n") × (later (disk_key args.path) ≡ Stored wire) × SameBut (disk_key args.path) disk later × (line ≡ [])
 Leaves args disk (Refusing refusal) status out later line =
-    (status ≡ 1) × (out ≡ []) × Same disk later × (line ≡ error_line (refusal_line args refusal))
+    (status ≡ 1) × (out ≡ []) × Same disk later × (line ≡ error_line (refusal_line refusal))
 
-abbrev pub Obeys : Option Args → (List Component → Held) → List ℕ → ℕ → List ℕ → (List Component → Held) → List ℕ → Type 0
-Obeys None disk input status out later line = (status ≡ 2) × (out ≡ []) × Same disk later × (line ≡ error_line words_line)
-Obeys (Some args) disk input status out later line = (ending : Ending) × Ends args disk input ending × Leaves args disk ending status out later line
+abbrev pub Obeys : Option Args → (List ℕ → Lookup) → (List Component → Held) → List ℕ → ℕ → List ℕ → (List Component → Held) → List ℕ → Type 0
+Obeys None lookups disk input status out later line = (status ≡ 2) × (out ≡ []) × Same disk later × (line ≡ error_line words_line)
+Obeys (Some args) lookups disk input status out later line = (ending : Ending) × Judges args lookups input ending × Leaves args disk ending status out later line
 
--- words, disk and input come to this status, these bytes on out, this disk and this line on err
-abbrev pub Outcome : List (List ℕ) → (List Component → Held) → List ℕ → ℕ → List ℕ → (List Component → Held) → List ℕ → Type 0
-Outcome words disk input status out later line = Obeys (args_of words) disk input status out later line
+-- words, disk and input come to this status, these bytes on out, this disk and this line on err, where the names of files look up to this
+abbrev pub Outcome : List (List ℕ) → (List ℕ → Lookup) → (List Component → Held) → List ℕ → ℕ → List ℕ → (List Component → Held) → List ℕ → Type 0
+Outcome words lookups disk input status out later line = Obeys (args_of words) lookups disk input status out later line

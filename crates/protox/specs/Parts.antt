@@ -1,155 +1,97 @@
--- What the parts of the transcoding answer.
-use Rattle.std.specs.Prelude.{◌≡◌, ◌⊎◌, ◌≤◌, ◌<◌, ℕ, List, length, true, false, Option, Some, None}
-use Rattle.std.specs.Str.{is_utf8}
+-- What the parts of a run and of the transcoding answer.
+use Rattle.std.specs.Prelude.{◌≡◌, ◌≤◌, ◌<◌, ℕ, List, length, true, false, Option, Some, None}
+use Rattle.std.specs.List.{concat}
 use Rattle.serde_json.specs.Data.{Data}
 use Rattle.pbx_content.specs.Content.{Content}
-use Rattle.pbx_content.specs.declared.shape.Shape.{Shape}
-use Rattle.pbx_desc.specs.declared.file.FileDescriptorProto.{FileDescriptorProto}
-use Rattle.pbx_json.specs.Stands.{Stands}
-use Rattle.pbx_link.specs.Rules.{keeps_rules, message_named}
-use Rattle.pbx_link.specs.Shapes.{shape_of}
-use Rattle.pbx_parse.specs.Reads.{Reads}
-use Rattle.pbx_parse.specs.declared.error.ParseError.{ParseError}
-use Rattle.pbx_parse.specs.declared.error.ParseError.TheVariants as parse
-use Rattle.serde_json.specs.Written.{compact_text}
 use Rattle.pbx_content.specs.Encoding.{encoded}
 use Rattle.pbx_content.specs.Shape.{fields_of}
 use Rattle.pbx_content.specs.Sound.{IsProper}
+use Rattle.pbx_content.specs.declared.shape.Shape.{Shape}
 use Rattle.pbx_json.specs.Canonical.{canonical}
 use Rattle.pbx_json.specs.Found.{HasNoOneof}
 use Rattle.pbx_json.specs.Named.{IsWellNamed}
-use Rattle.protox_io.specs.Disk.{Held, Missing, Oversized}
-use Rattle.protox.specs.Class.{limit, json_of, Transcodes, IsNotBuilt, ForText, ForShape}
-use Rattle.protox.specs.Stops.{IsReading}
-use Rattle.protox.specs.Words.{Args}
-use Rattle.protox.specs.declared.stop.Refusal.{Refusal}
-use Rattle.protox.specs.declared.stop.Refusal.TheVariants.{TooLong, NotJson, Absent, NotBuilt, Syntax, TypeNotFound}
+use Rattle.pbx_json.specs.Stands.{Stands}
+use Rattle.protox_file.specs.Told.{Lookup}
+use Rattle.protox_file.specs.Lines.{long_line_of}
+use Rattle.protox_file.specs.declared.error.ErrorKind.{ErrorKind}
+use Rattle.protox.specs.Top.{is_fault, is_refusal, top_line}
+use Rattle.protox.specs.Class.{limit, json_of, RefusedWith}
+use Rattle.protox.specs.Stops.{IsFaultLine}
+use Rattle.protox.specs.declared.error.TopError.{TopError}
+use Rattle.protox.specs.declared.error.TopError.TheVariants as top
+use Rattle.protox.specs.declared.stop.Refusal.TheVariants.{TooLong, NotJson, Top}
+use Rattle.protox.specs.declared.stop.Object.TheVariants.{Input, File, Path, Output}
 use Rattle.protox.specs.declared.stop.Stop.{Stop}
 use Rattle.protox.specs.declared.stop.Stop.TheVariants.{Words, Refused, Broken, NoMemory}
 
--- a stop that says this of the refusal, or want of memory
-abbrev pub OnRefusal : (Refusal → Type 0) → Stop → Type 0
-OnRefusal P Words = ⊥
-OnRefusal P (Refused refusal) = P refusal
-OnRefusal P (Broken object) = ⊥
-OnRefusal P NoMemory = Unit {0}
-
--- one refusal alone, with its cause
-abbrev pub IfNotJson : Type 0 → Refusal → Type 0
-IfNotJson P TooLong = ⊥
-IfNotJson P NotJson = P
-IfNotJson P Absent = ⊥
-IfNotJson P NotBuilt = ⊥
-IfNotJson P (Syntax line column expected found) = ⊥
-IfNotJson P TypeNotFound = ⊥
-
-abbrev pub IsJsonStop : List ℕ → Stop → Type 0
-IsJsonStop input = OnRefusal (IfNotJson (json_of input ≡ None))
-
--- the source is a text that reads as a record, which keeps the rules and has this shape
-abbrev pub IsLinked : List ℕ → List ℕ → Shape → Type 0
-IsLinked file source shape = (is_utf8 source ≡ true) × ((descriptor : FileDescriptorProto) × Reads file source descriptor × (keeps_rules (shape_of descriptor) ≡ true) × (shape ≡ shape_of descriptor))
-
-abbrev pub NoRecord : List ℕ → List ℕ → Type 0
-NoRecord file source = (descriptor : FileDescriptorProto) → ¬ Reads file source descriptor
-
--- why a source is not linked
-abbrev pub UnlinkedFor : List ℕ → List ℕ → Refusal → Type 0
-UnlinkedFor file source TooLong = ⊥
-UnlinkedFor file source NotJson = ⊥
-UnlinkedFor file source Absent = ⊥
-UnlinkedFor file source NotBuilt =
-    (is_utf8 source ≡ false) ⊎ ((is_utf8 source ≡ true) × ((descriptor : FileDescriptorProto) × Reads file source descriptor × (keeps_rules (shape_of descriptor) ≡ false)))
-UnlinkedFor file source (Syntax line column expected found) = (is_utf8 source ≡ true) × NoRecord file source
-UnlinkedFor file source TypeNotFound = ⊥
-
-abbrev pub IsLinkStop : List ℕ → List ℕ → Stop → Type 0
-IsLinkStop file source = OnRefusal (UnlinkedFor file source)
-
-abbrev pub stop_of : ParseError → Stop
-stop_of (parse.Syntax file line column expected found) = Refused (Syntax line column expected found)
-stop_of parse.NoMemory = NoMemory
-
--- why a tree is not transcoded under a shape
-abbrev pub UntoldFor : List ℕ → Shape → Data → Refusal → Type 0
-UntoldFor name shape tree TooLong = ⊥
-UntoldFor name shape tree NotJson = ⊥
-UntoldFor name shape tree Absent = ⊥
-UntoldFor name shape tree NotBuilt = (t : ℕ) × (message_named name shape ≡ Some t) × ((c : Content) → ¬ Stands shape t false tree c)
-UntoldFor name shape tree (Syntax line column expected found) = ⊥
-UntoldFor name shape tree TypeNotFound = message_named name shape ≡ None
-
-abbrev pub IsTypeStop : List ℕ → Shape → Data → Stop → Type 0
-IsTypeStop name shape tree = OnRefusal (UntoldFor name shape tree)
-
--- What linking gives: numbers ascend, no field is of a oneof, and each JSON name names its own field.
-pub record IsBuilt (shape : Shape) : Type 0 where
+-- What reading and writing stand on: numbers ascend, no field of the type is of a oneof, and each JSON name names its own field.
+pub record IsBuilt (shape : Shape) (t : ℕ) : Type 0 where
   pub proper : IsProper shape
-  pub alone : (t : ℕ) → HasNoOneof (fields_of shape t)
-  pub named : (t : ℕ) → IsWellNamed (fields_of shape t)
+  pub alone : HasNoOneof (fields_of shape t)
+  pub named : IsWellNamed (fields_of shape t)
 
--- the type is there, and the tree is transcoded as a message of it
-abbrev pub IsTranscoded : List ℕ → Shape → Data → List ℕ → List ℕ → Type 0
-IsTranscoded name shape tree wire text = (t : ℕ) × (message_named name shape ≡ Some t) × Transcodes shape t tree wire text
-
--- the wire bytes are those of the content, and the text is that of its canonical tree
-pub record IsWritten (shape : Shape) (t : ℕ) (c : Content) (wire text : List ℕ) : Type 0 where
-  pub wire_is : wire ≡ encoded shape t c
-  pub tree : Data
-  pub canonical_is : canonical shape t c ≡ Some tree
-  pub text_is : text ≡ compact_text tree
-
-abbrev pub IfNotWritten : Type 0 → Refusal → Type 0
-IfNotWritten P TooLong = ⊥
-IfNotWritten P NotJson = ⊥
-IfNotWritten P Absent = ⊥
-IfNotWritten P NotBuilt = P
-IfNotWritten P (Syntax line column expected found) = ⊥
-IfNotWritten P TypeNotFound = ⊥
+-- the wire bytes are those of the content, and the tree is its canonical one
+abbrev pub IsWritten : Shape → ℕ → Content → List ℕ → Data → Type 0
+IsWritten shape t c wire written = (wire ≡ encoded shape t c) × (canonical shape t c ≡ Some written)
 
 -- there is no tree to write, or want of memory
-abbrev pub IsWriteStop : Option Data → Stop → Type 0
-IsWriteStop o = OnRefusal (IfNotWritten (o ≡ None))
+abbrev pub IsNotWritten : Option Data → TopError → Type 0
+IsNotWritten o top.NotBuilt = o ≡ None
+IsNotWritten o top.NoMemory = Unit {0}
+IsNotWritten o error = ⊥
 
--- a stop that names no object
-abbrev pub IsQuietStop : Stop → Type 0
-IsQuietStop = OnRefusal (λ refusal. Unit {0})
+-- no content stands for the tree, or want of memory
+abbrev pub IsNotTold : Shape → ℕ → Data → TopError → Type 0
+IsNotTold shape t tree top.NotBuilt = (c : Content) → ¬ Stands shape t false tree c
+IsNotTold shape t tree top.NoMemory = Unit {0}
+IsNotTold shape t tree error = ⊥
 
--- the input ended the run before the file was read
+-- the input is no JSON text, or want of memory
+abbrev pub IsJsonStop : List ℕ → Stop → Type 0
+IsJsonStop input Words = ⊥
+IsJsonStop input (Refused TooLong) = ⊥
+IsJsonStop input (Refused NotJson) = json_of input ≡ None
+IsJsonStop input (Refused (Top line)) = ⊥
+IsJsonStop input (Broken object) = ⊥
+IsJsonStop input NoMemory = Unit {0}
+
+-- the input ended the run before a file was read
 abbrev pub IsInputStop : List ℕ → Stop → Type 0
 IsInputStop input Words = ⊥
 IsInputStop input (Refused TooLong) = limit < length input
 IsInputStop input (Refused NotJson) = (length input ≤ limit) × (json_of input ≡ None)
-IsInputStop input (Refused Absent) = ⊥
-IsInputStop input (Refused NotBuilt) = ⊥
-IsInputStop input (Refused (Syntax line column expected found)) = ⊥
-IsInputStop input (Refused TypeNotFound) = ⊥
-IsInputStop input (Broken object) = IsReading object
+IsInputStop input (Refused (Top line)) = ⊥
+IsInputStop input (Broken Input) = Unit {0}
+IsInputStop input (Broken (File line)) = ⊥
+IsInputStop input (Broken Path) = ⊥
+IsInputStop input (Broken Output) = ⊥
 IsInputStop input NoMemory = Unit {0}
 
--- what stands at the file ended the run before its text was read
-abbrev pub IsSourceStop : Held → Stop → Type 0
-IsSourceStop held Words = ⊥
-IsSourceStop held (Refused TooLong) = ⊥
-IsSourceStop held (Refused NotJson) = ⊥
-IsSourceStop held (Refused Absent) = held ≡ Missing
-IsSourceStop held (Refused NotBuilt) = held ≡ Oversized
-IsSourceStop held (Refused (Syntax line column expected found)) = ⊥
-IsSourceStop held (Refused TypeNotFound) = ⊥
-IsSourceStop held (Broken object) = IsReading object
-IsSourceStop held NoMemory = Unit {0}
+-- the file, the type's name or the tree ended the run
+abbrev pub IsFileStop : List ℕ → List ℕ → (List ℕ → Lookup) → Data → Stop → Type 0
+IsFileStop type_name file lookups tree Words = ⊥
+IsFileStop type_name file lookups tree (Refused TooLong) = ⊥
+IsFileStop type_name file lookups tree (Refused NotJson) = ⊥
+IsFileStop type_name file lookups tree (Refused (Top line)) = RefusedWith type_name file lookups tree line
+IsFileStop type_name file lookups tree (Broken Input) = ⊥
+IsFileStop type_name file lookups tree (Broken (File line)) = IsFaultLine line
+IsFileStop type_name file lookups tree (Broken Path) = ⊥
+IsFileStop type_name file lookups tree (Broken Output) = ⊥
+IsFileStop type_name file lookups tree NoMemory = Unit {0}
 
--- why the file, the type's name and a tree are refused
-abbrev pub FileJudges : Args → Held → Data → Refusal → Type 0
-FileJudges args held tree TooLong = ⊥
-FileJudges args held tree NotJson = ⊥
-FileJudges args held tree Absent = held ≡ Missing
-FileJudges args held tree NotBuilt = IsNotBuilt args held tree
-FileJudges args held tree (Syntax line column expected found) = ForText held (NoRecord args.file)
-FileJudges args held tree TypeNotFound = ForShape args.file held (λ shape. message_named args.type_name shape ≡ None)
+-- a fault of reading a file, with its line
+abbrev pub IsFaultOf : TopError → List ℕ → Type 0
+IsFaultOf (top.File error) line = (is_fault error ≡ true) × (line ≡ concat (long_line_of error))
+IsFaultOf error line = ⊥
 
-abbrev pub IsFileStop : Args → Held → Data → Stop → Type 0
-IsFileStop args held tree Words = ⊥
-IsFileStop args held tree (Refused refusal) = FileJudges args held tree refusal
-IsFileStop args held tree (Broken object) = IsReading object
-IsFileStop args held tree NoMemory = Unit {0}
+-- the stop of an error, or want of memory
+abbrev pub IsStopOf : TopError → Stop → Type 0
+IsStopOf error Words = ⊥
+IsStopOf error (Refused TooLong) = ⊥
+IsStopOf error (Refused NotJson) = ⊥
+IsStopOf error (Refused (Top line)) = (is_refusal error ≡ true) × (line ≡ concat (top_line error))
+IsStopOf error (Broken Input) = ⊥
+IsStopOf error (Broken (File line)) = IsFaultOf error line
+IsStopOf error (Broken Path) = ⊥
+IsStopOf error (Broken Output) = ⊥
+IsStopOf error NoMemory = Unit {0}

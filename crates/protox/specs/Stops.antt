@@ -1,15 +1,24 @@
 -- What stands where a run was stopped from outside or for want of memory.
-use Rattle.std.specs.Prelude.{◌≡◌, ◌∷◌, ◌++◌, [], ℕ, List, Option, Some, None, Result, Ok, Err, Bool, IsTrue, codes, ◌⊎◌}
+use Rattle.std.specs.Prelude.{◌≡◌, ◌∷◌, ◌++◌, [], ℕ, List, Option, Some, None, Result, Ok, Err, Bool, true, IsTrue, codes, ◌⊎◌}
+use Rattle.std.specs.List.{concat}
 use Rattle.protox_io.specs.Disk.{Held, Stored}
 use Rattle.protox_io.specs.Paths.{Component, disk_key}
 use Rattle.protox_io.specs.Sink.{Appends, Begins}
-use Rattle.protox.specs.Words.{Args, file_path}
+use Rattle.protox_file.specs.Told.{Lookup}
+use Rattle.protox_file.specs.Lines.{long_line_of}
+use Rattle.protox_file.specs.declared.error.ErrorKind.{ErrorKind}
+use Rattle.protox.specs.Top.{is_fault}
+use Rattle.protox.specs.Words.{Args, path_word}
 use Rattle.protox.specs.Class.{Judges, Done, Refusing}
-use Rattle.protox.specs.Outcome.{Pieces, Ends, Same, SameBut, refusal_line, words_line, error_line}
+use Rattle.protox.specs.Outcome.{Pieces, Same, SameBut, refusal_line, words_line, error_line}
 use Rattle.protox.specs.declared.stop.Object.{Object}
 use Rattle.protox.specs.declared.stop.Object.TheVariants.{Input, File, Path, Output}
 use Rattle.protox.specs.declared.stop.Stop.{Stop}
 use Rattle.protox.specs.declared.stop.Stop.TheVariants.{Words, Refused, Broken, NoMemory}
+
+-- the line of a fault of reading a file
+abbrev pub IsFaultLine : List ℕ → Type 0
+IsFaultLine line = (error : ErrorKind) × (is_fault error ≡ true) × (line ≡ concat (long_line_of error))
 
 -- nothing was written
 pub record Untouched (disk later : List Component → Held) (out : List ℕ) : Type 0 where
@@ -23,25 +32,26 @@ pub record Carrying (path wire text : List ℕ) (disk later : List Component →
   pub state : (path_refused × (out ≡ [])) ⊎ ((later (disk_key path) ≡ Stored wire) × out_refused × Begins out (text ++ codes "\n"))
 
 -- all was read and accepted, and the writing was begun
-pub record Midway (args : Args) (disk : List Component → Held) (input : List ℕ) (later : List Component → Held) (out : List ℕ) (path_refused out_refused : Type 0) : Type 0 where
+pub record Midway (args : Args) (lookups : List ℕ → Lookup) (disk : List Component → Held) (input : List ℕ) (later : List Component → Held) (out : List ℕ) (path_refused out_refused : Type 0) : Type 0 where
   pub wire : List ℕ
   pub text : List ℕ
-  pub ends : Ends args disk input (Done wire text)
+  pub ends : Judges args lookups input (Done wire text)
   pub carrying : Carrying args.path wire text disk later out path_refused out_refused
 
 -- where a stop leaves a run
-abbrev pub Leftover : Option Args → (List Component → Held) → List ℕ → (List Component → Held) → List ℕ → Type 0 → Type 0 → Type 0
-Leftover None disk input later out path_refused out_refused = Untouched disk later out
-Leftover (Some args) disk input later out path_refused out_refused = Untouched disk later out ⊎ Midway args disk input later out path_refused out_refused
+abbrev pub Leftover : Option Args → (List ℕ → Lookup) → (List Component → Held) → List ℕ → (List Component → Held) → List ℕ → Type 0 → Type 0 → Type 0
+Leftover None lookups disk input later out path_refused out_refused = Untouched disk later out
+Leftover (Some args) lookups disk input later out path_refused out_refused = Untouched disk later out ⊎ Midway args lookups disk input later out path_refused out_refused
 
--- a write comes only where all was read and accepted
-abbrev pub Reached : Option Args → (List Component → Held) → List ℕ → Object → Type 0
-Reached args disk input Input = Unit {0}
-Reached args disk input (File text) = Unit {0}
-Reached None disk input Path = ⊥
-Reached (Some args) disk input Path = (wire : List ℕ) × (text : List ℕ) × Ends args disk input (Done wire text)
-Reached None disk input Output = ⊥
-Reached (Some args) disk input Output = (wire : List ℕ) × (text : List ℕ) × Ends args disk input (Done wire text)
+-- a fault of reading says which file could not be read and why; a write comes only where all was read and accepted
+abbrev pub Reached : Option Args → (List ℕ → Lookup) → List ℕ → Object → Type 0
+Reached args lookups input Input = Unit {0}
+Reached None lookups input (File line) = ⊥
+Reached (Some args) lookups input (File line) = IsFaultLine line
+Reached None lookups input Path = ⊥
+Reached (Some args) lookups input Path = (wire : List ℕ) × (text : List ℕ) × Judges args lookups input (Done wire text)
+Reached None lookups input Output = ⊥
+Reached (Some args) lookups input Output = (wire : List ℕ) × (text : List ℕ) × Judges args lookups input (Done wire text)
 
 -- the count of the object rose
 abbrev pub RoseOf : Type 0 → Type 0 → Type 0 → Object → Type 0
@@ -50,33 +60,25 @@ RoseOf disk input out (File text) = disk
 RoseOf disk input out Path = disk
 RoseOf disk input out Output = out
 
--- the line of an object that failed; a disk says why in its own words
-abbrev pub object_line : Args → Object → Pieces
-object_line args Input = codes "reading input failed" ∷ []
-object_line args (File fault) = codes "error opening file '" ∷ file_path args.file ∷ codes "': " ∷ fault ∷ []
-object_line args Path = codes "writing '" ∷ args.path ∷ codes "' failed" ∷ []
-object_line args Output = codes "writing output failed" ∷ []
+-- the line of an object that failed
+abbrev pub object_line : List (List ℕ) → Object → Pieces
+object_line words Input = codes "reading input failed" ∷ []
+object_line words (File line) = line ∷ []
+object_line words Path = codes "writing '" ∷ path_word words ∷ codes "' failed" ∷ []
+object_line words Output = codes "writing output failed" ∷ []
 
 abbrev pub memory_line : Pieces
 memory_line = codes "out of memory" ∷ []
 
-abbrev pub stop_line : Args → Stop → Pieces
-stop_line args Words = words_line
-stop_line args (Refused refusal) = refusal_line args refusal
-stop_line args (Broken object) = object_line args object
-stop_line args NoMemory = memory_line
+abbrev pub stop_line : List (List ℕ) → Stop → Pieces
+stop_line words Words = words_line
+stop_line words (Refused refusal) = refusal_line refusal
+stop_line words (Broken object) = object_line words object
+stop_line words NoMemory = memory_line
 
--- no arguments
-abbrev pub no_args : Args
-no_args = record { type_name = []; path = []; file = [] }
-
-abbrev pub args_or_none : Option Args → Args
-args_or_none None = no_args
-args_or_none (Some args) = args
-
-abbrev pub line_of : {T : Type 0} → Option Args → Result T Stop → List ℕ
-line_of args (Ok x) = []
-line_of args (Err stop) = error_line (stop_line (args_or_none args) stop)
+abbrev pub line_of : {T : Type 0} → List (List ℕ) → Result T Stop → List ℕ
+line_of words (Ok x) = []
+line_of words (Err stop) = error_line (stop_line words stop)
 
 abbrev pub stop_status : Stop → ℕ
 stop_status Words = 2
@@ -94,19 +96,15 @@ Says tells refused old new whole = IsTrue tells → Appends old new (λ said. Be
 
 -- The parts of a run.
 
--- only the input and the file are read
-abbrev pub IsReading : Object → Type 0
-IsReading Input = Unit {0}
-IsReading (File text) = Unit {0}
-IsReading Path = ⊥
-IsReading Output = ⊥
-
 -- what a stop before any write says of what was read
-abbrev pub PlanStops : Args → Held → List ℕ → Stop → Type 0
-PlanStops args held input Words = ⊥
-PlanStops args held input (Refused refusal) = Judges args held input (Refusing refusal)
-PlanStops args held input (Broken object) = IsReading object
-PlanStops args held input NoMemory = Unit {0}
+abbrev pub PlanStops : Args → (List ℕ → Lookup) → List ℕ → Stop → Type 0
+PlanStops args lookups input Words = ⊥
+PlanStops args lookups input (Refused refusal) = Judges args lookups input (Refusing refusal)
+PlanStops args lookups input (Broken Input) = Unit {0}
+PlanStops args lookups input (Broken (File line)) = IsFaultLine line
+PlanStops args lookups input (Broken Path) = ⊥
+PlanStops args lookups input (Broken Output) = ⊥
+PlanStops args lookups input NoMemory = Unit {0}
 
 -- a stop by an object has that object's count as its cause
 abbrev pub Caused : Type 0 → Type 0 → Type 0 → Stop → Type 0
@@ -136,37 +134,37 @@ Carries path wire text disk later rose refused (Ok x) out = Carried path wire te
 Carries path wire text disk later rose refused (Err stop) out = CarryStops path wire text disk later out rose refused stop
 
 -- what a stop of a run with these arguments leaves
-abbrev pub WorkStops : Args → (List Component → Held) → List ℕ → (List Component → Held) → List ℕ → Type 0 → Type 0 → Stop → Type 0
-WorkStops args disk input later out rose refused Words = ⊥
-WorkStops args disk input later out rose refused (Refused refusal) = Ends args disk input (Refusing refusal) × Untouched disk later out
-WorkStops args disk input later out rose refused (Broken Input) = Untouched disk later out
-WorkStops args disk input later out rose refused (Broken (File fault)) = Untouched disk later out
-WorkStops args disk input later out rose refused (Broken Path) = Midway args disk input later out rose refused
-WorkStops args disk input later out rose refused (Broken Output) = Midway args disk input later out rose refused
-WorkStops args disk input later out rose refused NoMemory = Untouched disk later out ⊎ Midway args disk input later out (Unit {0}) refused
+abbrev pub WorkStops : Args → (List ℕ → Lookup) → (List Component → Held) → List ℕ → (List Component → Held) → List ℕ → Type 0 → Type 0 → Stop → Type 0
+WorkStops args lookups disk input later out rose refused Words = ⊥
+WorkStops args lookups disk input later out rose refused (Refused refusal) = Judges args lookups input (Refusing refusal) × Untouched disk later out
+WorkStops args lookups disk input later out rose refused (Broken Input) = Untouched disk later out
+WorkStops args lookups disk input later out rose refused (Broken (File line)) = IsFaultLine line × Untouched disk later out
+WorkStops args lookups disk input later out rose refused (Broken Path) = Midway args lookups disk input later out rose refused
+WorkStops args lookups disk input later out rose refused (Broken Output) = Midway args lookups disk input later out rose refused
+WorkStops args lookups disk input later out rose refused NoMemory = Untouched disk later out ⊎ Midway args lookups disk input later out (Unit {0}) refused
 
 -- all was read, accepted and written
-pub record Finished (args : Args) (disk : List Component → Held) (input : List ℕ) (later : List Component → Held) (out : List ℕ) : Type 0 where
+pub record Finished (args : Args) (lookups : List ℕ → Lookup) (disk : List Component → Held) (input : List ℕ) (later : List Component → Held) (out : List ℕ) : Type 0 where
   pub wire : List ℕ
   pub text : List ℕ
-  pub ends : Ends args disk input (Done wire text)
+  pub ends : Judges args lookups input (Done wire text)
   pub carried : Carried args.path wire text disk later out
 
-abbrev pub Works : {T : Type 0} → Args → (List Component → Held) → List ℕ → (List Component → Held) → Type 0 → Type 0 → Result T Stop → List ℕ → Type 0
-Works args disk input later rose refused (Ok x) out = Finished args disk input later out
-Works args disk input later rose refused (Err stop) out = WorkStops args disk input later out rose refused stop
+abbrev pub Works : {T : Type 0} → Args → (List ℕ → Lookup) → (List Component → Held) → List ℕ → (List Component → Held) → Type 0 → Type 0 → Result T Stop → List ℕ → Type 0
+Works args lookups disk input later rose refused (Ok x) out = Finished args lookups disk input later out
+Works args lookups disk input later rose refused (Err stop) out = WorkStops args lookups disk input later out rose refused stop
 
 -- without arguments
 abbrev pub WordStops : (List Component → Held) → (List Component → Held) → List ℕ → Stop → Type 0
 WordStops disk later out Words = Untouched disk later out
 WordStops disk later out (Refused refusal) = ⊥
 WordStops disk later out (Broken object) = ⊥
-WordStops disk later out NoMemory = ⊥
+WordStops disk later out NoMemory = Untouched disk later out
 
-abbrev pub Comes : {T : Type 0} → Option Args → (List Component → Held) → List ℕ → (List Component → Held) → Type 0 → Type 0 → Result T Stop → List ℕ → Type 0
-Comes None disk input later rose refused (Ok x) out = ⊥
-Comes None disk input later rose refused (Err stop) out = WordStops disk later out stop
-Comes (Some args) disk input later rose refused result out = Works args disk input later rose refused result out
+abbrev pub Comes : {T : Type 0} → Option Args → (List ℕ → Lookup) → (List Component → Held) → List ℕ → (List Component → Held) → Type 0 → Type 0 → Result T Stop → List ℕ → Type 0
+Comes None lookups disk input later rose refused (Ok x) out = ⊥
+Comes None lookups disk input later rose refused (Err stop) out = WordStops disk later out stop
+Comes (Some args) lookups disk input later rose refused result out = Works args lookups disk input later rose refused result out
 
 abbrev pub IsWireStop : Stop → Type 0
 IsWireStop Words = ⊥

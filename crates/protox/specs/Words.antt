@@ -1,7 +1,7 @@
 -- The words of the command line: so far exactly `--type NAME --wire PATH FILE`, in this order.
-use Rattle.std.specs.Prelude.{ℕ, ◌==◌, ◌&&◌, not, List, [], ◌∷◌, ◌++◌, length, Bool, false, Option, Some, None, codes, if◌then◌else◌}
-use Rattle.std.specs.List.{list_any}
+use Rattle.std.specs.Prelude.{ℕ, ◌==◌, ◌&&◌, not, List, [], ◌∷◌, Bool, false, Option, Some, None, codes, if◌then◌else◌}
 use Rattle.std.specs.Str.{bytes_eq}
+use Rattle.protox_file.specs.Paths.{name_of}
 
 pub record Args : Type 0 where
   pub type_name : List ℕ
@@ -12,14 +12,19 @@ abbrev pub begins_with_dash : List ℕ → Bool
 begins_with_dash [] = false
 begins_with_dash (b ∷ bs) = b == 45
 
--- a file of the folder `.`: one ordinary path component, which has no `/` and is no option
-abbrev pub is_file_name : List ℕ → Bool
-is_file_name word =
-    not (length word == 0) && not (begins_with_dash word) && not (list_any (λ b. b == 47) word) && not (bytes_eq word (codes ".")) && not (bytes_eq word (codes ".."))
+-- the name is this word
+abbrev pub is_the_word : List ℕ → Option (List ℕ) → Bool
+is_the_word word None = false
+is_the_word word (Some name) = bytes_eq name word
 
-abbrev pub are_args : List ℕ → List ℕ → List ℕ → List ℕ → List ℕ → Bool
-are_args type_option type_name wire_option path file =
-    bytes_eq type_option (codes "--type") && bytes_eq wire_option (codes "--wire") && not (begins_with_dash type_name) && not (begins_with_dash path) && is_file_name file
+-- the name of a file, as files are imported by it, which is no option
+abbrev pub is_file_name : List ℕ → Bool
+is_file_name word = not (begins_with_dash word) && is_the_word word (name_of word)
+
+-- the words before the file's
+abbrev pub are_options : List ℕ → List ℕ → List ℕ → List ℕ → Bool
+are_options type_option type_name wire_option path =
+    bytes_eq type_option (codes "--type") && bytes_eq wire_option (codes "--wire") && not (begins_with_dash type_name) && not (begins_with_dash path)
 
 -- the arguments, if the words are those that are built
 abbrev pub args_of : List (List ℕ) → Option Args
@@ -28,9 +33,10 @@ args_of (a ∷ []) = None
 args_of (a ∷ b ∷ []) = None
 args_of (a ∷ b ∷ c ∷ []) = None
 args_of (a ∷ b ∷ c ∷ d ∷ []) = None
-args_of (a ∷ b ∷ c ∷ d ∷ e ∷ []) = if are_args a b c d e then Some (record { type_name = b; path = d; file = e }) else None
+args_of (a ∷ b ∷ c ∷ d ∷ e ∷ []) = if are_options a b c d && is_file_name e then Some (record { type_name = b; path = d; file = e }) else None
 args_of (a ∷ b ∷ c ∷ d ∷ e ∷ f ∷ more) = None
 
--- where the file stands: in the folder `.`
-abbrev pub file_path : List ℕ → List ℕ
-file_path file = codes "./" ++ file
+-- the word that is the path of the wire bytes
+abbrev pub path_word : List (List ℕ) → List ℕ
+path_word (a ∷ b ∷ c ∷ d ∷ more) = d
+path_word words = []

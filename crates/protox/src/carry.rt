@@ -6,8 +6,8 @@ ghost use Rattle.protox_io.specs.Sink.{Appends, Prints, RefusesFor};
 ghost use Rattle.protox.specs.Outcome.{SameBut};
 ghost use Rattle.protox.specs.Stops.{Carries, Caused, IsWireStop, IsPrintStop, SinkRefuses};
 
+use crate::plan::Ready;
 use crate::stop::{Object, Stop};
-use crate::transcode::Transcoded;
 use protox_io::{Disk, DiskError, Sink, SinkError, write_pieces};
 use std::alloc::Global;
 
@@ -44,7 +44,7 @@ pub(crate) fn carry<D: Disk, K: Sink>(
     path: &str,
     disk: &mut D,
     out: &mut K,
-    done: &Transcoded,
+    done: &Ready,
 ) -> Result<(), Stop>
     ensures told { IsTrue (D.tells disk.old) → IsTrue (K.tells out.old) → Appends (K.held out.old) (K.held out.new) (Carries path.now done.now.wire (string_bytes done.now.text) (D.holds disk.old) (D.holds disk.new) (Rose (D.faults disk.old) (D.faults disk.new) (D.at_end disk.new)) (SinkRefuses (Rose (K.faults out.old) (K.faults out.new) (K.at_end out.new)) (K.short out.new)) result) }
     ensures cause { IfErr result (Caused (Rose (D.faults disk.old) (D.faults disk.new) (D.at_end disk.new)) ⊥ (Rose (K.faults out.old) (K.faults out.new) (K.at_end out.new))) }

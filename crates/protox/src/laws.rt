@@ -1,10 +1,9 @@
 ghost use Rattle.protox.specs.Laws.{DoneAlone, DoneOnce};
 
 /// A run that comes to status 0 comes to no refusal, and what it writes and prints is determined by the words,
-/// the file and the input. So status 0 comes exactly where nothing is refused, want of memory and faults aside.
+/// what the names of files look up to and the input. So status 0 comes exactly where nothing is refused, want of memory
+/// and faults aside.
 pub fn done_is_determined()
     ensures alone { DoneAlone }
     ensures once { DoneOnce }
-{
-    pbx_parse::at_most_one();
-}
+{}

@@ -1,21 +1,21 @@
-//! protox: compiles a Protocol Buffers source file and writes a message, given as JSON, in the wire
-//! format.
+//! protox: compiles a Protocol Buffers source file with all that it imports, and writes a message, given as JSON,
+//! in the wire format.
 //!
 //! The words are `--type NAME --wire PATH FILE`. The message of type NAME is read as JSON from the
 //! input; its wire bytes are written to PATH, and its canonical JSON is printed.
 #![tactic(auto)]
 
 mod carry;
+mod error;
 mod laws;
 mod plan;
 mod report;
 mod stop;
-#[cfg(test)]
-mod tests;
 mod top;
 mod transcode;
 mod words;
 
+pub use error::TopError;
 pub use laws::done_is_determined;
 use pbx_wire::{NoMemory, Text, Texts};
 use protox_io::{RealDisk, RealSink, RealSource, Sink, write_all};
@@ -24,6 +24,7 @@ use std::rt::Env;
 use std::{env, io};
 pub use stop::{Object, Refusal, Stop};
 pub use top::{Ran, run};
+pub use transcode::{Attempt, Transcoded, compile_and_transcode};
 
 /// The arguments of the process, without its own name.
 fn arguments<R: Env + AllocGlobal>(rt: &R) -> io::Result<Texts> {

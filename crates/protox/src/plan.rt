@@ -1,23 +1,37 @@
-ghost use Rattle.std.specs.Prelude.{◌≡◌, ◌≤◌, IfOk, IfErr, OnOk, IsTrue, length, [], string_bytes, Some};
+ghost use Rattle.std.specs.Prelude.{◌≡◌, ◌≤◌, ◌∷◌, [], IfOk, IfErr, OnOk, IsTrue, length, string_bytes, Some, false, List, ℕ};
 ghost use Rattle.protox_io.specs.Count.{Rose};
-ghost use Rattle.protox_io.specs.Disk.{Stored, found};
-ghost use Rattle.protox_io.specs.Paths.{disk_key};
+ghost use Rattle.protox_file.specs.Told.{Lookup};
 ghost use Rattle.serde_json.specs.View.{view};
-ghost use Rattle.protox.specs.Class.{limit, Judges, Done, json_of, ForType, Transcodes};
-ghost use Rattle.protox.specs.Parts.{IsInputStop, IsSourceStop, IsFileStop};
+ghost use Rattle.serde_json.specs.Written.{has_float, compact_text};
+ghost use Rattle.protox.specs.Class.{limit, Judges, Done, json_of, AreRead, Gives};
+ghost use Rattle.protox.specs.Parts.{IsJsonStop, IsInputStop, IsFileStop, IsStopOf};
 ghost use Rattle.protox.specs.Stops.{PlanStops, Caused};
-ghost use Rattle.protox.specs.Words.{file_path};
 
+use crate::error::TopError;
 use crate::stop::{Object, Refusal, Stop};
-use crate::transcode::{Transcoded, link, read_json, transcode};
-use pbx_wire::{Blob, NoMemory};
-use protox_io::{Disk, DiskAnswer, DiskError, ReadFault, Source, read_to_end};
+use crate::transcode::{Attempt, Transcoded, compile_and_transcode};
+use pbx_json::canonical_is_plain;
+use pbx_wire::{Blob, NoMemory, Text, Texts};
+use protox_file::IncludeFileResolver;
+use protox_io::{Disk, ReadFault, Source, read_to_end};
 use serde_json::Value;
 use std::alloc::Global;
 
 const LIMIT: usize = 1073741824;
 
-const LONGEST_SOURCE: usize = 2147483647;
+/// The wire bytes to write, and the text to print.
+#[derive(Drop)]
+pub(crate) struct Ready {
+    pub(crate) wire: Blob,
+    pub(crate) text: String,
+}
+
+/// What a plan leaves: the disk, and what is to be written.
+#[derive(Drop)]
+pub(crate) struct Planned<D> {
+    pub(crate) disk: D,
+    pub(crate) result: Result<Ready, Stop>,
+}
 
 fn read_input<S: Source>(alloc: Global, input: &mut S) -> Result<Blob, Stop>
     ensures read { IsTrue (S.tells input.old) → IfOk result (λ bytes. bytes ≡ S.left input.old) }
@@ -31,6 +45,23 @@ fn read_input<S: Source>(alloc: Global, input: &mut S) -> Result<Blob, Stop>
         Err(ReadFault::Failed) => Err(Stop::Broken(Object::Input)),
         Err(ReadFault::TooLong) => Err(Stop::Refused(Refusal::TooLong)),
         Err(ReadFault::NoMemory) => Err(Stop::NoMemory),
+    }
+}
+
+/// The tree of a JSON text.
+fn read_json(alloc: Global, input: &[u8]) -> Result<Value, Stop>
+    ensures ok { IfOk result (λ tree. json_of input.now ≡ Some (view tree)) }
+    ensures stop { IfErr result (IsJsonStop input.now) }
+{
+    match Value::from_slice(alloc, input) {
+        Ok(tree) => Ok(tree),
+        Err(error) => {
+            if error.is_memory() {
+                Err(Stop::NoMemory)
+            } else {
+                Err(Stop::Refused(Refusal::NotJson))
+            }
+        }
     }
 }
 
@@ -51,97 +82,114 @@ fn read_tree<S: Source>(alloc: Global, input: &mut S) -> Result<Value, Stop>
     }
 }
 
-/// The path of a file in the folder `.`.
-fn path_of(alloc: Global, file: &str) -> Result<String, NoMemory>
-    ensures { IfOk result (λ path. string_bytes path ≡ file_path file.now) }
+/// The stop of an error; where memory runs out for its line, that of want of memory.
+fn stop_of(alloc: Global, error: &TopError) -> Stop
+    ensures { IsStopOf error.now result }
 {
-    let mut path = String::from_str(alloc, "./")?;
-    path.push_str(file)?;
-    Ok(path)
-}
-
-/// The bytes of the file in the folder `.`, at most 2,147,483,647.
-fn read_source<D: Disk>(alloc: Global, disk: &mut D, file: &str) -> Result<Blob, Stop>
-    ensures read { IsTrue (D.tells disk.old) → IfOk result (λ source. found (D.holds disk.old (disk_key (file_path file.now))) ≡ Stored source) }
-    ensures short { IfOk result (λ source. length source ≤ 2147483647) }
-    ensures stop { IsTrue (D.tells disk.old) → IfErr result (IsSourceStop (found (D.holds disk.old (disk_key (file_path file.now))))) }
-    ensures cause { IfErr result (Caused (Rose (D.faults disk.old) (D.faults disk.new) (D.at_end disk.new)) ⊥ ⊥) }
-    ensures later { D.faults disk.old ≤ D.faults disk.new }
-    ensures keeps_tells { D.tells disk.new ≡ D.tells disk.old }
-    ensures keeps_holds { IsTrue (D.tells disk.old) → D.holds disk.new ≡ D.holds disk.old }
-{
-    let Ok(path) = path_of(alloc, file) else {
-        return Err(Stop::NoMemory);
+    let Ok(line) = error.line(alloc) else {
+        return Stop::NoMemory;
     };
-    match disk.read_file(alloc, path.as_str()) {
-        Ok(DiskAnswer::Bytes(bytes)) => {
-            // A disk that tells nothing may give any length.
-            if bytes.as_slice().len() <= LONGEST_SOURCE {
-                Ok(bytes)
-            } else {
-                Err(Stop::Refused(Refusal::NotBuilt))
-            }
-        }
-        Ok(DiskAnswer::Absent) => Err(Stop::Refused(Refusal::Absent)),
-        Ok(DiskAnswer::TooLarge) => Err(Stop::Refused(Refusal::NotBuilt)),
-        Err(DiskError::Failed(fault)) => Err(Stop::Broken(Object::File(fault))),
-        Err(DiskError::NoMemory) => Err(Stop::NoMemory),
+    if error.is_refusal() {
+        return Stop::Refused(Refusal::Top(line));
+    }
+    match error {
+        TopError::File(_) => Stop::Broken(Object::File(line)),
+        _ => Stop::NoMemory,
     }
 }
 
-/// Reads the file and transcodes the tree as a message of the type that it declares.
+/// The wire bytes, and the compact text of the tree.
+fn print_tree(alloc: Global, done: Transcoded) -> Result<Ready, Stop>
+    ensures wire { IfOk result (λ ready. ready.wire ≡ done.wire) }
+    ensures text { IfOk result (λ ready. has_float (view done.tree) ≡ false → string_bytes ready.text ≡ compact_text (view done.tree)) }
+    ensures stop { IfErr result (λ stop. stop ≡ Stop.NoMemory) }
+{
+    match done.tree.to_string(alloc) {
+        Ok(text) => Ok(Ready {
+            wire: done.wire,
+            text,
+        }),
+        Err(_) => Err(Stop::NoMemory),
+    }
+}
+
+fn paths_of(alloc: Global, file: &str) -> Result<Texts, NoMemory>
+    ensures { IfOk result (λ paths. paths ≡ file.now ∷ []) }
+{
+    let mut paths = Texts::new(alloc);
+    paths.add(Text::from_str(alloc, file)?)?;
+    Ok(paths)
+}
+
+/// Compiles the file in the folder `.` with all that it imports, and transcodes the tree as a message of the type.
 fn compile<D: Disk>(
     alloc: Global,
     type_name: &str,
-    path: &str,
     file: &str,
-    disk: &mut D,
-    tree: Value,
-) -> Result<Transcoded, Stop>
-    ensures done { IsTrue (D.tells disk.old) → IfOk result (λ done. ForType (record { type_name = type_name.now; path = path.now; file = file.now }) (found (D.holds disk.old (disk_key (file_path file.now)))) (λ shape t. Transcodes shape t (view tree) done.wire (string_bytes done.text))) }
-    ensures stop { IsTrue (D.tells disk.old) → IfErr result (IsFileStop (record { type_name = type_name.now; path = path.now; file = file.now }) (found (D.holds disk.old (disk_key (file_path file.now)))) (view tree)) }
-    ensures cause { IfErr result (Caused (Rose (D.faults disk.old) (D.faults disk.new) (D.at_end disk.new)) ⊥ ⊥) }
-    ensures later { D.faults disk.old ≤ D.faults disk.new }
-    ensures keeps_tells { D.tells disk.new ≡ D.tells disk.old }
-    ensures keeps_holds { IsTrue (D.tells disk.old) → D.holds disk.new ≡ D.holds disk.old }
+    disk: D,
+    tree: &Value,
+) -> Planned<D>
+    ensures done { IsTrue (D.tells disk) → (lookups : List ℕ → Lookup) → AreRead (D.holds disk) lookups → IfOk result.result (λ ready. Gives type_name.now file.now lookups (view tree.now) ready.wire (string_bytes ready.text)) }
+    ensures stop { IsTrue (D.tells disk) → (lookups : List ℕ → Lookup) → AreRead (D.holds disk) lookups → IfErr result.result (IsFileStop type_name.now file.now lookups (view tree.now)) }
+    ensures cause { IfErr result.result (Caused (Rose (D.faults disk) (D.faults result.disk) (D.at_end result.disk)) ⊥ ⊥) }
+    ensures later { D.faults disk ≤ D.faults result.disk }
+    ensures keeps_tells { D.tells result.disk ≡ D.tells disk }
+    ensures keeps_holds { IsTrue (D.tells disk) → D.holds result.disk ≡ D.holds disk }
 {
-    let source = match read_source(alloc, disk, file) {
-        Ok(source) => source,
-        Err(stop) => return Err(stop),
+    let Ok(paths) = paths_of(alloc, file) else {
+        return Planned {
+            disk,
+            result: Err(Stop::NoMemory),
+        };
     };
-    let shape = match link(alloc, file, source.as_slice()) {
-        Ok(shape) => shape,
-        Err(stop) => return Err(stop),
+    let Ok(folder) = Text::from_str(alloc, ".") else {
+        return Planned {
+            disk,
+            result: Err(Stop::NoMemory),
+        };
     };
-    match transcode(alloc, type_name, &shape, tree) {
-        Ok(done) => Ok(done),
-        Err(stop) => Err(stop),
+    let files = IncludeFileResolver::new(folder, disk);
+    let Attempt { resolver, result } =
+        compile_and_transcode(alloc, files, &paths, type_name, tree);
+    let disk = resolver.into_disk();
+    match result {
+        Ok(done) => {
+            // So its text is the compact one.
+            canonical_is_plain();
+            Planned {
+                disk,
+                result: print_tree(alloc, done),
+            }
+        }
+        Err(error) => Planned {
+            disk,
+            result: Err(stop_of(alloc, &error)),
+        },
     }
 }
 
-/// Reads the input and the file, and transcodes.
+/// Reads the input and the files, and transcodes.
 pub(crate) fn plan<D: Disk, S: Source>(
     alloc: Global,
     type_name: &str,
     path: &str,
     file: &str,
-    disk: &mut D,
+    disk: D,
     input: &mut S,
-) -> Result<Transcoded, Stop>
-    ensures done { IsTrue (D.tells disk.old) → IsTrue (S.tells input.old) → IfOk result (λ done. Judges (record { type_name = type_name.now; path = path.now; file = file.now }) (found (D.holds disk.old (disk_key (file_path file.now)))) (S.left input.old) (Done done.wire (string_bytes done.text))) }
-    ensures stop { IsTrue (D.tells disk.old) → IsTrue (S.tells input.old) → IfErr result (PlanStops (record { type_name = type_name.now; path = path.now; file = file.now }) (found (D.holds disk.old (disk_key (file_path file.now)))) (S.left input.old)) }
-    ensures end { IsTrue (S.tells input.old) → OnOk result (S.left input.new ≡ []) }
-    ensures cause { IfErr result (Caused (Rose (D.faults disk.old) (D.faults disk.new) (D.at_end disk.new)) (Rose (S.faults input.old) (S.faults input.new) (S.at_end input.new)) ⊥) }
-    ensures later { D.faults disk.old ≤ D.faults disk.new }
-    ensures keeps_tells { D.tells disk.new ≡ D.tells disk.old }
-    ensures keeps_holds { IsTrue (D.tells disk.old) → D.holds disk.new ≡ D.holds disk.old }
+) -> Planned<D>
+    ensures done { IsTrue (D.tells disk) → IsTrue (S.tells input.old) → (lookups : List ℕ → Lookup) → AreRead (D.holds disk) lookups → IfOk result.result (λ done. Judges (record { type_name = type_name.now; path = path.now; file = file.now }) lookups (S.left input.old) (Done done.wire (string_bytes done.text))) }
+    ensures stop { IsTrue (D.tells disk) → IsTrue (S.tells input.old) → (lookups : List ℕ → Lookup) → AreRead (D.holds disk) lookups → IfErr result.result (PlanStops (record { type_name = type_name.now; path = path.now; file = file.now }) lookups (S.left input.old)) }
+    ensures end { IsTrue (S.tells input.old) → OnOk result.result (S.left input.new ≡ []) }
+    ensures cause { IfErr result.result (Caused (Rose (D.faults disk) (D.faults result.disk) (D.at_end result.disk)) (Rose (S.faults input.old) (S.faults input.new) (S.at_end input.new)) ⊥) }
+    ensures later { D.faults disk ≤ D.faults result.disk }
+    ensures keeps_tells { D.tells result.disk ≡ D.tells disk }
+    ensures keeps_holds { IsTrue (D.tells disk) → D.holds result.disk ≡ D.holds disk }
 {
-    let tree = match read_tree(alloc, input) {
-        Ok(tree) => tree,
-        Err(stop) => return Err(stop),
-    };
-    match compile(alloc, type_name, path, file, disk, tree) {
-        Ok(done) => Ok(done),
-        Err(stop) => Err(stop),
+    match read_tree(alloc, input) {
+        Ok(tree) => compile(alloc, type_name, file, disk, &tree),
+        Err(stop) => Planned {
+            disk,
+            result: Err(stop),
+        },
     }
 }

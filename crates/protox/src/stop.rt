@@ -7,23 +7,8 @@ pub enum Refusal {
     TooLong,
     /// The input is no JSON text in UTF-8, or nests deeper than 127.
     NotJson,
-    /// No file stands at the path.
-    Absent,
-    /// The file or the tree is outside what is built so far.
-    NotBuilt,
-    /// The source is not in the source language.
-    Syntax {
-        /// The line of the token, of the faulty byte or of the end, from 1.
-        line: u32,
-        /// Its column, from 1, in bytes.
-        column: u32,
-        /// What could stand there.
-        expected: Text,
-        /// What stands there, in single quotes, or `end of file`.
-        found: Text,
-    },
-    /// The file declares no message of that name.
-    TypeNotFound,
+    /// A file, the type's name or the tree is refused, with this line.
+    Top(Text),
 }
 
 /// What stands outside and failed, with status 3.
@@ -31,7 +16,7 @@ pub enum Refusal {
 pub enum Object {
     /// Reading the input.
     Input,
-    /// Reading the source file; the disk's own words say why.
+    /// Reading a file, with the line that says which and why.
     File(Text),
     /// Writing the wire bytes.
     Path,

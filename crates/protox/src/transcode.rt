@@ -1,150 +1,222 @@
-ghost use Rattle.std.specs.Prelude.{◌≡◌, Some, IfOk, IfErr, false, ◌≤◌, length, string_bytes};
+//! From files, a type's name and a tree to the set of the files, the wire bytes and the canonical tree.
+
+ghost use Rattle.std.specs.Prelude.{◌≡◌, ◌≤◌, ◌⊎◌, [], map, Some, IfOk, IfErr, IsTrue, false, List, ℕ};
+ghost use Rattle.std.specs.List.{list_all};
+ghost use Rattle.std.specs.Str.{bytes_eq};
 ghost use Rattle.serde_json.specs.View.{view};
-ghost use Rattle.serde_json.specs.Written.{has_float, compact_text};
 ghost use Rattle.pbx_content.specs.View.{content_of};
 ghost use Rattle.pbx_json.specs.Canonical.{canonical};
-ghost use Rattle.protox.specs.Class.{json_of};
-ghost use Rattle.protox.specs.Parts.{IsBuilt, IsLinkStop, IsJsonStop, IsTypeStop, IsWriteStop, IsQuietStop, IsLinked, IsTranscoded, IsWritten, stop_of};
+ghost use Rattle.protox_io.specs.Count.{Rose};
+ghost use Rattle.protox_file.specs.Told.{Lookup, AreLookups};
+ghost use Rattle.protox_compile.specs.Walk.{Done, records};
+ghost use Rattle.protox_compile.specs.Compiled.{IsOrdered};
+ghost use Rattle.protox.specs.Parts.{IsBuilt, IsNotTold, IsNotWritten, IsWritten};
+ghost use Rattle.protox.specs.Top.{ForFiles, IsSet, IsTranscoded, IsRefused, Refuses, IsCaused, Transcodes, has_own_names as has_own_names_of, are_distinct};
+ghost use Rattle.protox.specs.declared.error.TopError.{TopError as ATopError};
 
-use crate::stop::{Refusal, Stop};
-use pbx_content::{Contents, Shape, encode, encoding_decodes};
+use crate::error::{TopError, file_error};
+use pbx_content::{Contents, FieldShape, Shape, encode, encoding_decodes};
 use pbx_json::{
     TreeError, canonical_is_plain, canonical_stands, read_contents, stands_flat, write_contents,
 };
-use pbx_link::{find_message, keeps_rules, shape_of};
-use pbx_parse::{ParseError, parse};
-use pbx_wire::{Blob, NoMemory};
+use pbx_link::{DescriptorPool, find_message, shape_of};
+use pbx_wire::{Blob, NoMemory, Text, Texts};
+use protox_compile::Compiler;
+use protox_file::FileResolver;
 use serde_json::Value;
 use std::alloc::Global;
+use std::collections::BTreeSet;
 
-/// The wire bytes, and the text to print.
+/// The set of the files, the wire bytes and the canonical tree.
 #[derive(Drop)]
-pub(crate) struct Transcoded {
-    pub(crate) wire: Blob,
-    pub(crate) text: String,
+pub struct Transcoded {
+    /// The `google.protobuf.FileDescriptorSet` of the files, each behind all that it imports.
+    pub set: Blob,
+    /// The message's bytes on the wire.
+    pub wire: Blob,
+    /// The message in canonical JSON.
+    pub tree: Value,
 }
 
-/// The tree of a JSON text.
-pub(crate) fn read_json(alloc: Global, input: &[u8]) -> Result<Value, Stop>
-    ensures ok { IfOk result (λ tree. json_of input.now ≡ Some (view tree)) }
-    ensures stop { IfErr result (IsJsonStop input.now) }
+/// What a transcoding leaves: the resolver, and what came of it.
+#[derive(Drop)]
+pub struct Attempt<R> {
+    pub resolver: R,
+    pub result: Result<Transcoded, TopError>,
+}
+
+/// Whether no two fields have one name.
+fn have_distinct_names(alloc: Global, fields: &[FieldShape]) -> Result<bool, NoMemory>
+    ensures { IfOk result (λ own. own ≡ are_distinct (map (λ f. f.name) fields.now)) }
 {
-    match Value::from_slice(alloc, input) {
-        Ok(tree) => Ok(tree),
-        Err(error) => {
-            if error.is_memory() {
-                Err(Stop::NoMemory)
-            } else {
-                Err(Stop::Refused(Refusal::NotJson))
-            }
+    let mut seen = BTreeSet::new(alloc);
+    for field in fields {
+        if !seen.insert(field.name.as_str())? {
+            return Ok(false);
         }
     }
+    Ok(true)
 }
 
-/// The shape of the types that a source declares under the name of its file.
-pub(crate) fn link(alloc: Global, file: &str, source: &[u8]) -> Result<Shape, Stop>
-    requires { length source.now ≤ 2147483647 }
-    ensures ok { IfOk result (IsLinked file.now source.now) }
-    ensures stop { IfErr result (IsLinkStop file.now source.now) }
+fn has_own_name(field: &FieldShape) -> bool
+    ensures { result ≡ bytes_eq field.now.json_name field.now.name }
 {
-    let Ok(text) = std::str::from_utf8(source) else {
-        return Err(Stop::Refused(Refusal::NotBuilt));
-    };
-    let record = match parse(alloc, file, text) {
-        Ok(record) => record,
-        Err(error) => return Err(refused(error)),
-    };
-    let Ok(shape) = shape_of(alloc, &record) else {
-        return Err(Stop::NoMemory);
-    };
-    match keeps_rules(alloc, &shape) {
-        Ok(true) => Ok(shape),
-        Ok(false) => Err(Stop::Refused(Refusal::NotBuilt)),
-        Err(NoMemory) => Err(Stop::NoMemory),
+    field.json_name.as_str() == field.name.as_str()
+}
+
+fn have_own_json_names(fields: &[FieldShape]) -> bool
+    ensures { result ≡ list_all (λ f. bytes_eq f.json_name f.name) fields.now }
+{
+    fields.iter().all(|field| has_own_name(field))
+}
+
+/// Whether the JSON name of each field is the field's name, and that of no other field.
+fn have_own_names(alloc: Global, fields: &[FieldShape]) -> Result<bool, NoMemory>
+    ensures { IfOk result (λ own. own ≡ has_own_names_of fields.now) }
+{
+    if !have_own_json_names(fields) {
+        return Ok(false);
+    }
+    have_distinct_names(alloc, fields)
+}
+
+fn type_not_found(alloc: Global, type_name: &str) -> TopError
+    ensures { (result ≡ TopError.NoMemory) ⊎ (result ≡ TopError.TypeNotFound type_name.now) }
+{
+    match Text::from_str(alloc, type_name) {
+        Ok(name) => TopError::TypeNotFound { name },
+        Err(NoMemory) => TopError::NoMemory,
     }
 }
 
-/// Why a source has no record.
-fn refused(error: ParseError) -> Stop
-    ensures { result ≡ stop_of error }
-{
-    match error {
-        ParseError::Syntax {
-            file: _,
-            line,
-            column,
-            expected,
-            found,
-        } => Stop::Refused(Refusal::Syntax {
-            line,
-            column,
-            expected,
-            found,
-        }),
-        ParseError::NoMemory => Stop::NoMemory,
-    }
-}
-
-/// The compact text of a tree.
-fn print_tree(alloc: Global, tree: &Value) -> Result<String, Stop>
-    ensures text { IfOk result (λ text. has_float (view tree.now) ≡ false → string_bytes text ≡ compact_text (view tree.now)) }
-    ensures stop { IfErr result (λ stop. stop ≡ Stop.NoMemory) }
-{
-    match tree.to_string(alloc) {
-        Ok(text) => Ok(text),
-        Err(_) => Err(Stop::NoMemory),
-    }
-}
-
-/// Reads the tree as a message of the type, and writes its wire bytes and its canonical tree.
-pub(crate) fn transcode(
-    alloc: Global,
-    type_name: &str,
-    shape: &Shape,
-    tree: Value,
-) -> Result<Transcoded, Stop>
-    ensures ok { IsBuilt shape.now → IfOk result (λ done. IsTranscoded type_name.now shape.now (view tree) done.wire (string_bytes done.text)) }
-    ensures stop { IsBuilt shape.now → IfErr result (IsTypeStop type_name.now shape.now (view tree)) }
-    ensures quiet { IfErr result IsQuietStop }
-{
-    let Some(message) = find_message(shape, type_name) else {
-        return Err(Stop::Refused(Refusal::TypeNotFound));
-    };
-    let contents = match read_contents(alloc, shape, message, false, &tree) {
-        Ok(contents) => contents,
-        Err(TreeError::Refused) => return Err(Stop::Refused(Refusal::NotBuilt)),
-        Err(TreeError::NoMemory) => return Err(Stop::NoMemory),
-    };
-    // What the contents are written as stands for them, and decodes to them.
-    canonical_stands();
-    encoding_decodes();
-    stands_flat();
-    // The tree may be large, and nothing reads it from here on.
-    drop(tree);
-    write_both(alloc, shape, message, &contents)
-}
-
-/// The wire bytes of the contents, and the text of their canonical tree.
+/// The wire bytes of the contents, and their canonical tree.
 fn write_both(
     alloc: Global,
     shape: &Shape,
     message: usize,
     contents: &Contents,
-) -> Result<Transcoded, Stop>
-    ensures ok { IfOk result (λ done. IsWritten shape.now message (content_of contents.now) done.wire (string_bytes done.text)) }
-    ensures stop { IfErr result (IsWriteStop (canonical shape.now message (content_of contents.now))) }
+) -> Result<(Blob, Value), TopError>
+    ensures ok { IfOk result (λ done. IsWritten shape.now message (content_of contents.now) done.0 (view done.1)) }
+    ensures stop { IfErr result (IsNotWritten (canonical shape.now message (content_of contents.now))) }
 {
-    // So its text is the compact one.
-    canonical_is_plain();
     let Ok(wire) = encode(alloc, shape, message, contents) else {
-        return Err(Stop::NoMemory);
+        return Err(TopError::NoMemory);
     };
     match write_contents(alloc, shape, message, contents) {
-        Ok(tree) => {
-            let text = print_tree(alloc, &tree)?;
-            Ok(Transcoded { wire, text })
+        Ok(tree) => Ok((wire, tree)),
+        Err(TreeError::Refused) => Err(TopError::NotBuilt),
+        Err(TreeError::NoMemory) => Err(TopError::NoMemory),
+    }
+}
+
+/// The wire bytes of the message that the tree stands for, and its canonical tree.
+fn transcode_as(
+    alloc: Global,
+    shape: &Shape,
+    message: usize,
+    tree: &Value,
+) -> Result<(Blob, Value), TopError>
+    ensures ok { IsBuilt shape.now message → IfOk result (λ done. Transcodes shape.now message (view tree.now) done.0 (view done.1)) }
+    ensures err { IsBuilt shape.now message → IfErr result (IsNotTold shape.now message (view tree.now)) }
+{
+    let contents = match read_contents(alloc, shape, message, false, tree) {
+        Ok(contents) => contents,
+        Err(TreeError::Refused) => return Err(TopError::NotBuilt),
+        Err(TreeError::NoMemory) => return Err(TopError::NoMemory),
+    };
+    // What the contents are written as stands for them, and decodes to them.
+    canonical_stands();
+    encoding_decodes();
+    stands_flat();
+    write_both(alloc, shape, message, &contents)
+}
+
+/// The set of a pool's files.
+fn set_of(alloc: Global, pool: &DescriptorPool) -> Result<Blob, NoMemory>
+    ensures { IfOk result (IsSet pool.now) }
+{
+    let set = pool.encode_to_vec()?;
+    Blob::from_slice(alloc, set.as_slice())
+}
+
+/// The tree as a message of a type of the pool's, and the set of the pool's files.
+fn transcode_in(
+    alloc: Global,
+    pool: &DescriptorPool,
+    type_name: &str,
+    tree: &Value,
+) -> Result<Transcoded, TopError>
+    ensures ok { IfOk result (λ done. IsTranscoded type_name.now (view tree.now) pool.now done.set done.wire (view done.tree)) }
+    ensures err { IfErr result (IsRefused type_name.now (view tree.now) pool.now) }
+{
+    let Ok(shape) = shape_of(alloc, pool) else {
+        return Err(TopError::NoMemory);
+    };
+    let Some(message) = find_message(&shape, type_name) else {
+        return Err(type_not_found(alloc, type_name));
+    };
+    match have_own_names(alloc, shape.fields_of(message)) {
+        Ok(true) => {}
+        Ok(false) => return Err(TopError::NotBuilt),
+        Err(NoMemory) => return Err(TopError::NoMemory),
+    }
+    let Ok(set) = set_of(alloc, pool) else {
+        return Err(TopError::NoMemory);
+    };
+    match transcode_as(alloc, &shape, message, tree) {
+        Ok((wire, tree)) => Ok(Transcoded { set, wire, tree }),
+        Err(error) => Err(error),
+    }
+}
+
+/// Compiles the files at the paths with all that they import, and transcodes a tree as a message of the type of that
+/// full name: into the set of the files, each behind all that it imports, the wire bytes and the canonical tree.
+/// At most 65,536 files are taken. The resolver is handed back.
+///
+/// The names of the paths are as those of `Compiler::open_file`. The tree is read last, so a file or a type's name is
+/// refused before it.
+pub fn compile_and_transcode<R: FileResolver>(
+    alloc: Global,
+    resolver: R,
+    paths: &Texts,
+    type_name: &str,
+    tree: &Value,
+) -> Attempt<R>
+    // Over a resolver that tells, the files are the closure of the paths.
+    ensures ok { IsTrue (R.tells resolver) → (lookups : List ℕ → Lookup) → AreLookups (R.files resolver) lookups → IfOk result.result (λ done. ForFiles lookups (R.resolves resolver) paths.now (λ files. IsTranscoded type_name.now (view tree.now) files done.set done.wire (view done.tree))) }
+    ensures err { IsTrue (R.tells resolver) → (lookups : List ℕ → Lookup) → AreLookups (R.files resolver) lookups → IfErr result.result (Refuses lookups (R.resolves resolver) paths.now type_name.now (view tree.now)) }
+    ensures cause { IfErr result.result (IsCaused (Rose (R.faults resolver) (R.faults result.resolver) (R.at_end result.resolver))) }
+
+    // Over every resolver, the files stand in order, each once and behind its imports.
+    ensures ordered { IfOk result.result (λ done. (files : List Done) × IsOrdered [] files × IsTranscoded type_name.now (view tree.now) (records files) done.set done.wire (view done.tree)) }
+    ensures later { R.faults resolver ≤ R.faults result.resolver }
+    ensures keeps_tells { R.tells result.resolver ≡ R.tells resolver }
+    ensures keeps_files { IsTrue (R.tells resolver) → R.files result.resolver ≡ R.files resolver }
+    ensures keeps_resolves { IsTrue (R.tells resolver) → R.resolves result.resolver ≡ R.resolves resolver }
+    ensures keeps_disk { IsTrue (R.tells resolver) → R.disk result.resolver ≡ R.disk resolver }
+{
+    let mut compiler = match Compiler::with_file_resolver(alloc, resolver) {
+        Ok(compiler) => compiler,
+        Err(resolver) => {
+            return Attempt {
+                resolver,
+                result: Err(TopError::NoMemory),
+            };
         }
-        Err(TreeError::Refused) => Err(Stop::Refused(Refusal::NotBuilt)),
-        Err(TreeError::NoMemory) => Err(Stop::NoMemory),
+    };
+    match compiler.open_files(paths) {
+        Ok(()) => {}
+        Err(error) => {
+            return Attempt {
+                resolver: compiler.into_resolver(),
+                result: Err(file_error(error)),
+            };
+        }
+    }
+    let pool = compiler.descriptor_pool();
+    let result = transcode_in(alloc, &pool, type_name, tree);
+    Attempt {
+        resolver: compiler.into_resolver(),
+        result,
     }
 }

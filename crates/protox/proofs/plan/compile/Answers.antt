@@ -1,22 +1,30 @@
-use Rattle.std.proofs.Common.{◌∙◌, ap, sym, string_bytes}
+use Rattle.std.proofs.Common.{ap, IfOk, IfErr, string_bytes}
 use Rattle.serde_json.specs.View.{view}
-use Rattle.protox_io.specs.Disk.{Stored}
-use Rattle.protox.proofs.Judged.{link_judged, type_judged, done_judged, is_built}
+use Rattle.protox_io.specs.Count.{Rose}
+use Rattle.protox.specs.Top.{ForFiles, IsTranscoded, Refuses}
+use Rattle.protox.proofs.Judged.{ok_of, err_of, ok_both, of_folder, gives, file_stop, stop_caused, of_disk}
 use Rattle.protox.proofs.plan.compile.Goals as goal
 
-pub returns-in-Err-link-clause-stop : goal.returns-in-Err-link-clause-stop
-returns-in-Err-link-clause-stop g c tells =
-    link_judged (record { type_name = c.args.type_name.now; path = c.args.path.now; file = c.args.file.now }) _ c.as_slice.result.now (view c.args.tree) c.in-Err-link.stop
-    (c.in-Ok.ensures.read tells ∙ ap Stored (sym c.as_slice.ensures)) c.in-Err-link.ensures.stop
-
-pub returns-in-Ok-transcode-clause-done : goal.returns-in-Ok-transcode-clause-done
-returns-in-Ok-transcode-clause-done g c tells =
-    done_judged (record { type_name = c.args.type_name.now; path = c.args.path.now; file = c.args.file.now }) _ c.as_slice.result.now c.in-Ok-link.shape (view c.args.tree) c.in-Ok-transcode.done.wire
-    (string_bytes c.in-Ok-transcode.done.text) (c.in-Ok.ensures.read tells ∙ ap Stored (sym c.as_slice.ensures)) c.in-Ok-link.ensures.ok
-    (c.in-Ok-transcode.ensures.ok (is_built c.args.file.now c.as_slice.result.now c.in-Ok-link.shape c.in-Ok-link.ensures.ok))
+pub returns-in-Ok-result-clause-done : goal.returns-in-Ok-result-clause-done
+returns-in-Ok-result-clause-done g c tells lookups are =
+    let told = of_folder g.D.Disk.tells g.D.Disk.holds c.new-files.result c.args.disk c.in-Ok-from_str.folder c.args.file.now c.in-Ok.paths
+    (λ ls rs ps. IfOk c.compile_and_transcode-resolver.result.result (λ done. ForFiles ls rs ps (λ files. IsTranscoded c.args.type_name.now (view c.args.tree.now) files done.set done.wire (view done.tree))))
+    c.new-files.ensures c.in-Ok-from_str.ensures c.in-Ok.ensures c.compile_and_transcode-resolver.ensures.ok tells lookups are in
+    let done = ok_of _ c.compile_and_transcode-resolver.result.result c.in-Ok-result.done c.in-Ok-result.is told in
+    ok_both c.print_tree.result
+    (λ ready wire text. gives c.args.type_name.now c.args.file.now lookups (view c.args.tree.now) c.in-Ok-result.done.set c.in-Ok-result.done.wire (view c.in-Ok-result.done.tree) ready.wire (string_bytes ready.text) c.canonical_is_plain.ensures done wire text)
+    c.print_tree.ensures.wire c.print_tree.ensures.text
 
 pub returns-clause-stop : goal.returns-clause-stop
-returns-clause-stop g c tells =
-    type_judged (record { type_name = c.args.type_name.now; path = c.args.path.now; file = c.args.file.now }) _ c.as_slice.result.now c.in-Ok-link.shape (view c.args.tree) c.in-Err-transcode.stop
-    (c.in-Ok.ensures.read tells ∙ ap Stored (sym c.as_slice.ensures)) c.in-Ok-link.ensures.ok
-    (c.in-Err-transcode.ensures.stop (is_built c.args.file.now c.as_slice.result.now c.in-Ok-link.shape c.in-Ok-link.ensures.ok))
+returns-clause-stop g c tells lookups are =
+    let told = of_folder g.D.Disk.tells g.D.Disk.holds c.new-files.result c.args.disk c.in-Ok-from_str.folder c.args.file.now c.in-Ok.paths
+    (λ ls rs ps. IfErr c.compile_and_transcode-resolver.result.result (Refuses ls rs ps c.args.type_name.now (view c.args.tree.now)))
+    c.new-files.ensures c.in-Ok-from_str.ensures c.in-Ok.ensures c.compile_and_transcode-resolver.ensures.err tells lookups are in
+    file_stop c.args.type_name.now c.args.file.now lookups (view c.args.tree.now) c.in-Err.error c.stop_of.result c.stop_of.ensures (err_of _ c.compile_and_transcode-resolver.result.result c.in-Err.error c.in-Err.is told)
+
+pub returns-clause-cause : goal.returns-clause-cause
+returns-clause-cause g c =
+    stop_caused (Rose (g.D.Disk.faults c.args.disk) (g.D.Disk.faults c.into_disk-disk.result) (g.D.Disk.at_end c.into_disk-disk.result)) c.in-Err.error c.stop_of.result c.stop_of.ensures
+    (of_disk g.D.Disk.faults g.D.Disk.at_end c.args.disk c.into_disk-disk.result c.new-files.result.disk c.compile_and_transcode-resolver.result.resolver.disk c.in-Err.error
+    (ap (λ r. r.disk) c.new-files.ensures) c.into_disk-disk.ensures
+    (err_of _ c.compile_and_transcode-resolver.result.result c.in-Err.error c.in-Err.is c.compile_and_transcode-resolver.ensures.cause))

@@ -1,8 +1,16 @@
 use Rattle.std.proofs.Common.{◌∙◌}
 use Rattle.protox.proofs.Causes.{rose_later}
-use Rattle.protox.proofs.Endings.{carry_works}
+use Rattle.protox.proofs.Endings.{carry_works, plan_works}
+use Rattle.protox.proofs.Judged.{ok_of, err_of}
 use Rattle.protox.proofs.top.work.Goals as goal
 
 pub returns-in-Ok-clause-told : goal.returns-in-Ok-clause-told
-returns-in-Ok-clause-told g c disk input out =
-    carry_works _ _ _ _ _ _ _ _ _ _ _ _ _ (c.in-Ok.ensures.done disk input) (c.plan.ensures.keeps_holds disk) (rose_later _ _ _ _ c.plan.ensures.later) (c.carry.ensures.told (c.plan.ensures.keeps_tells ∙ disk) out)
+returns-in-Ok-clause-told g c disk input out lookups are =
+    carry_works (record { type_name = c.args.type_name.now; path = c.args.path.now; file = c.args.file.now }) lookups _ _ _ _ _ _ _ _ _ _ _ _
+    (ok_of _ c.plan-disk.result.result c.in-Ok.done c.in-Ok.is (c.plan-disk.ensures.done disk input lookups are))
+    (c.plan-disk.ensures.keeps_holds disk) (rose_later _ _ _ _ c.plan-disk.ensures.later) (c.carry-ended.ensures.told (c.plan-disk.ensures.keeps_tells ∙ disk) out)
+
+pub returns-in-Err-clause-told : goal.returns-in-Err-clause-told
+returns-in-Err-clause-told g c disk input out lookups are =
+    plan_works (Unit {0}) (record { type_name = c.args.type_name.now; path = c.args.path.now; file = c.args.file.now }) lookups _ _ _ _ _ _ c.in-Err.stop (c.plan-disk.ensures.keeps_holds disk)
+    (err_of _ c.plan-disk.result.result c.in-Err.stop c.in-Err.is (c.plan-disk.ensures.stop disk input lookups are))

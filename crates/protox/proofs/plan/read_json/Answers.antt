@@ -1,5 +1,5 @@
 use Rattle.protox.proofs.Json.{json_some, json_none, not_memory}
-use Rattle.protox.proofs.transcode.read_json.Goals as goal
+use Rattle.protox.proofs.plan.read_json.Goals as goal
 
 pub returns-in-Ok-clause-ok : goal.returns-in-Ok-clause-ok
 returns-in-Ok-clause-ok c = json_some _ _ c.in-Ok.ensures.ok.0 c.in-Ok.ensures.ok.1

@@ -1,0 +1,131 @@
+//! Why files, a type's name and a tree are refused.
+
+ghost use Rattle.std.specs.Prelude.{◌≡◌, ◌∷◌, [], IfOk, string_bytes, codes};
+ghost use Rattle.std.specs.List.{concat, flat_map};
+ghost use Rattle.protox.specs.Top.{top_line, is_refusal, is_fault, is_memory, of_error};
+
+use pbx_wire::{NoMemory, Text};
+use protox_file::{Error, ErrorKind};
+use std::alloc::Global;
+
+/// Why files, a type's name and a tree are refused.
+#[derive(Debug, Drop)]
+pub enum TopError {
+    /// A file is not found, not read or not taken.
+    File(Error),
+    /// Two fields of a message have one key in JSON. It does not come so far.
+    JsonNames {
+        /// The full name of the message.
+        message: Text,
+        /// The key.
+        key: Text,
+    },
+    /// A message of the name of a well-known type has another shape. It does not come so far.
+    WellKnownShape {
+        /// The full name of the message.
+        message: Text,
+    },
+    /// No message has the full name.
+    TypeNotFound {
+        /// The name.
+        name: Text,
+    },
+    /// The message nests more than 100 levels. It does not come so far.
+    TooDeep,
+    /// Memory ran out.
+    NoMemory,
+    /// The type or the tree is not built yet.
+    NotBuilt,
+}
+
+/// Pieces of a text in a row.
+fn join(alloc: Global, pieces: &[&str]) -> Result<Text, NoMemory>
+    ensures { IfOk result (λ text. text ≡ flat_map (λ p. p.now) pieces.now) }
+{
+    let mut text = String::new(alloc);
+    for piece in pieces {
+        text.push_str(piece)?;
+    }
+    Text::from_str(alloc, text.as_str())
+}
+
+/// A text between two others.
+fn between(alloc: Global, before: &str, text: &Text, behind: &str) -> Result<Text, NoMemory>
+    ensures { IfOk result (λ line. line ≡ concat (before.now ∷ text.now ∷ behind.now ∷ [])) }
+{
+    join(alloc, &[before, text.as_str(), behind])
+}
+
+fn json_names_line(alloc: Global, message: &Text, key: &Text) -> Result<Text, NoMemory>
+    ensures { IfOk result (λ line. line ≡ concat (codes "message '" ∷ message.now ∷ codes "' has clashing JSON name '" ∷ key.now ∷ codes "'" ∷ [])) }
+{
+    join(
+        alloc,
+        &[
+            "message '",
+            message.as_str(),
+            "' has clashing JSON name '",
+            key.as_str(),
+            "'",
+        ],
+    )
+}
+
+impl TopError {
+    /// What is wrong and where, in one line. `NoMemory` comes for want of memory alone.
+    pub fn line(&self, alloc: Global) -> Result<Text, NoMemory>
+        ensures { IfOk result (λ line. line ≡ concat (top_line self.now)) }
+    {
+        match self {
+            TopError::File(error) => error.long_line(alloc),
+            TopError::JsonNames { message, key } => json_names_line(alloc, message, key),
+            TopError::WellKnownShape { message } => between(
+                alloc,
+                "message '",
+                message,
+                "' has not its well-known shape",
+            ),
+            TopError::TypeNotFound { name } => between(alloc, "type '", name, "' not found"),
+            TopError::TooDeep => Text::from_str(alloc, "message nests more than 100 levels"),
+            TopError::NoMemory => Text::from_str(alloc, "out of memory"),
+            TopError::NotBuilt => Text::from_str(alloc, "not built yet"),
+        }
+    }
+
+    /// Whether the input is refused, and no fault of the resolver or want of memory came in between.
+    pub(crate) fn is_refusal(&self) -> bool
+        ensures { result ≡ is_refusal self.now }
+    {
+        match self {
+            TopError::File(error) => !is_fault(error),
+            TopError::NoMemory => false,
+            _ => true,
+        }
+    }
+}
+
+/// Whether a resolver failed, or memory ran out.
+fn is_fault(error: &Error) -> bool
+    ensures { result ≡ is_fault error.now }
+{
+    matches!(
+        error.kind(),
+        ErrorKind::OpenFile { .. } | ErrorKind::Custom { .. } | ErrorKind::NoMemory
+    )
+}
+
+/// The error of a compiler's; want of memory stands inside of no other error.
+pub(crate) fn file_error(error: Error) -> TopError
+    ensures { result ≡ of_error error }
+{
+    if is_memory(&error) {
+        return TopError::NoMemory;
+    }
+    TopError::File(error)
+}
+
+fn is_memory(error: &Error) -> bool
+    ensures { result ≡ is_memory error.now }
+{
+    matches!(error.kind(), ErrorKind::NoMemory)
+}
