@@ -1,5 +1,5 @@
 -- What a look-up by name finds.
-use Rattle.std.proofs.Common.{◌≡◌, ◌∙◌, ℕ, zero, suc, ◌+◌, ◌<◌, ◌≤◌, nat_lt, cond, not, List, [], ◌∷◌, ◌++◌, map, length, get_or, Bool, true, false, Option, Some, None, find, refl, ap, sym, subst, arith}
+use Rattle.std.proofs.Common.{◌≡◌, ◌∙◌, ℕ, suc, ◌+◌, ◌<◌, ◌≤◌, nat_lt, cond, not, List, [], ◌∷◌, ◌++◌, map, length, Bool, true, false, Some, None, find, refl, ap, sym, subst, arith}
 use Rattle.std.specs.Prelude.{position, Contains, slice_get, option_map, unwrap_or}
 use Rattle.std.specs.List.{position_or_len, flat_map}
 use Rattle.std.specs.Str.{bytes_eq}

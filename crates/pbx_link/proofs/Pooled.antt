@@ -1,5 +1,5 @@
 -- A pool with one more record: linking changes nothing that a rule looks at.
-use Rattle.std.proofs.Common.{◌≡◌, ◌∙◌, ℕ, ◌+◌, ◌&&◌, ◌||◌, ◌==◌, not, List, [], ◌∷◌, ◌++◌, map, take, Bool, true, false, append_assoc, append-nil, refl, ap, sym, subst, if◌then◌else◌, pos, codes}
+use Rattle.std.proofs.Common.{◌≡◌, ◌∙◌, ℕ, ◌+◌, ◌&&◌, ◌||◌, ◌==◌, not, List, [], ◌∷◌, ◌++◌, map, take, Bool, true, false, append_assoc, append-nil, refl, ap, sym, if◌then◌else◌, pos, codes}
 use Rattle.std.specs.List.{list_any, list_all, flat_map, enumerate_from}
 use Rattle.std.proofs.lemmas.List.Folds.{list_all-append}
 use Rattle.pbx_desc.specs.declared.field.FieldDescriptorProto.{FieldDescriptorProto}
@@ -8,7 +8,7 @@ use Rattle.pbx_desc.specs.declared.file.FileDescriptorProto.{FileDescriptorProto
 use Rattle.pbx_link.specs.Shapes.{text_or_empty, number_or_zero}
 use Rattle.pbx_link.specs.Linked.{linked, linked_field, linked_message}
 use Rattle.pbx_link.specs.Built.{is_known, is_built_field, is_built_message, is_built}
-use Rattle.pbx_link.specs.Rules.{Place, is_named, among, is_ident, is_field_number, field_names, field_numbers, message_names, pool_names, places_where, in_messages, file_twice, missing_imports, bad_file_name, bad_names_in, bad_names, names_twice_in, names_twice, bad_numbers_in, bad_numbers, is_none, keeps_rules}
+use Rattle.pbx_link.specs.Rules.{Place, is_named, among, is_ident, is_field_number, message_names, pool_names, places_where, in_messages, file_twice, missing_imports, bad_file_name, bad_names_in, bad_names, names_twice_in, names_twice, bad_numbers_in, bad_numbers, is_none, keeps_rules}
 use Rattle.pbx_link.specs.Pool.{is_linkable, is_all_known, ArePooled, IsPool}
 
 -- ---- a linked record is linked

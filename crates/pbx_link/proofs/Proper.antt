@@ -1,5 +1,5 @@
 -- What the rule on numbers gives of the shape of a pool: the fields of each type ascend by number.
-use Rattle.std.proofs.Common.{◌≡◌, ◌∙◌, ℕ, zero, suc, ◌+◌, ◌<◌, ◌≤◌, ◌==◌, nat_lt, nat_le, ◌&&◌, ◌||◌, not, List, [], ◌∷◌, ◌++◌, map, take, length, Bool, true, false, Some, None, append_assoc, if◌then◌else◌, refl, ap, sym, subst, arith}
+use Rattle.std.proofs.Common.{◌≡◌, ◌∙◌, ℕ, zero, suc, ◌+◌, ◌<◌, ◌≤◌, ◌==◌, nat_lt, nat_le, ◌&&◌, ◌||◌, not, List, [], ◌∷◌, ◌++◌, map, take, length, Bool, true, false, Some, None, append_assoc, if◌then◌else◌, refl, ap, sym, arith}
 use Rattle.std.specs.List.{list_any, fold, flat_map, cons_option}
 use Rattle.std.proofs.lemmas.Bool.Decides.{nat_tests}
 use Rattle.std.proofs.lemmas.List.{length-append}
@@ -11,7 +11,7 @@ use Rattle.pbx_content.specs.declared.shape.FieldShape.{FieldShape}
 use Rattle.pbx_desc.specs.declared.field.FieldDescriptorProto.{FieldDescriptorProto}
 use Rattle.pbx_desc.specs.declared.message.DescriptorProto.{DescriptorProto}
 use Rattle.pbx_desc.specs.declared.file.FileDescriptorProto.{FileDescriptorProto}
-use Rattle.pbx_link.specs.Shapes.{number_or_zero, field_shape, has_up_to, inserted, by_number, message_shape, shape_of}
+use Rattle.pbx_link.specs.Shapes.{number_or_zero, field_shape, has_up_to, inserted, message_shape, shape_of}
 use Rattle.pbx_link.specs.Rules.{Place, is_field_number, field_numbers, file_twice, missing_imports, bad_names, names_twice, bad_numbers_in, bad_numbers, is_none, keeps_rules}
 use Rattle.pbx_link.specs.Pool.{ArePooled}
 use Rattle.pbx_link.proofs.Searched.{places_from, messages_from}

@@ -1,14 +1,14 @@
 -- Places that a search has passed, and those that are left.
-use Rattle.std.proofs.Common.{◌≡◌, ◌∙◌, ◌⊎◌, ℕ, zero, suc, ◌+◌, ◌<◌, ◌≤◌, ◌==◌, nat_lt, cond, ◌||◌, not, List, [], ◌∷◌, ◌++◌, map, length, take, drop, Bool, true, false, Option, Some, None, if◌then◌else◌, refl, ap, sym, subst, inl, inr, add-zero, zero-add, arith}
+use Rattle.std.proofs.Common.{◌≡◌, ◌∙◌, ◌⊎◌, ℕ, zero, suc, ◌+◌, ◌<◌, ◌≤◌, nat_lt, cond, ◌||◌, not, List, [], ◌∷◌, ◌++◌, map, length, Bool, true, false, Option, Some, None, if◌then◌else◌, refl, ap, sym, subst, inl, inr, add-zero, zero-add, arith}
 use Rattle.std.specs.Prelude.{position, Contains}
-use Rattle.std.specs.List.{list_any, filter_map, flat_map, enumerate_from, cons_option, position_or_len, prefix_len}
+use Rattle.std.specs.List.{list_any, filter_map, flat_map, enumerate_from, cons_option, position_or_len}
 use Rattle.std.specs.Str.{bytes_eq}
 use Rattle.std.proofs.lemmas.Bool.Decides.{nat_tests}
-use Rattle.std.proofs.lemmas.List.Elements.{Contains-append_left, Contains-append_right, Contains-append_cases}
+use Rattle.std.proofs.lemmas.List.Elements.{Contains-append_left, Contains-append_right}
 use Rattle.std.proofs.lemmas.List.Folds.{list_any-append}
 use Rattle.pbx_desc.specs.declared.message.DescriptorProto.{DescriptorProto}
 use Rattle.pbx_desc.specs.declared.file.FileDescriptorProto.{FileDescriptorProto}
-use Rattle.pbx_link.specs.Rules.{Place, among, message_names, pool_names, places_where}
+use Rattle.pbx_link.specs.Rules.{Place, among, message_names, pool_names}
 use Rattle.pbx_link.specs.Shapes.{text_or_empty}
 use Rattle.pbx_link.specs.Found.{IsIndex}
 

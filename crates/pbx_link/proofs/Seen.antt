@@ -1,5 +1,5 @@
 -- Keys that were seen, and items that are left.
-use Rattle.std.proofs.Common.{◌≡◌, ◌∙◌, ℕ, ◌+◌, ◌<◌, List, [], ◌∷◌, map, length, take, drop, get_or, Ordering, Less, Equal, Greater, is_eq, Bool, true, false, not, ◌||◌, refl, ap, sym, subst, Decides}
+use Rattle.std.proofs.Common.{◌≡◌, ◌∙◌, ℕ, ◌+◌, ◌<◌, List, [], ◌∷◌, length, take, drop, get_or, Ordering, Less, Equal, Greater, is_eq, Bool, true, false, not, ◌||◌, refl, ap, sym, subst, Decides}
 use Rattle.std.specs.Prelude.{Contains}
 use Rattle.std.specs.List.{list_any}
 use Rattle.std.specs.Ordering.{match_ordering}

@@ -1,10 +1,9 @@
 -- A pool without unknown records nests few levels.
-use Rattle.std.proofs.Common.{◌≡◌, ℕ, zero, suc, ◌≤◌, ◌&&◌, List, [], ◌∷◌, Bool, true, false, refl, arith}
+use Rattle.std.proofs.Common.{◌≡◌, zero, suc, ◌≤◌, ◌&&◌, List, [], ◌∷◌, Bool, true, false, refl, arith}
 use Rattle.std.specs.Prelude.{All}
 use Rattle.std.specs.List.{list_all}
 use Rattle.pbx_wire.specs.Text.{depth_of}
 use Rattle.pbx_wire.specs.declared.rec.Rec.{Rec}
-use Rattle.pbx_desc.specs.declared.field.FieldDescriptorProto.{FieldDescriptorProto}
 use Rattle.pbx_desc.specs.declared.message.DescriptorProto.{DescriptorProto}
 use Rattle.pbx_desc.specs.declared.file.FileDescriptorProto.{FileDescriptorProto}
 use Rattle.pbx_desc.specs.Laws.{IsShallowField, IsShallowMessage, IsShallow}

@@ -1,5 +1,5 @@
 -- What descriptors stand for: records of a pool, beside the pool.
-use Rattle.std.specs.Prelude.{ℕ, List, [], ◌∷◌, refl, map, drop, find, Option, Some, None, option_map, unwrap_or, slice_get, ◌<◌, length, Contains}
+use Rattle.std.specs.Prelude.{ℕ, List, [], refl, map, drop, find, Option, None, unwrap_or, slice_get, ◌<◌, length, Contains}
 use Rattle.std.specs.List.{flat_map}
 use Rattle.std.specs.Str.{bytes_eq}
 use Rattle.std.specs.Coded.{Coded, code_by, coded×, coded_list}

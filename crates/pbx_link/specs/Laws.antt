@@ -1,5 +1,5 @@
 -- What holds of linked records and of pools.
-use Rattle.std.specs.Prelude.{◌≡◌, ℕ, List, [], ◌∷◌, ◌++◌, Bool, true, false, Some}
+use Rattle.std.specs.Prelude.{◌≡◌, ℕ, List, [], ◌∷◌, ◌++◌, true, false, Some}
 use Rattle.std.specs.List.{list_all}
 use Rattle.pbx_desc.specs.declared.file.FileDescriptorProto.{FileDescriptorProto}
 use Rattle.pbx_link.specs.Linked.{linked}

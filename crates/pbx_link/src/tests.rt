@@ -321,10 +321,14 @@ fn files_come_in_order(rt: HostRuntime) -> Result<(), Fail> {
     let mut pool = pool(rt.alloc())?;
     pool.add_file_descriptor_proto(file(rt.alloc(), "b.proto", &[])?)?;
     assert_eq!(rt; pool.files().len(), 2);
+    assert_eq!(rt; pool.files().size_hint(), (2, Some(2)));
     let mut names = Vec::new(rt.alloc());
     for file in pool.files() {
         let record = file.file_descriptor_proto(rt.alloc())?;
-        assert_eq!(rt; record.name.is_some(), true);
+        match &record.name {
+            Some(name) => assert_eq!(rt; name.as_str(), file.name()),
+            None => assert!(rt; false),
+        }
         assert_eq!(rt; file.parent_pool().len(), 2);
         names.push(Text::from_str(rt.alloc(), file.name())?)?;
     }

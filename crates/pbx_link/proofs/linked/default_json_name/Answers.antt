@@ -1,4 +1,4 @@
-use Rattle.std.proofs.Common.{◌≡◌, ◌∙◌, ◌++◌, ◌∷◌, ℕ, List, [], arith, append-nil, Bool, true, false, if◌then◌else◌, length, ap, sym, refl, append_assoc, string_bytes, IfOk}
+use Rattle.std.proofs.Common.{◌≡◌, ◌∙◌, ◌++◌, ◌∷◌, ℕ, List, [], arith, append-nil, Bool, false, if◌then◌else◌, length, ap, sym, append_assoc, string_bytes}
 use Rattle.std.specs.Char.{to_ascii_uppercase, encode_utf8}
 use Rattle.std.specs.Str.Iter.{chars_rest}
 use Rattle.std.proofs.lemmas.Result.{IfOk-weaker}

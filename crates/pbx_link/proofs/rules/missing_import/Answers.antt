@@ -1,4 +1,4 @@
-use Rattle.std.proofs.Common.{◌≡◌, [], ◌∷◌, pos, not, sym, subst}
+use Rattle.std.proofs.Common.{[], ◌∷◌, pos, not, sym, subst}
 use Rattle.std.specs.Prelude.{Contains}
 use Rattle.pbx_link.specs.Rules.{Place, has_file, missing_imports}
 use Rattle.pbx_link.proofs.Searched.{position_is_index}

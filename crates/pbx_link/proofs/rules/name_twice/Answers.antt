@@ -1,9 +1,9 @@
-use Rattle.std.proofs.Common.{◌≡◌, ◌∙◌, ℕ, List, [], ◌∷◌, ◌++◌, Option, None, Some, pos, take, ap, sym, subst}
+use Rattle.std.proofs.Common.{◌≡◌, ◌∙◌, List, [], ◌∷◌, ◌++◌, Option, None, Some, pos, ap, sym, subst}
 use Rattle.std.specs.Prelude.{Contains}
 use Rattle.std.proofs.lemmas.List.Elements.{Contains-append_left}
 use Rattle.std.proofs.lemmas.Result.{IfOk-weaker}
 use Rattle.pbx_link.specs.Found.{IsAmong}
-use Rattle.pbx_link.specs.Rules.{Place, names_twice, names_twice_in, in_messages, places_where, among, pool_names, message_names}
+use Rattle.pbx_link.specs.Rules.{Place, names_twice, names_twice_in, in_messages}
 use Rattle.pbx_link.proofs.rules.name_twice.Goals as goal
 
 behind : (ps qs : List Place) (o : Option Place) → ps ≡ [] → IsAmong qs o → IsAmong (ps ++ qs) o

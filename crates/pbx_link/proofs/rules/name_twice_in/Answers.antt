@@ -1,4 +1,4 @@
-use Rattle.std.proofs.Common.{◌≡◌, [], ◌∷◌, pos, sym, subst}
+use Rattle.std.proofs.Common.{[], ◌∷◌, pos, sym, subst}
 use Rattle.std.specs.Prelude.{Contains}
 use Rattle.pbx_link.specs.Rules.{Place, names_twice_in}
 use Rattle.pbx_link.proofs.rules.name_twice_in.Goals as goal

@@ -1,4 +1,4 @@
-use Rattle.std.proofs.Common.{◌≡◌, ◌==◌, ℕ, List, map, take, drop}
+use Rattle.std.proofs.Common.{◌≡◌, ◌==◌, ℕ, map, take, drop}
 use Rattle.std.specs.List.{list_any}
 use Rattle.pbx_link.specs.Rules.{Place, places_where}
 use Rattle.pbx_link.specs.Shapes.{number_or_zero}

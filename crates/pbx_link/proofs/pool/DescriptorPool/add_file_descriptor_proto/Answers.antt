@@ -1,5 +1,4 @@
-use Rattle.std.proofs.Common.{◌≡◌, ◌∙◌, List, [], ◌∷◌, ◌++◌, true, ap, sym, subst}
-use Rattle.pbx_desc.specs.declared.file.FileDescriptorProto.{FileDescriptorProto}
+use Rattle.std.proofs.Common.{◌≡◌, ◌∙◌, [], ◌∷◌, ◌++◌, true, ap, sym, subst}
 use Rattle.pbx_link.specs.Linked.{linked}
 use Rattle.pbx_link.specs.Pool.{IsPool, held, is_linkable}
 use Rattle.pbx_link.proofs.Pooled.{pool_more}

@@ -1,7 +1,7 @@
 use Rattle.std.proofs.Common.{◌≡◌, ◌∙◌, ◌+◌, ◌∷◌, Some, find, drop, ap, sym}
 use Rattle.std.proofs.lemmas.List.{at_drop_more}
 use Rattle.pbx_link.specs.Descriptors.{described_message, message_at, message_of_name}
-use Rattle.pbx_link.proofs.LookedUp.{is_message, messages_left, message_there, message_absent, message_within}
+use Rattle.pbx_link.proofs.LookedUp.{is_message, messages_left, message_there, message_absent}
 use Rattle.pbx_link.proofs.pool.DescriptorPool.get_message_by_name.Goals as goal
 
 pub returns-in-Some : goal.returns-in-Some
