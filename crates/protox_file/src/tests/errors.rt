@@ -5,6 +5,7 @@ use pbx_link::DescriptorError;
 use pbx_parse::ParseError;
 use pbx_wire::{DecodeError, List, NoMemory, Text};
 use std::alloc::Global;
+use std::process::Abort;
 use std::test::Fail;
 
 /// A broken rule of linking in `root.proto`.
@@ -91,7 +92,7 @@ fn not_built(alloc: Global) -> Result<Error, Fail> {
     Ok(Error::from(DescriptorError::NotBuilt { file }))
 }
 
-/// An error of each kind, by the number of the kind.
+/// An error of each kind, by the number of the kind, and some more of linking, of no memory and of a resolver.
 fn made(alloc: Global, kind: u8, place: Option<(u32, u32)>) -> Result<Error, Fail> {
     match kind {
         1 => syntax_error(alloc),
@@ -109,14 +110,31 @@ fn made(alloc: Global, kind: u8, place: Option<(u32, u32)>) -> Result<Error, Fai
         13 => name_mismatch(alloc),
         14 => Ok(Error::from_kind(ErrorKind::FileLimit { limit: 65536 })),
         15 => undecodable(alloc),
-        _ => Ok(Error::from(NoMemory)),
+        16 => Ok(Error::from(NoMemory)),
+        17 => Ok(Error::from(DescriptorError::Decode(DecodeError::Varint(3)))),
+        18 => Ok(Error::from(DescriptorError::Decode(DecodeError::NoMemory))),
+        19 => Ok(Error::from(ParseError::NoMemory)),
+        20 => Ok(Error::new(alloc, "refused")),
+        _ => not_built(alloc),
     }
+}
+
+fn line(alloc: Global, kind: u8) -> Result<Text, Fail> {
+    Ok(made(alloc, kind, None)?.line(alloc)?)
+}
+
+fn long_line(alloc: Global, kind: u8, place: Option<(u32, u32)>) -> Result<Text, Fail> {
+    Ok(made(alloc, kind, place)?.long_line(alloc)?)
+}
+
+fn rule_line(alloc: Global, rule: u8) -> Result<Text, Fail> {
+    Ok(broken(alloc, &[4, -1], rule)?.line(alloc)?)
 }
 
 #[test]
 fn errors_have_lines(rt: HostRuntime) -> Result<(), Fail> {
     let alloc = rt.alloc();
-    let rows: [(u8, &str); 16] = [
+    let rows: [(u8, &str); 20] = [
         (1, "expected an identifier, but found '{'"),
         (2, "rule 7: reference not bound at 4.0.2.0.6"),
         (3, "error opening file './m.proto'"),
@@ -142,9 +160,13 @@ fn errors_have_lines(rt: HostRuntime) -> Result<(), Fail> {
             "file 'o.proto' does not decode under the built-in schema",
         ),
         (16, "out of memory"),
+        (17, "record does not decode"),
+        (18, "out of memory"),
+        (19, "out of memory"),
+        (20, "refused"),
     ];
     for (kind, want) in rows {
-        let line = made(alloc, kind, None)?.line(alloc)?;
+        let line = line(alloc, kind)?;
         assert_eq!(rt; line.as_str(), want);
     }
     Ok(())
@@ -153,7 +175,7 @@ fn errors_have_lines(rt: HostRuntime) -> Result<(), Fail> {
 #[test]
 fn errors_have_long_lines(rt: HostRuntime) -> Result<(), Fail> {
     let alloc = rt.alloc();
-    let rows: [(u8, Option<(u32, u32)>, &str); 18] = [
+    let rows: [(u8, Option<(u32, u32)>, &str); 19] = [
         (
             1,
             None,
@@ -204,33 +226,10 @@ fn errors_have_long_lines(rt: HostRuntime) -> Result<(), Fail> {
             "file 'o.proto' does not decode under the built-in schema",
         ),
         (16, None, "out of memory"),
+        (21, None, "root.proto: record not built yet"),
     ];
     for (kind, place, want) in rows {
-        let line = made(alloc, kind, place)?.long_line(alloc)?;
-        assert_eq!(rt; line.as_str(), want);
-    }
-    Ok(())
-}
-
-/// Further errors of linking.
-fn of_linking(alloc: Global, which: u8) -> Result<Error, Fail> {
-    match which {
-        0 => Ok(Error::from(DescriptorError::Decode(DecodeError::Varint(3)))),
-        1 => not_built(alloc),
-        _ => broken(alloc, &[], 1),
-    }
-}
-
-#[test]
-fn errors_of_linking_have_lines(rt: HostRuntime) -> Result<(), Fail> {
-    let alloc = rt.alloc();
-    let rows: [(u8, &str); 3] = [
-        (0, "record does not decode"),
-        (1, "root.proto: record not built yet"),
-        (2, "root.proto: rule 1: file given twice at "),
-    ];
-    for (which, want) in rows {
-        let line = of_linking(alloc, which)?.long_line(alloc)?;
+        let line = long_line(alloc, kind, place)?;
         assert_eq!(rt; line.as_str(), want);
     }
     Ok(())
@@ -258,16 +257,23 @@ fn rules_have_words(rt: HostRuntime) -> Result<(), Fail> {
         (16, "rule 16: bad range at 4.-1"),
     ];
     for (rule, want) in rows {
-        let line = broken(alloc, &[4, -1], rule)?.line(alloc)?;
+        let line = rule_line(alloc, rule)?;
         assert_eq!(rt; line.as_str(), want);
     }
     Ok(())
 }
 
+/// The error names this file, and is of this sort.
+fn is_of(rt: &impl Abort, error: &Error, file: Option<&str>, sort: &str) {
+    assert_eq!(rt; error.file(), file);
+    assert_eq!(rt; error.is_parse(), sort == "text");
+    assert_eq!(rt; error.is_io(), sort == "reading");
+    assert_eq!(rt; error.is_file_not_found(), sort == "absence");
+}
+
 #[test]
 fn errors_name_files_and_sorts(rt: HostRuntime) -> Result<(), Fail> {
-    let alloc = rt.alloc();
-    let rows: [(u8, Option<&str>, &str); 16] = [
+    let rows: [(u8, Option<&str>, &str); 17] = [
         (1, Some("root.proto"), "text"),
         (2, Some("root.proto"), "other"),
         (3, Some("m.proto"), "reading"),
@@ -284,24 +290,10 @@ fn errors_name_files_and_sorts(rt: HostRuntime) -> Result<(), Fail> {
         (14, None, "other"),
         (15, Some("o.proto"), "other"),
         (16, None, "other"),
+        (20, None, "other"),
     ];
     for (kind, file, sort) in rows {
-        let error = made(alloc, kind, None)?;
-        assert_eq!(rt; error.file(), file, "at {kind}");
-        assert_eq!(rt; error.is_parse(), sort == "text", "at {kind}");
-        assert_eq!(rt; error.is_io(), sort == "reading", "at {kind}");
-        assert_eq!(rt; error.is_file_not_found(), sort == "absence", "at {kind}");
+        is_of(&rt, &made(rt.alloc(), kind, None)?, file, sort);
     }
-    Ok(())
-}
-
-#[test]
-fn want_of_memory_stands_alone(rt: HostRuntime) -> Result<(), Fail> {
-    let alloc = rt.alloc();
-    let inside = Error::from(DescriptorError::Decode(DecodeError::NoMemory));
-    assert!(rt; matches!(inside.kind(), ErrorKind::NoMemory));
-    let outside = Error::from(ParseError::NoMemory);
-    assert!(rt; matches!(outside.kind(), ErrorKind::NoMemory));
-    assert!(rt; !Error::new(alloc, "refused").is_io());
     Ok(())
 }

@@ -51,6 +51,14 @@ fn resolve<R: FileResolver>(resolver: &R, alloc: Global, path: &str) -> Result<T
     }
 }
 
+/// The file whose text is at fault, if that was answered.
+fn faulty_file(answer: &Result<File, Error>) -> Option<&str> {
+    match answer {
+        Err(error) => { if error.is_parse() { error.file() } else { None } }
+        Ok(_) => None,
+    }
+}
+
 /// The file is that of the source.
 fn is_source(rt: &impl Abort, file: &File) {
     assert_eq!(rt; file.name(), "m.proto");
@@ -67,13 +75,8 @@ fn sources_are_files(rt: HostRuntime) -> Result<(), Fail> {
     let file = File::from_source(alloc, "m.proto", SOURCE)?;
     is_source(&rt, &file);
     is_source(&rt, &file.copy(alloc)?);
-    match File::from_source(alloc, "m.proto", "message {") {
-        Err(error) => {
-            assert!(rt; error.is_parse());
-            assert_eq!(rt; error.file(), Some("m.proto"));
-        }
-        Ok(_) => assert!(rt; false, "there is no record"),
-    }
+    let refused = File::from_source(alloc, "m.proto", "message {");
+    assert_eq!(rt; faulty_file(&refused), Some("m.proto"));
     Ok(())
 }
 
@@ -162,11 +165,8 @@ fn memory_counts_each_listed_open(rt: HostRuntime) -> Result<(), Fail> {
     resolver.fail_at(1)?;
     resolver.fail_at(0)?;
     for want in ["failed to load file!", "failed to load file!", SOURCE] {
-        let answer = resolver.open_file(alloc, "m.proto");
-        if let Err(error) = &answer {
-            assert!(rt; error.is_io());
-        }
-        assert_eq!(rt; said(alloc, &answer)?.as_str(), want);
+        let got = open(&mut resolver, alloc, "m.proto")?;
+        assert_eq!(rt; got.as_str(), want);
     }
     Ok(())
 }
