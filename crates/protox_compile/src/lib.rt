@@ -9,6 +9,8 @@ mod refusal;
 mod root;
 mod stack;
 mod step;
+#[cfg(test)]
+mod tests;
 mod walk;
 
 pub use compiler::{Compiler, Files};
