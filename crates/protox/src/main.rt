@@ -11,6 +11,8 @@ mod laws;
 mod plan;
 mod report;
 mod stop;
+#[cfg(test)]
+mod tests;
 mod top;
 mod transcode;
 mod words;

@@ -1,0 +1,578 @@
+//! Runs over objects in memory: what they print, write and refuse, as tables.
+
+use crate::{compile_and_transcode, run};
+use pbx_wire::{Blob, NoMemory, Text, Texts};
+use protox_file::MemoryResolver;
+use protox_io::{MemoryDisk, MemorySink, MemorySource};
+use serde_json::Value;
+use std::alloc::{AllocError, Global};
+use std::test::Fail;
+
+/// What fails: calls of the disk, one call each of the input, of out and of err.
+#[derive(Clone, Copy)]
+struct Faults {
+    disk: Option<u64>,
+    input: Option<u64>,
+    out: Option<u64>,
+    err: Option<u64>,
+}
+
+const NONE: Faults = Faults {
+    disk: None,
+    input: None,
+    out: None,
+    err: None,
+};
+
+const WORDS: &str = "--type M --wire w m.proto";
+
+const ROW: &str = "syntax = \"proto3\"; message M { int32 foo = 1; }";
+
+const TWO: &str =
+    "// c\nsyntax = \"proto3\";\nmessage A { int32 a = 1; string b2 = 0x10; }\n/* d */ message B {}\n";
+
+fn lacking(_refused: NoMemory) -> AllocError {
+    AllocError
+}
+
+fn split(alloc: Global, line: &str) -> Result<Texts, AllocError> {
+    let mut words = Texts::new(alloc);
+    for word in line.split(' ') {
+        let text = Text::from_str(alloc, word).map_err(lacking)?;
+        words.add(text).map_err(lacking)?;
+    }
+    Ok(words)
+}
+
+/// A disk with these sources at their names; `absent` stands for no file, and `oversized` for one of too many bytes.
+fn disk(
+    alloc: Global,
+    files: &[(&str, &[u8])],
+    failing: Option<u64>,
+) -> Result<MemoryDisk, AllocError> {
+    let mut disk = MemoryDisk::new(alloc);
+    for (name, source) in files {
+        if *source == b"oversized".as_slice() {
+            disk.put_oversized(name).map_err(lacking)?;
+        } else if *source != b"absent".as_slice() {
+            disk.put(name, source).map_err(lacking)?;
+        }
+    }
+    if let Some(call) = failing {
+        disk.fail_at(call).map_err(lacking)?;
+    }
+    Ok(disk)
+}
+
+/// The hexadecimal digits of the bytes, and `-` where there is no file.
+fn hex(alloc: Global, bytes: Option<&[u8]>) -> Result<String, AllocError> {
+    let mut digits = String::new(alloc);
+    match bytes {
+        None => digits.push_str("-")?,
+        Some(bytes) => {
+            for byte in bytes {
+                let pair = format!(in alloc; "{byte:02x}")?;
+                digits.push_str(pair.as_str())?;
+            }
+        }
+    }
+    Ok(digits)
+}
+
+/// Status, out, err and the file `w` of a run over these files, one after another.
+fn ran_over(
+    alloc: Global,
+    words: &str,
+    files: &[(&str, &[u8])],
+    input: &[u8],
+    faults: Faults,
+) -> Result<String, AllocError> {
+    let words = split(alloc, words)?;
+    let bytes = Blob::from_slice(alloc, input).map_err(lacking)?;
+    let mut from = MemorySource::new(bytes, faults.input);
+    let mut out = MemorySink::new(alloc, faults.out);
+    let mut err = MemorySink::new(alloc, faults.err);
+    let disk = disk(alloc, files, faults.disk)?;
+    let ran = run(alloc, &words, disk, &mut from, &mut out, &mut err);
+    let written = hex(alloc, ran.disk.get("w"))?;
+    let printed = String::from_utf8_lossy(alloc, out.held())?;
+    let said = String::from_utf8_lossy(alloc, err.held())?;
+    let status = ran.status;
+    format!(in alloc; "{status}|{printed}|{said}|{written}")
+}
+
+/// The same, over one file `m.proto`.
+fn ran(
+    alloc: Global,
+    words: &str,
+    source: &[u8],
+    input: &[u8],
+    faults: Faults,
+) -> Result<String, AllocError> {
+    ran_over(alloc, words, &[("m.proto", source)], input, faults)
+}
+
+/// A kind of input, and what status, out, err and the file `w` come to.
+#[derive(Clone, Copy)]
+struct Row {
+    source: &'static str,
+    input: &'static str,
+    want: &'static str,
+}
+
+const fn case(source: &'static str, input: &'static str, want: &'static str) -> Row {
+    Row {
+        source,
+        input,
+        want,
+    }
+}
+
+#[test]
+fn transcodes(rt: HostRuntime) -> Result<(), Fail> {
+    let alloc = rt.alloc();
+    for Row {
+        source,
+        input,
+        want,
+    } in [
+        case(ROW, "{\"foo\":150}", "0|{\"foo\":150}\n||089601"),
+        case(ROW, " { \"foo\" : 150 } ", "0|{\"foo\":150}\n||089601"),
+        case(ROW, "{\"foo\":0}", "0|{}\n||"),
+        case(ROW, "{}", "0|{}\n||"),
+        case(ROW, "{\"foo\":1,\"foo\":2}", "0|{\"foo\":2}\n||0802"),
+        case(ROW, "{\"foo\":1,\"f\\u006fo\":2}", "0|{\"foo\":2}\n||0802"),
+        case(
+            ROW,
+            "{\"foo\":2147483647}",
+            "0|{\"foo\":2147483647}\n||08ffffffff07",
+        ),
+        case(
+            ROW,
+            "{\"foo\":-2147483648}",
+            "0|{\"foo\":-2147483648}\n||0880808080f8ffffffff01",
+        ),
+        case(
+            "syntax = 'proto3'; message M { string s = 536870911; string a = 1; }",
+            "{\"s\":\"\",\"a\":\"h\\u00e9\\n\"}",
+            "0|{\"a\":\"h\u{e9}\\n\"}\n||0a0468c3a90a",
+        ),
+        case(
+            "syntax = \"proto3\"; message B {} message M { int32 b = 20000; int32 a = 18999; }",
+            "{\"a\":1,\"b\":2}",
+            "0|{\"a\":1,\"b\":2}\n||b8a3090180e20902",
+        ),
+    ] {
+        let got = ran(alloc, WORDS, source.as_bytes(), input.as_bytes(), NONE)?;
+        assert_eq!(rt; got.as_str(), want, "{source} and {input}");
+    }
+    Ok(())
+}
+
+#[test]
+fn refuses(rt: HostRuntime) -> Result<(), Fail> {
+    let alloc = rt.alloc();
+    for Row {
+        source,
+        input,
+        want,
+    } in [
+        case(ROW, "", "1||error: input is not JSON\n|-"),
+        case(ROW, " \n", "1||error: input is not JSON\n|-"),
+        case(ROW, "{", "1||error: input is not JSON\n|-"),
+        case(ROW, "{} x", "1||error: input is not JSON\n|-"),
+        case(ROW, "{\"foo\":1e400}", "1||error: input is not JSON\n|-"),
+        case(
+            "absent",
+            "{}",
+            "1||error: file 'm.proto' is not in any include path\n|-",
+        ),
+        case("absent", "{", "1||error: input is not JSON\n|-"),
+        case("oversized", "{}", "1||error: file 'm.proto' is too large\n|-"),
+        case(
+            "syntax = \"proto3\"; message M {} message M {}",
+            "{}",
+            "1||error: m.proto: rule 5: name defined twice at 4.1.1\n|-",
+        ),
+        case(
+            "syntax = \"proto3\"; message M { int32 a = 1; string a = 2; }",
+            "{}",
+            "1||error: m.proto: rule 5: name defined twice at 4.0.2.1.1\n|-",
+        ),
+        case(
+            "syntax = \"proto3\"; message M { int32 a = 1; string b = 1; }",
+            "{}",
+            "1||error: m.proto: rule 6: bad field number at 4.0.2.1.3\n|-",
+        ),
+        case(
+            "syntax = \"proto3\"; message M { int32 a = 0; }",
+            "{}",
+            "1||error: m.proto: rule 6: bad field number at 4.0.2.0.3\n|-",
+        ),
+        case(
+            "syntax = \"proto3\"; message M { int32 a = 19000; }",
+            "{}",
+            "1||error: m.proto: rule 6: bad field number at 4.0.2.0.3\n|-",
+        ),
+        case(
+            "syntax = \"proto3\"; message M { int32 a = 19999; }",
+            "{}",
+            "1||error: m.proto: rule 6: bad field number at 4.0.2.0.3\n|-",
+        ),
+        case(
+            "syntax = \"proto3\"; message M { int32 a = 536870912; }",
+            "{}",
+            "1||error: m.proto: rule 6: bad field number at 4.0.2.0.3\n|-",
+        ),
+        case(
+            "syntax = \"proto3\"; message M { int32 a = 2147483647; }",
+            "{}",
+            "1||error: m.proto: rule 6: bad field number at 4.0.2.0.3\n|-",
+        ),
+        case(
+            "syntax = \"proto3\"; message M { int32 a = 2147483648; }",
+            "{}",
+            "1||error: m.proto:1:42: expected a field number, but found '2147483648'\n|-",
+        ),
+        case(
+            "",
+            "{}",
+            "1||error: m.proto:1:1: expected 'syntax', but found end of file\n|-",
+        ),
+        case(
+            "\u{feff}syntax = \"proto3\";",
+            "{}",
+            "1||error: m.proto:1:1: expected 'syntax', but found '\u{feff}'\n|-",
+        ),
+        case(
+            "syntax = \"proto3\";\r\nmessage M { int32 foo = 1 }",
+            "{}",
+            "1||error: m.proto:2:27: expected ';', but found '}'\n|-",
+        ),
+        case(
+            "syntax = \"proto3\";\nmessage N {}",
+            "{\"foo\":1}",
+            "1||error: type 'M' not found\n|-",
+        ),
+        case(ROW, "null", "1||error: not built yet\n|-"),
+        case(ROW, "[]", "1||error: not built yet\n|-"),
+        case(ROW, "{\"foo\":null}", "1||error: not built yet\n|-"),
+        case(ROW, "{\"foo\":\"+5\"}", "1||error: not built yet\n|-"),
+        case(ROW, "{\"foo\":true}", "1||error: not built yet\n|-"),
+        case(ROW, "{\"foo\":1.0}", "1||error: not built yet\n|-"),
+        case(ROW, "{\"foo\":1e2}", "1||error: not built yet\n|-"),
+        case(ROW, "{\"foo\":-0}", "1||error: not built yet\n|-"),
+        case(ROW, "{\"foo\":2147483648}", "1||error: not built yet\n|-"),
+        case(ROW, "{\"foo\":-2147483649}", "1||error: not built yet\n|-"),
+        case(
+            ROW,
+            "{\"foo\":18446744073709551616}",
+            "1||error: not built yet\n|-",
+        ),
+        case(ROW, "{\"bar\":1}", "1||error: not built yet\n|-"),
+        case(
+            "syntax = \"proto3\"; message M { string s = 1; }",
+            "{\"s\":1}",
+            "1||error: not built yet\n|-",
+        ),
+    ] {
+        let got = ran(alloc, WORDS, source.as_bytes(), input.as_bytes(), NONE)?;
+        assert_eq!(rt; got.as_str(), want, "{source} and {input}");
+    }
+    Ok(())
+}
+
+#[test]
+fn refuses_bytes(rt: HostRuntime) -> Result<(), Fail> {
+    let alloc = rt.alloc();
+    let comment: &[u8] = b"syntax = \"proto3\"; // \xff\nmessage M {}";
+    let got = ran(alloc, WORDS, comment, b"{}", NONE)?;
+    assert_eq!(rt; got.as_str(), "1||error: file 'm.proto' is not valid utf-8\n|-");
+    let got = ran(alloc, WORDS, ROW.as_bytes(), b"{\"foo\":\"\xff\"}", NONE)?;
+    assert_eq!(rt; got.as_str(), "1||error: input is not JSON\n|-");
+    for (depth, want) in [
+        (127, "1||error: not built yet\n|-"),
+        (128, "1||error: input is not JSON\n|-"),
+    ] {
+        let mut input = String::new(alloc);
+        for _ in 0..depth {
+            input.push_str("[")?;
+        }
+        for _ in 0..depth {
+            input.push_str("]")?;
+        }
+        let got = ran(alloc, WORDS, ROW.as_bytes(), input.as_bytes(), NONE)?;
+        assert_eq!(rt; got.as_str(), want, "{depth}");
+    }
+    Ok(())
+}
+
+#[test]
+fn reads_words(rt: HostRuntime) -> Result<(), Fail> {
+    let alloc = rt.alloc();
+    let refused = "2||error: words not built yet\n|-";
+    for words in [
+        "m.proto",
+        "--type M --wire w",
+        "--type M --wire w m.proto x",
+        "--wire w --type M m.proto",
+        "--type -M --wire w m.proto",
+        "--type M --wire -w m.proto",
+        "--type M --wire w -m.proto",
+        "--type M --wire w .",
+        "--type M --wire w ..",
+        "--type M --wire w ./m.proto",
+        "--type M --wire w /m.proto",
+        "--type M --wire w a/../m.proto",
+        "--type M --wire w m.proto/",
+        "--type M --wire w ",
+        "--type=M --wire w m.proto",
+    ] {
+        let got = ran(alloc, words, ROW.as_bytes(), b"{}", NONE)?;
+        assert_eq!(rt; got.as_str(), refused, "{words}");
+    }
+    let got = ran(
+        alloc,
+        "--type X --wire w m.proto",
+        ROW.as_bytes(),
+        b"{}",
+        NONE,
+    )?;
+    assert_eq!(rt; got.as_str(), "1||error: type 'X' not found\n|-");
+    let got = ran(
+        alloc,
+        "--type .M --wire w m.proto",
+        ROW.as_bytes(),
+        b"{}",
+        NONE,
+    )?;
+    assert_eq!(rt; got.as_str(), "1||error: type '.M' not found\n|-");
+    let got = ran(
+        alloc,
+        "--type A --wire w m.proto",
+        TWO.as_bytes(),
+        "{\"b2\":\"h\u{e9}\",\"a\":-1}".as_bytes(),
+        NONE,
+    )?;
+    assert_eq!(rt;
+        got.as_str(),
+        "0|{\"a\":-1,\"b2\":\"h\u{e9}\"}\n||08ffffffffffffffffff0182010368c3a9"
+    );
+    Ok(())
+}
+
+#[test]
+fn tells_faults(rt: HostRuntime) -> Result<(), Fail> {
+    let alloc = rt.alloc();
+    for (faults, want) in [
+        (
+            Faults {
+                disk: Some(0),
+                ..NONE
+            },
+            "3||error: error opening file './m.proto': disk fault\n|-",
+        ),
+        (
+            Faults {
+                disk: Some(1),
+                ..NONE
+            },
+            "3||error: writing 'w' failed\n|-",
+        ),
+        (
+            Faults {
+                input: Some(0),
+                ..NONE
+            },
+            "3||error: reading input failed\n|-",
+        ),
+        (
+            Faults {
+                input: Some(1),
+                ..NONE
+            },
+            "3||error: reading input failed\n|-",
+        ),
+        (
+            Faults {
+                out: Some(0),
+                ..NONE
+            },
+            "3||error: writing output failed\n|089601",
+        ),
+        (
+            Faults {
+                out: Some(1),
+                ..NONE
+            },
+            "3|{\"foo\":150}|error: writing output failed\n|089601",
+        ),
+        (
+            Faults {
+                err: Some(0),
+                ..NONE
+            },
+            "0|{\"foo\":150}\n||089601",
+        ),
+    ] {
+        let got = ran(alloc, WORDS, ROW.as_bytes(), b"{\"foo\":150}", faults)?;
+        assert_eq!(rt; got.as_str(), want);
+    }
+    let faults = Faults {
+        err: Some(0),
+        ..NONE
+    };
+    let got = ran(alloc, WORDS, ROW.as_bytes(), b"{", faults)?;
+    assert_eq!(rt; got.as_str(), "1|||-");
+    Ok(())
+}
+
+const IMPORTS: &str = "syntax = \"proto3\"; import \"n.proto\"; message M { int32 foo = 1; }";
+
+// `FileDescriptorSet` of the two files, written from `descriptor.proto` by hand.
+const SET: &str = "0a280a076e2e70726f746f22150a014e12100a036261721802200128095203626172620670726f746f330a310a076d2e70726f746f1a076e2e70726f746f22150a014d12100a03666f6f1801200128055203666f6f620670726f746f33";
+
+const IMPORTED: &str = "syntax = \"proto3\"; message N { string bar = 2; }";
+
+#[test]
+fn reads_imports(rt: HostRuntime) -> Result<(), Fail> {
+    let alloc = rt.alloc();
+    for (words, main, imported, input, want) in [
+        (WORDS, IMPORTS, IMPORTED, "{\"foo\":150}", "0|{\"foo\":150}\n||089601"),
+        (
+            "--type N --wire w m.proto",
+            IMPORTS,
+            IMPORTED,
+            "{\"bar\":\"x\"}",
+            "0|{\"bar\":\"x\"}\n||120178",
+        ),
+        (
+            WORDS,
+            IMPORTS,
+            "absent",
+            "{}",
+            "1||error: m.proto: import 'n.proto' not found\n|-",
+        ),
+        (
+            WORDS,
+            "import \"n.proto\"; import \"n.proto\";",
+            IMPORTED,
+            "{}",
+            "1||error: m.proto:1:1: expected 'syntax', but found 'import'\n|-",
+        ),
+        (
+            WORDS,
+            "syntax = \"proto3\"; import \"n.proto\"; import \"n.proto\";",
+            IMPORTED,
+            "{}",
+            "1||error: m.proto: import 'n.proto' was listed twice\n|-",
+        ),
+        (
+            WORDS,
+            IMPORTS,
+            "syntax = \"proto3\"; import \"m.proto\";",
+            "{}",
+            "1||error: import cycle detected: m.proto -> n.proto -> m.proto\n|-",
+        ),
+        (
+            WORDS,
+            IMPORTS,
+            "syntax = \"proto3\"; message M {}",
+            "{}",
+            "1||error: m.proto: rule 5: name defined twice at 4.0.1\n|-",
+        ),
+        (
+            WORDS,
+            IMPORTS,
+            "syntax = \"proto3\";\nmessage N { int32 }",
+            "{}",
+            "1||error: n.proto:2:19: expected an identifier, but found '}'\n|-",
+        ),
+    ] {
+        let files = [
+            ("m.proto", main.as_bytes()),
+            ("n.proto", imported.as_bytes()),
+        ];
+        let got = ran_over(alloc, words, &files, input.as_bytes(), NONE)?;
+        assert_eq!(rt; got.as_str(), want, "{words}, {main} and {imported}");
+    }
+    Ok(())
+}
+
+#[test]
+fn refuses_in_order(rt: HostRuntime) -> Result<(), Fail> {
+    let alloc = rt.alloc();
+    for (words, imported, input, want) in [
+        // The input before a file, a file before the type, and the type before the tree.
+        (
+            "--type X --wire w m.proto",
+            "absent",
+            "{",
+            "1||error: input is not JSON\n|-",
+        ),
+        (
+            "--type X --wire w m.proto",
+            "absent",
+            "null",
+            "1||error: m.proto: import 'n.proto' not found\n|-",
+        ),
+        (
+            "--type X --wire w m.proto",
+            IMPORTED,
+            "null",
+            "1||error: type 'X' not found\n|-",
+        ),
+        (WORDS, IMPORTED, "null", "1||error: not built yet\n|-"),
+    ] {
+        let files = [
+            ("m.proto", IMPORTS.as_bytes()),
+            ("n.proto", imported.as_bytes()),
+        ];
+        let got = ran_over(alloc, words, &files, input.as_bytes(), NONE)?;
+        assert_eq!(rt; got.as_str(), want, "{words}, {imported} and {input}");
+    }
+    // A folder in a file's name, and the words that no file has the name of.
+    let files = [("a/m.proto", ROW.as_bytes())];
+    let got = ran_over(
+        alloc,
+        "--type M --wire w a/m.proto",
+        &files,
+        b"{\"foo\":1}",
+        NONE,
+    )?;
+    assert_eq!(rt; got.as_str(), "0|{\"foo\":1}\n||0801");
+    let got = ran_over(alloc, "--type M --wire w a/n.proto", &files, b"{}", NONE)?;
+    assert_eq!(rt; got.as_str(), "1||error: file 'a/n.proto' is not in any include path\n|-");
+    // The second file is read and fails.
+    let files = [
+        ("m.proto", IMPORTS.as_bytes()),
+        ("n.proto", IMPORTED.as_bytes()),
+    ];
+    let faults = Faults {
+        disk: Some(1),
+        ..NONE
+    };
+    let got = ran_over(alloc, WORDS, &files, b"{}", faults)?;
+    assert_eq!(rt; got.as_str(), "3||error: error opening file './n.proto': disk fault\n|-");
+    Ok(())
+}
+
+#[test]
+fn gives_the_set(rt: HostRuntime) -> Result<(), Fail> {
+    let alloc = rt.alloc();
+    let mut files = MemoryResolver::new(alloc);
+    files.put("m.proto", IMPORTS).map_err(lacking)?;
+    files.put("n.proto", IMPORTED).map_err(lacking)?;
+    let mut paths = Texts::new(alloc);
+    let path = Text::from_str(alloc, "m.proto").map_err(lacking)?;
+    paths.add(path).map_err(lacking)?;
+    let tree = Value::from_slice(alloc, b"{\"foo\":1}")?;
+    let attempt = compile_and_transcode(alloc, files, &paths, "M", &tree);
+    let set = match &attempt.result {
+        Ok(done) => hex(alloc, Some(done.set.as_slice()))?,
+        Err(_) => String::new(alloc),
+    };
+    // The imported file stands first.
+    assert_eq!(rt; set.as_str(), SET);
+    Ok(())
+}
