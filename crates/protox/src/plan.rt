@@ -122,13 +122,7 @@ fn paths_of(alloc: Global, file: &str) -> Result<Texts, NoMemory>
 }
 
 /// Compiles the file in the folder `.` with all that it imports, and transcodes the tree as a message of the type.
-fn compile<D: Disk>(
-    alloc: Global,
-    type_name: &str,
-    file: &str,
-    disk: D,
-    tree: &Value,
-) -> Planned<D>
+fn compile<D: Disk>(alloc: Global, type_name: &str, file: &str, disk: D, tree: &Value) -> Planned<D>
     ensures done { IsTrue (D.tells disk) → (lookups : List ℕ → Lookup) → AreRead (D.holds disk) lookups → IfOk result.result (λ ready. Gives type_name.now file.now lookups (view tree.now) ready.wire (string_bytes ready.text)) }
     ensures stop { IsTrue (D.tells disk) → (lookups : List ℕ → Lookup) → AreRead (D.holds disk) lookups → IfErr result.result (IsFileStop type_name.now file.now lookups (view tree.now)) }
     ensures cause { IfErr result.result (Caused (Rose (D.faults disk) (D.faults result.disk) (D.at_end result.disk)) ⊥ ⊥) }
@@ -149,8 +143,7 @@ fn compile<D: Disk>(
         };
     };
     let files = IncludeFileResolver::new(folder, disk);
-    let Attempt { resolver, result } =
-        compile_and_transcode(alloc, files, &paths, type_name, tree);
+    let Attempt { resolver, result } = compile_and_transcode(alloc, files, &paths, type_name, tree);
     let disk = resolver.into_disk();
     match result {
         Ok(done) => {

@@ -188,7 +188,11 @@ fn refuses(rt: HostRuntime) -> Result<(), Fail> {
             "1||error: file 'm.proto' is not in any include path\n|-",
         ),
         case("absent", "{", "1||error: input is not JSON\n|-"),
-        case("oversized", "{}", "1||error: file 'm.proto' is too large\n|-"),
+        case(
+            "oversized",
+            "{}",
+            "1||error: file 'm.proto' is too large\n|-",
+        ),
         case(
             "syntax = \"proto3\"; message M {} message M {}",
             "{}",
@@ -287,7 +291,10 @@ fn refuses_bytes(rt: HostRuntime) -> Result<(), Fail> {
     let alloc = rt.alloc();
     let comment: &[u8] = b"syntax = \"proto3\"; // \xff\nmessage M {}";
     let got = ran(alloc, WORDS, comment, b"{}", NONE)?;
-    assert_eq!(rt; got.as_str(), "1||error: file 'm.proto' is not valid utf-8\n|-");
+    assert_eq!(rt;
+        got.as_str(),
+        "1||error: file 'm.proto' is not valid utf-8\n|-"
+    );
     let got = ran(alloc, WORDS, ROW.as_bytes(), b"{\"foo\":\"\xff\"}", NONE)?;
     assert_eq!(rt; got.as_str(), "1||error: input is not JSON\n|-");
     for (depth, want) in [
@@ -430,7 +437,8 @@ fn tells_faults(rt: HostRuntime) -> Result<(), Fail> {
 const IMPORTS: &str = "syntax = \"proto3\"; import \"n.proto\"; message M { int32 foo = 1; }";
 
 // `FileDescriptorSet` of the two files, written from `descriptor.proto` by hand.
-const SET: &str = "0a280a076e2e70726f746f22150a014e12100a036261721802200128095203626172620670726f746f330a310a076d2e70726f746f1a076e2e70726f746f22150a014d12100a03666f6f1801200128055203666f6f620670726f746f33";
+const SET: &str =
+    "0a280a076e2e70726f746f22150a014e12100a036261721802200128095203626172620670726f746f330a310a076d2e70726f746f1a076e2e70726f746f22150a014d12100a03666f6f1801200128055203666f6f620670726f746f33";
 
 const IMPORTED: &str = "syntax = \"proto3\"; message N { string bar = 2; }";
 
@@ -438,7 +446,13 @@ const IMPORTED: &str = "syntax = \"proto3\"; message N { string bar = 2; }";
 fn reads_imports(rt: HostRuntime) -> Result<(), Fail> {
     let alloc = rt.alloc();
     for (words, main, imported, input, want) in [
-        (WORDS, IMPORTS, IMPORTED, "{\"foo\":150}", "0|{\"foo\":150}\n||089601"),
+        (
+            WORDS,
+            IMPORTS,
+            IMPORTED,
+            "{\"foo\":150}",
+            "0|{\"foo\":150}\n||089601",
+        ),
         (
             "--type N --wire w m.proto",
             IMPORTS,
@@ -484,9 +498,9 @@ fn reads_imports(rt: HostRuntime) -> Result<(), Fail> {
         (
             WORDS,
             IMPORTS,
-            "syntax = \"proto3\";\nmessage N { int32 }",
+            "syntax = \"proto3\"; message N { int32 a = 1 }",
             "{}",
-            "1||error: n.proto:2:19: expected an identifier, but found '}'\n|-",
+            "1||error: n.proto:1:44: expected ';', but found '}'\n|-",
         ),
     ] {
         let files = [
@@ -542,7 +556,10 @@ fn refuses_in_order(rt: HostRuntime) -> Result<(), Fail> {
     )?;
     assert_eq!(rt; got.as_str(), "0|{\"foo\":1}\n||0801");
     let got = ran_over(alloc, "--type M --wire w a/n.proto", &files, b"{}", NONE)?;
-    assert_eq!(rt; got.as_str(), "1||error: file 'a/n.proto' is not in any include path\n|-");
+    assert_eq!(rt;
+        got.as_str(),
+        "1||error: file 'a/n.proto' is not in any include path\n|-"
+    );
     // The second file is read and fails.
     let files = [
         ("m.proto", IMPORTS.as_bytes()),
@@ -553,7 +570,10 @@ fn refuses_in_order(rt: HostRuntime) -> Result<(), Fail> {
         ..NONE
     };
     let got = ran_over(alloc, WORDS, &files, b"{}", faults)?;
-    assert_eq!(rt; got.as_str(), "3||error: error opening file './n.proto': disk fault\n|-");
+    assert_eq!(rt;
+        got.as_str(),
+        "3||error: error opening file './n.proto': disk fault\n|-"
+    );
     Ok(())
 }
 

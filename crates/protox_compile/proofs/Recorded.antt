@@ -155,7 +155,6 @@ module _ (files : List FileDescriptorProto) (f : FileDescriptorProto) (kept : ke
       let P : Option (List ℕ) → Type 0 = λ x. bytes_eq (text_or_empty x) name ≡ true in
       own.1 ∙ ap Some (bytes_are own.0 name (subst P own.1 same))
 
-
   twice_at : (o : Option (List ℕ)) (name : List ℕ) → o ≡ Some name → is_none (file_twice files o) ≡ true → has_file files name ≡ false
   twice_at None name e h = absurd (cc)
   twice_at (Some other) name e h = by_case (has_file files other) refl
@@ -199,8 +198,7 @@ ordered bms [] brs (r ∷ rs) before h pooled = absurd h
 ordered bms (m ∷ ms) brs [] before h pooled = absurd h
 ordered bms (m ∷ ms) brs (r ∷ rs) before h pooled =
     let rest : IsOrdered (done_of (bms ++ m ∷ []) (brs ++ r ∷ [])) (done_of ms rs) = ordered (bms ++ m ∷ []) ms (brs ++ r ∷ []) rs (push_recorded bms brs m r before h.0) h.1 pooled.2 in
-    let P : List Done → Type 0 = λ ds. IsOrdered ds (done_of ms rs) in
-    (
+    let P : List Done → Type 0 = λ ds. IsOrdered ds (done_of ms rs) in (
       h.0,
       sym (has_file_known bms brs m.name before) ∙ name_is_new brs r pooled.0 m.name h.0,
       all_there brs r.dependency 0 _ bms before (second brs r pooled.0),

@@ -101,7 +101,10 @@ impl Compiled {
         let (name, file) = frame.into_parts();
         let path = copy_path(alloc, &file)?;
         add(&mut self.files, FileMetadata::new(name, path, true))?;
-        match self.pool.add_file_descriptor_proto(file.into_file_descriptor_proto()) {
+        match self
+            .pool
+            .add_file_descriptor_proto(file.into_file_descriptor_proto())
+        {
             Ok(()) => Ok(()),
             Err(error) => {
                 self.files.pop();

@@ -48,12 +48,7 @@ fn with_arrows(front: String, names: &[Text]) -> Result<String, NoMemory>
 }
 
 /// The names of the open files, the outermost first, and the name that closes the circle.
-fn cycle_of(
-    alloc: Global,
-    parents: &Stack,
-    current: &Frame,
-    name: &str,
-) -> Result<Text, NoMemory>
+fn cycle_of(alloc: Global, parents: &Stack, current: &Frame, name: &str) -> Result<Text, NoMemory>
     ensures { IfOk result (λ cycle. cycle ≡ chain_text (reverse (name.now ∷ names_of (current.now ∷ parents.now)))) }
 {
     let mut cycle = parents.names(alloc)?;
@@ -160,12 +155,7 @@ pub(crate) fn root_error(alloc: Global, path: &str, error: Error) -> Error
     error
 }
 
-fn try_shadowed(
-    alloc: Global,
-    name: &str,
-    path: &str,
-    shadow: &str,
-) -> Result<ErrorKind, NoMemory>
+fn try_shadowed(alloc: Global, name: &str, path: &str, shadow: &str) -> Result<ErrorKind, NoMemory>
     ensures { IfOk result (λ e. e ≡ ErrorKind.FileShadowed name.now path.now shadow.now) }
 {
     Ok(ErrorKind::FileShadowed {

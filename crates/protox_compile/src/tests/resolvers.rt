@@ -111,11 +111,7 @@ fn names_may_have_any_characters(rt: HostRuntime) -> Result<(), Fail> {
     let done = "\u{e9}\u{6f22}.proto(import) c\nd.proto(import) a b.proto";
     let steps: [Step<'_>; 3] = [
         ("a b.proto", "ok", done),
-        (
-            "e.proto",
-            "e.proto: import '\u{e9} .proto' not found",
-            done,
-        ),
+        ("e.proto", "e.proto: import '\u{e9} .proto' not found", done),
         (
             "\u{1f600}",
             "import cycle detected: \u{1f600} -> \u{1f600}",

@@ -9,9 +9,9 @@ returns-in-Err-clause-err g c tells lookups all =
     let told : IsTrue (g.R.FileResolver.tells c.loop-path.self.resolver) = rw c.loop-path.invariant.tells tells in
     let looked : AreLookups (g.R.FileResolver.files c.loop-path.self.resolver) lookups = rw (c.loop-path.invariant.files tells) all in
     let stops : StopsAt lookups (g.R.FileResolver.resolves c.args.self.now.resolver) c.args.self.now.limit c.as_slice-path-items.result.now c.args.self.now.done c.open_file.new.self.done c.in-Err.error
-        = stops_at lookups (g.R.FileResolver.resolves c.args.self.now.resolver) c.args.self.now.limit c.as_slice-path-items.result.now c.loop-path.path-index c.path-item.result (search rules) c.path-item.is
-        c.args.self.now.done c.loop-path.self.done (c.loop-path.invariant.before tells lookups all) _ _
-        (rw (c.loop-path.invariant.resolves tells, c.loop-path.invariant.limit, c.as_str.ensures) at (c.in-Err.ensures.err told lookups looked)) in
+    = stops_at lookups (g.R.FileResolver.resolves c.args.self.now.resolver) c.args.self.now.limit c.as_slice-path-items.result.now c.loop-path.path-index c.path-item.result (search rules) c.path-item.is
+    c.args.self.now.done c.loop-path.self.done (c.loop-path.invariant.before tells lookups all) _ _
+    (rw (c.loop-path.invariant.resolves tells, c.loop-path.invariant.limit, c.as_str.ensures) at (c.in-Err.ensures.err told lookups looked)) in
     rw (← c.as_slice-path-items.ensures) stops
 
 pub loop-path-preserved : goal.loop-path-preserved
