@@ -101,36 +101,45 @@ fn imports_are_refused_at_their_importer(rt: HostRuntime) -> Result<(), Fail> {
     Ok(())
 }
 
+const INDEXED: [FileRow<'static>; 5] = [
+    ("second.proto", &["a.proto", "a.proto"]),
+    ("third.proto", &["a.proto", "b.proto", "a.proto"]),
+    ("gone.proto", &["a.proto", "notfound.proto"]),
+    ("a.proto", &[]),
+    ("b.proto", &[]),
+];
+
+/// Whether an import of the file is listed twice or not found, without a place, and its index.
+fn refused_import(alloc: Global, path: &str) -> Result<(bool, u32), Fail> {
+    let mut compiler = compiler_of(alloc, resolver_of(alloc, &INDEXED)?)?;
+    let error = compiler.open_file(path).err().ok_or("accepted")?;
+    match error.kind() {
+        ErrorKind::DuplicateImport {
+            index,
+            place: None,
+            ..
+        } => Ok((true, *index)),
+        ErrorKind::ImportNotFound {
+            index,
+            place: None,
+            ..
+        } => Ok((false, *index)),
+        _ => Ok((false, 0)),
+    }
+}
+
 #[test]
 fn refused_imports_have_their_index(rt: HostRuntime) -> Result<(), Fail> {
     let alloc = rt.alloc();
-    let files: [FileRow<'_>; 5] = [
-        ("second.proto", &["a.proto", "a.proto"]),
-        ("third.proto", &["a.proto", "b.proto", "a.proto"]),
-        ("gone.proto", &["a.proto", "notfound.proto"]),
-        ("a.proto", &[]),
-        ("b.proto", &[]),
-    ];
-    let rows: [(&str, bool, u32); 3] = [
-        ("second.proto", true, 1),
-        ("third.proto", true, 2),
-        ("gone.proto", false, 1),
-    ];
-    let mut compiler = compiler_of(alloc, resolver_of(alloc, &files)?)?;
-    for (path, twice, want) in rows {
-        let error = compiler.open_file(path).err().ok_or("accepted")?;
-        match error.kind() {
-            ErrorKind::DuplicateImport { index, place, .. } => {
-                assert!(rt; twice && place.is_none());
-                assert_eq!(rt; *index, want);
-            }
-            ErrorKind::ImportNotFound { index, place, .. } => {
-                assert!(rt; !twice && place.is_none());
-                assert_eq!(rt; *index, want);
-            }
-            _ => assert!(rt; false, "another kind"),
-        }
-    }
+    let (twice, index) = refused_import(alloc, "second.proto")?;
+    assert!(rt; twice);
+    assert_eq!(rt; index, 1);
+    let (twice, index) = refused_import(alloc, "third.proto")?;
+    assert!(rt; twice);
+    assert_eq!(rt; index, 2);
+    let (twice, index) = refused_import(alloc, "gone.proto")?;
+    assert!(rt; !twice);
+    assert_eq!(rt; index, 1);
     Ok(())
 }
 
@@ -268,15 +277,16 @@ fn files_are_counted_up_to_the_limit(rt: HostRuntime) -> Result<(), Fail> {
 
 const FULL: &str = "more than 2 files";
 
+const LIMITED: [FileRow<'static>; 3] = [
+    ("r.proto", &["a.proto", "b.proto"]),
+    ("a.proto", &[]),
+    ("b.proto", &[]),
+];
+
 #[test]
 fn a_limit_counts_what_is_finished(rt: HostRuntime) -> Result<(), Fail> {
     let alloc = rt.alloc();
-    let files: [FileRow<'_>; 3] = [
-        ("r.proto", &["a.proto", "b.proto"]),
-        ("a.proto", &[]),
-        ("b.proto", &[]),
-    ];
-    let mut compiler = compiler_of(alloc, resolver_of(alloc, &files)?)?;
+    let mut compiler = compiler_of(alloc, resolver_of(alloc, &LIMITED)?)?;
     compiler.file_limit(2);
     let steps: [Step<'_>; 4] = [
         ("r.proto", FULL, "a.proto(import)"),
@@ -286,6 +296,10 @@ fn a_limit_counts_what_is_finished(rt: HostRuntime) -> Result<(), Fail> {
     ];
     run(&rt, alloc, &mut compiler, &steps)?;
     compiler.file_limit(3);
-    let step = ("r.proto", "ok", "a.proto b.proto r.proto");
-    expect(&rt, alloc, &mut compiler, step)
+    expect(
+        &rt,
+        alloc,
+        &mut compiler,
+        ("r.proto", "ok", "a.proto b.proto r.proto"),
+    )
 }

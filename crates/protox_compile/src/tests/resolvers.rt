@@ -21,35 +21,40 @@ const FAULT: &str = "failed to load file!";
 
 const WIDE_DONE: &str = "a.proto(import) c.proto(import) b.proto(import) root.proto";
 
+const WIDE: [FileRow<'static>; 4] = [
+    ("root.proto", &["a.proto", "b.proto"]),
+    ("a.proto", &[]),
+    ("b.proto", &["c.proto"]),
+    ("c.proto", &[]),
+];
+
+/// A compiler whose resolver fails at that call.
+fn failing(alloc: Global, call: u64) -> Result<Compiler<MemoryResolver>, Fail> {
+    let mut resolver = resolver_of(alloc, &WIDE)?;
+    resolver.fail_at(call)?;
+    compiler_of(alloc, resolver)
+}
+
 #[test]
 fn failed_opens_keep_what_is_finished(rt: HostRuntime) -> Result<(), Fail> {
     let alloc = rt.alloc();
-    let files: [FileRow<'_>; 4] = [
-        ("root.proto", &["a.proto", "b.proto"]),
-        ("a.proto", &[]),
-        ("b.proto", &["c.proto"]),
-        ("c.proto", &[]),
-    ];
-    let rows: [(u64, &str, &str); 5] = [
-        (0, FAULT, ""),
-        (1, FAULT, ""),
-        (2, FAULT, "a.proto(import)"),
-        (3, FAULT, "a.proto(import)"),
-        (4, "ok", WIDE_DONE),
-    ];
-    for (call, answer, there) in rows {
-        let mut resolver = resolver_of(alloc, &files)?;
-        resolver.fail_at(call)?;
-        let mut compiler = compiler_of(alloc, resolver)?;
+    for (call, there) in [
+        (0, ""),
+        (1, ""),
+        (2, "a.proto(import)"),
+        (3, "a.proto(import)"),
+    ] {
+        let mut compiler = failing(alloc, call)?;
         let first = compiler.open_file("root.proto");
-        assert_eq!(rt; said(alloc, &first)?.as_str(), answer, "at {call}");
+        assert_eq!(rt; said(alloc, &first)?.as_str(), FAULT, "at {call}");
         assert_eq!(rt; files_of(alloc, &compiler)?.as_str(), there, "at {call}");
         if let Err(error) = &first {
             assert!(rt; error.is_io());
         }
         expect(&rt, alloc, &mut compiler, ("root.proto", "ok", WIDE_DONE))?;
     }
-    Ok(())
+    let mut compiler = failing(alloc, 4)?;
+    expect(&rt, alloc, &mut compiler, ("root.proto", "ok", WIDE_DONE))
 }
 
 #[test]
