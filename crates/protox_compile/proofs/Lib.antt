@@ -11,3 +11,4 @@ pub mod Closures
 pub mod Recorded
 pub mod Arrows
 pub mod Walks
+pub mod Again

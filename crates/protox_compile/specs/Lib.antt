@@ -5,3 +5,4 @@ pub mod Resume
 pub mod Closures
 pub mod Compiled
 pub mod State
+pub mod Laws

@@ -4,6 +4,7 @@
 mod compiled;
 mod compiler;
 mod frame;
+mod laws;
 mod opening;
 mod refusal;
 mod root;
@@ -14,3 +15,4 @@ mod tests;
 mod walk;
 
 pub use compiler::{Compiler, Files};
+pub use laws::opening_again_marks;
