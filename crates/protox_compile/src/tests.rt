@@ -278,11 +278,11 @@ fn long_chain(alloc: Global, count: u32) -> Result<MemoryResolver, Fail> {
 #[test]
 fn a_long_chain_is_finished(rt: HostRuntime) -> Result<(), Fail> {
     let alloc = rt.alloc();
-    let mut compiler = compiler_of(alloc, long_chain(alloc, 512)?)?;
-    compiler.open_file("511.proto")?;
+    let mut compiler = compiler_of(alloc, long_chain(alloc, 4096)?)?;
+    compiler.open_file("4095.proto")?;
     let pool = compiler.descriptor_pool();
-    assert_eq!(rt; pool.len(), 512);
-    for (index, name) in [(0, "0.proto"), (256, "256.proto"), (511, "511.proto")] {
+    assert_eq!(rt; pool.len(), 4096);
+    for (index, name) in [(0, "0.proto"), (256, "256.proto"), (4095, "4095.proto")] {
         assert_eq!(rt; pool.file_at(index).map(name_of), Some(name));
     }
     Ok(())
