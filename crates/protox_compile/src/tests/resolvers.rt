@@ -35,6 +35,10 @@ fn failing(alloc: Global, call: u64) -> Result<Compiler<MemoryResolver>, Fail> {
     compiler_of(alloc, resolver)
 }
 
+fn said_at_root(alloc: Global, compiler: &mut Compiler<MemoryResolver>) -> Result<String, Fail> {
+    said(alloc, &compiler.open_file("root.proto"))
+}
+
 /// Whether opening the root fails by a fault of the resolver.
 fn fails_from_outside(compiler: &mut Compiler<MemoryResolver>) -> bool {
     match compiler.open_file("root.proto") {
@@ -53,9 +57,12 @@ fn failed_opens_keep_what_is_finished(rt: HostRuntime) -> Result<(), Fail> {
         (3, "a.proto(import)"),
     ] {
         let mut compiler = failing(alloc, call)?;
-        assert!(rt; fails_from_outside(&mut compiler), "at {call}");
+        let got = said_at_root(alloc, &mut compiler)?;
+        assert_eq!(rt; got.as_str(), FAULT, "at {call}");
         assert_eq!(rt; files_of(alloc, &compiler)?.as_str(), there, "at {call}");
         expect(&rt, alloc, &mut compiler, ("root.proto", "ok", WIDE_DONE))?;
+        let mut again = failing(alloc, call)?;
+        assert!(rt; fails_from_outside(&mut again), "at {call}");
     }
     let mut compiler = failing(alloc, 4)?;
     expect(&rt, alloc, &mut compiler, ("root.proto", "ok", WIDE_DONE))
