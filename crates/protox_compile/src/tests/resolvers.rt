@@ -35,7 +35,7 @@ fn failing(alloc: Global, call: u64) -> Result<Compiler<MemoryResolver>, Fail> {
     compiler_of(alloc, resolver)
 }
 
-fn said_at_root(alloc: Global, compiler: &mut Compiler<MemoryResolver>) -> Result<String, Fail> {
+fn said_at_root(alloc: Global, compiler: &mut Compiler<MemoryResolver>) -> Result<Text, NoMemory> {
     said(alloc, &compiler.open_file("root.proto"))
 }
 
