@@ -2,4 +2,5 @@ pub mod Ascii
 pub mod Classes
 pub mod Laws
 pub mod Steps
+pub mod Unescaping
 pub mod Utf8

@@ -1,5 +1,6 @@
 pub mod Tokens
 pub mod Bytes
+pub mod Escapes
 pub mod Places
 pub mod Pieces
 pub mod Scan
