@@ -1,4 +1,5 @@
 pub mod Ascii
+pub mod Characters
 pub mod Classes
 pub mod Laws
 pub mod Steps

@@ -66,7 +66,7 @@ fn escape_at(bytes: &[u8]) -> Option<Escape>
 
 /// What a byte stands for, with the bytes after it that belong to it. A backslash that begins no escape stands
 /// for itself.
-fn first_at(b: u8, rest: &[u8]) -> Escape
+pub fn first_at(b: u8, rest: &[u8]) -> Escape
     ensures is { result ≡ first_at b rest.now }
     ensures within { result.size ≤ length rest.now }
 {

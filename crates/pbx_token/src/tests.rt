@@ -1,6 +1,6 @@
 //! Tokens of the public language specification's lexical elements, and where a fault lies.
 
-use crate::{LexError, Span, Token, Word, lex, stands_for, unescape};
+use crate::{LexError, Span, Token, Word, lex, stands_for, stands_for_text, unescape};
 use std::alloc::Global;
 use std::process::Abort;
 use std::test::Fail;
@@ -116,6 +116,8 @@ fn reads_escapes(rt: HostRuntime) -> Result<(), Fail> {
     }
     assert!(rt; stands_for(r"proto\x33", b"proto3"));
     assert!(rt; !stands_for("proto2", b"proto3"));
+    assert!(rt; stands_for_text(r"é\303\251\xf0\x9f\x98\x80"));
+    assert!(rt; !stands_for_text(r"\xed\xa0\x80"));
     Ok(())
 }
 
