@@ -1,4 +1,4 @@
-use Rattle.std.proofs.Common.{◌≡◌, ◌∙◌, refl, sym, ap, true, false, length, arith}
+use Rattle.std.proofs.Common.{◌∙◌, refl, sym, true, false, arith}
 use Rattle.pbx_token.proofs.Unescaping.{good_none, good_more, next_length}
 use Rattle.pbx_token.proofs.escape.bad_escape.Goals as goal
 

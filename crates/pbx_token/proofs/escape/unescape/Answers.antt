@@ -1,4 +1,4 @@
-use Rattle.std.proofs.Common.{◌≡◌, ◌∙◌, sym, ap, length, take, drop, [], ◌∷◌, List, ℕ, ◌++◌, append_assoc}
+use Rattle.std.proofs.Common.{◌∙◌, sym, ap, [], ◌∷◌, List, ℕ, ◌++◌, append_assoc}
 use Rattle.std.proofs.lemmas.List.{append-nil}
 use Rattle.pbx_token.specs.Escapes.{unescaped}
 use Rattle.pbx_token.proofs.Unescaping.{unescaped_none, unescaped_more, slice_from, tail_of}

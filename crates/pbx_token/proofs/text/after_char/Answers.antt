@@ -1,4 +1,4 @@
-use Rattle.std.proofs.Common.{◌≡◌, ◌∙◌, ◌+◌, ◌∷◌, ◌++◌, ◌<◌, ◌≤◌, List, [], ℕ, length, take, drop, get_or, set, refl, sym, ap, subst, append_assoc, arith}
+use Rattle.std.proofs.Common.{◌≡◌, ◌∙◌, ◌+◌, ◌∷◌, ◌++◌, List, [], ℕ, length, take, set, sym, ap, subst, append_assoc, arith}
 use Rattle.std.specs.Str.{IsUtf8, continuation_len}
 use Rattle.std.proofs.lemmas.List.{length-take, length-append, take_more_set}
 use Rattle.std.proofs.Math.ListN.{length-set}

@@ -1,4 +1,4 @@
-use Rattle.std.proofs.Common.{length, ◌≡◌}
+use Rattle.std.proofs.Common.{length}
 use Rattle.std.specs.Prelude.{◌↔◌}
 use Rattle.pbx_token.specs.Escapes.{StandsForText}
 use Rattle.pbx_token.proofs.text.stands_for_text.Given as goal
