@@ -11,7 +11,7 @@ use Rattle.pbx_json.specs.Canonical.{canonical}
 use Rattle.pbx_json.specs.Stands.{Stands}
 use Rattle.pbx_link.specs.Shapes.{shape_of, message_named}
 use Rattle.pbx_parse.specs.declared.error.ParseError.TheVariants as parse
-use Rattle.protox_file.specs.Paths.{resolved}
+use Rattle.protox_paths.specs.Paths.{resolved}
 use Rattle.protox_file.specs.Told.{Lookup}
 use Rattle.protox_file.specs.declared.error.ErrorKind.{ErrorKind}
 use Rattle.protox_file.specs.declared.error.ErrorKind.TheVariants as kinds

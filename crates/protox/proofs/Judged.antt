@@ -9,7 +9,7 @@ use Rattle.protox_io.specs.Count.{Rose}
 use Rattle.protox_io.specs.Disk.{Held}
 use Rattle.protox_io.specs.Paths.{Component}
 use Rattle.protox_file.specs.Include.{Include}
-use Rattle.protox_file.specs.Paths.{resolved}
+use Rattle.protox_paths.specs.Paths.{resolved}
 use Rattle.protox_file.specs.Told.{Told, Lookup, AreLookups, told_below}
 use Rattle.protox_file.specs.declared.error.ErrorKind.{ErrorKind}
 use Rattle.protox_file.specs.declared.error.ErrorKind.TheVariants as kinds

@@ -7,7 +7,7 @@ use Rattle.serde_json.specs.Read.{read as read_text}
 use Rattle.serde_json.specs.Written.{compact_text}
 use Rattle.protox_io.specs.Disk.{Held}
 use Rattle.protox_io.specs.Paths.{Component}
-use Rattle.protox_file.specs.Paths.{resolved}
+use Rattle.protox_paths.specs.Paths.{resolved}
 use Rattle.protox_file.specs.Told.{Lookup, AreLookups, told_below}
 use Rattle.protox.specs.Top.{ForFiles, IsTranscoded, Refuses, is_refusal, top_line}
 use Rattle.protox.specs.Words.{Args}

@@ -1,7 +1,7 @@
 -- The words of the command line: so far exactly `--type NAME --wire PATH FILE`, in this order.
 use Rattle.std.specs.Prelude.{ℕ, ◌==◌, ◌&&◌, not, List, [], ◌∷◌, Bool, false, Option, Some, None, codes, if◌then◌else◌}
 use Rattle.std.specs.Str.{bytes_eq}
-use Rattle.protox_file.specs.Paths.{name_of}
+use Rattle.protox_paths.specs.Paths.{name_of}
 
 pub record Args : Type 0 where
   pub type_name : List ℕ

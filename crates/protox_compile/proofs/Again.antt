@@ -1,6 +1,6 @@
 -- Opening a path whose name is finished.
 use Rattle.std.proofs.Common.{◌≡◌, ◌∙◌, ◌⊎◌, inl, inr, ℕ, List, [], Bool, true, false, if◌then◌else◌, Option, Some, None, refl, ap, sym, subst}
-use Rattle.protox_file.specs.Paths.{path_equal}
+use Rattle.protox_paths.specs.Paths.{path_equal}
 use Rattle.protox_file.specs.Told.{Lookup}
 use Rattle.protox_compile.specs.Walk.{Done, Shadowed, is_done, visits}
 use Rattle.protox_compile.specs.Opening.{Opened, Accepted, Refused, mark, path_in, opening, open_name, open_done, open_root, root_of}

@@ -6,7 +6,7 @@ use Rattle.std.proofs.lemmas.List.{append-nil}
 use Rattle.std.specs.Str.{bytes_eq}
 use Rattle.pbx_link.specs.Pool.{is_linkable}
 use Rattle.pbx_link.specs.Rules.{among}
-use Rattle.protox_file.specs.Paths.{path_equal}
+use Rattle.protox_paths.specs.Paths.{path_equal}
 use Rattle.protox_file.specs.Told.{Entry, Lookup, NoFile, IsFile, TextFault}
 use Rattle.protox_compile.specs.Walk.{Done, Fault, Limit, Mismatch, Shadowed, Duplicate, Circular, Unlinked, Visited, Finished, Missing, Faulted, Open, records, imports_of, declared_name, done_as, is_done, chain_text, after_visit, visit_imports, finish, unless_shadowed, visit_lookup, visit, visits}
 use Rattle.protox_compile.specs.Resume.{names_of, go_on, resume}

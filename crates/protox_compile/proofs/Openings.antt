@@ -9,7 +9,7 @@ use Rattle.protox_file.specs.Told.{Told, Lookup}
 use Rattle.protox_file.specs.declared.error.ErrorKind.{ErrorKind}
 use Rattle.protox_file.specs.declared.error.ErrorKind.TheVariants.{Parse, Check, OpenFile, FileTooLarge, FileInvalidUtf8, FileNotFound, ImportNotFound, CircularImport, FileNotIncluded, FileShadowed, DuplicateImport, Custom, NameMismatch, FileLimit, Undecodable, NoMemory}
 use Rattle.protox_compile.specs.Walk.{Done, Visited, Finished, Missing, Shadowed, is_done, visits}
-use Rattle.protox_file.specs.Paths.{path_equal}
+use Rattle.protox_paths.specs.Paths.{path_equal}
 use Rattle.protox_compile.specs.State.{IsShadowedBy, IsLeftOut, IsRoot}
 use Rattle.protox_compile.specs.Refusals.{Walk, Extends, Ends, OrNoMemory, IsToldBy, is_absent, RefusesWith, HasStepCause, HasOpeningCause}
 use Rattle.protox_compile.specs.Opening.{Accepted, Refused, mark, asked_path, path_in, open_done, open_root, open_name, root_of, opening, grown}

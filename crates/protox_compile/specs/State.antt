@@ -1,6 +1,6 @@
 -- The state of a compiler.
 use Rattle.std.specs.Prelude.{◌≡◌, ℕ, List, Bool, false, Option, Some, None}
-use Rattle.protox_file.specs.Paths.{path_equal}
+use Rattle.protox_paths.specs.Paths.{path_equal}
 use Rattle.protox_file.specs.declared.error.ErrorKind.{ErrorKind}
 use Rattle.protox_file.specs.declared.error.ErrorKind.TheVariants.{FileShadowed, NoMemory}
 use Rattle.protox_compile.specs.Walk.{Done, is_done}

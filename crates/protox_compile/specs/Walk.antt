@@ -8,7 +8,7 @@ use Rattle.pbx_link.specs.Linked.{linked}
 use Rattle.pbx_link.specs.Pool.{is_linkable}
 use Rattle.pbx_link.specs.Rules.{among}
 use Rattle.pbx_link.specs.Shapes.{text_or_empty}
-use Rattle.protox_file.specs.Paths.{path_equal}
+use Rattle.protox_paths.specs.Paths.{path_equal}
 use Rattle.protox_file.specs.Told.{Entry, Lookup, NoFile, IsFile, TextFault}
 
 -- a finished file: its name, its linked record, the path that it was read from, and whether it was opened or only imported

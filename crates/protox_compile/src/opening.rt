@@ -2,7 +2,7 @@ ghost use Rattle.std.specs.Prelude.{◌≡◌, ◌≤◌, ◌<◌, ◌^◌, leng
 ghost use Rattle.std.specs.Option.{option_copied};
 ghost use Rattle.std.specs.Str.{bytes_eq};
 ghost use Rattle.protox_io.specs.Count.{Rose};
-ghost use Rattle.protox_file.specs.Paths.{path_equal};
+ghost use Rattle.protox_paths.specs.Paths.{path_equal};
 ghost use Rattle.protox_file.specs.Told.{Lookup, IsLookup};
 ghost use Rattle.protox_compile.specs.Walk.{imports_of, declared_name};
 ghost use Rattle.protox_compile.specs.Opening.{asked_path};

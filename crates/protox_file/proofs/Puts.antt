@@ -4,7 +4,7 @@ use Rattle.std.specs.Prelude.{All}
 use Rattle.std.specs.Str.{bytes_eq}
 use Rattle.std.proofs.lemmas.List.Elements.{All-head, All-tail}
 use Rattle.protox_file.specs.Memory.{named_by}
-use Rattle.protox_file.specs.Paths.{name_of}
+use Rattle.protox_paths.specs.Paths.{name_of}
 
 -- the name that it resolves a path to names itself
 pub named_itself : (names : List (List ℕ × List ℕ)) (path name : List ℕ) → All (λ n. name_of n.1 ≡ Some n.1) names → named_by names path ≡ Some name → name_of name ≡ Some name

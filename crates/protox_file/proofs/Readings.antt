@@ -9,9 +9,9 @@ use Rattle.protox_file.specs.declared.error.ErrorKind.{ErrorKind}
 use Rattle.protox_file.specs.declared.error.ErrorKind.TheVariants.{FileInvalidUtf8}
 use Rattle.protox_file.specs.Causes.{IsTold, IsToldRefusal}
 use Rattle.protox_file.specs.Errors.{UnlessMemory}
-use Rattle.protox_file.specs.Paths.{name_of}
+use Rattle.protox_paths.specs.Paths.{name_of}
 use Rattle.protox_file.specs.Told.{Entry, Told, Source, TooLarge, NotText, largest_source, told_bytes, told_held}
-use Rattle.protox_file.proofs.Again.{name_again}
+use Rattle.protox_paths.proofs.Again.{name_again}
 
 small : (bytes : List ℕ) → length bytes ≤ 2147483647 → nat_lt largest_source (length bytes) ≡ false
 small bytes few = grind (arith, nat_tests)

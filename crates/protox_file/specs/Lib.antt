@@ -1,5 +1,3 @@
-pub mod Paths
-pub mod Left
 pub mod Errors
 pub mod Lines
 pub mod Told

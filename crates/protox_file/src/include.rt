@@ -1,13 +1,13 @@
 ghost use Rattle.std.specs.Prelude.{◌≡◌};
-ghost use Rattle.protox_file.specs.Paths.{resolved};
+ghost use Rattle.protox_paths.specs.Paths.{resolved};
 ghost use Rattle.protox_file.specs.Told.{told_below};
 
 use crate::error::Error;
 use crate::file::File;
-use crate::paths::{join_path, path_to_file_name, strip_prefix};
 use crate::resolver::FileResolver;
 use pbx_wire::{NoMemory, Text};
 use protox_io::Disk;
+use protox_paths::{join_path, path_to_file_name, strip_prefix};
 use std::alloc::Global;
 use std::marker::Model;
 

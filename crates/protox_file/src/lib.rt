@@ -1,14 +1,12 @@
 //! Files, their paths, and the errors of finding and reading them.
 #![tactic(auto)]
 
-mod components;
 mod error;
 mod file;
 mod include;
 mod lines;
 mod memory;
 mod metadata;
-mod paths;
 mod resolver;
 #[cfg(test)]
 mod tests;
@@ -18,5 +16,7 @@ pub use file::{File, looked_up_once};
 pub use include::IncludeFileResolver;
 pub use memory::MemoryResolver;
 pub use metadata::FileMetadata;
-pub use paths::{join_path, names_name_themselves, path_eq, path_to_file_name, strip_prefix};
+pub use protox_paths::{
+    join_path, names_name_themselves, path_eq, path_to_file_name, strip_prefix,
+};
 pub use resolver::FileResolver;

@@ -4,7 +4,7 @@ ghost use Rattle.protox_io.specs.Count.{Rose, raised};
 ghost use Rattle.protox_io.specs.Disk.{Missing};
 ghost use Rattle.protox_file.specs.Causes.{HasCause, IsTold};
 ghost use Rattle.protox_file.specs.Memory.{told_put, told_by, named_by, is_listed, IsFault, NoFault};
-ghost use Rattle.protox_file.specs.Paths.{name_of};
+ghost use Rattle.protox_paths.specs.Paths.{name_of};
 ghost use Rattle.protox_file.specs.Told.{Absent, Recorded, told_source};
 
 use crate::error::Error;
@@ -38,7 +38,7 @@ impl Model for MemoryResolver {
     ghost use Rattle.std.specs.Prelude.{◌≡◌, Some, All};
     ghost use Rattle.pbx_wire.specs.contracts.rec.Rec as rec;
     ghost use Rattle.protox_file.specs.Memory.{ResolverState};
-    ghost use Rattle.protox_file.specs.Paths.{name_of};
+    ghost use Rattle.protox_paths.specs.Paths.{name_of};
 
     ghost Value = { ResolverState };
 

@@ -3,7 +3,7 @@ ghost use Rattle.protox_io.specs.Count.{Rose};
 ghost use Rattle.protox_io.specs.Disk.{Held};
 ghost use Rattle.protox_io.specs.Paths.{Component};
 ghost use Rattle.protox_file.specs.Causes.{HasCause, IsTold};
-ghost use Rattle.protox_file.specs.Paths.{name_of};
+ghost use Rattle.protox_paths.specs.Paths.{name_of};
 ghost use Rattle.protox_file.specs.Told.{Told};
 
 use crate::error::Error;

@@ -1,0 +1,4 @@
+pub mod Split
+pub mod Bodies
+pub mod Names
+pub mod Again

@@ -1,0 +1,9 @@
+//! What paths say of the names of files.
+#![tactic(auto)]
+
+mod components;
+mod paths;
+#[cfg(test)]
+mod tests;
+
+pub use paths::{join_path, names_name_themselves, path_eq, path_to_file_name, strip_prefix};
