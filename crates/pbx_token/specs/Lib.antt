@@ -4,3 +4,4 @@ pub mod Places
 pub mod Pieces
 pub mod Scan
 pub mod View
+pub mod Escapes

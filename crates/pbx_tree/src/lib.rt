@@ -1,0 +1,14 @@
+//! The syntax tree of a source file, with the grammar that says which tokens it spells.
+#![tactic(auto)]
+
+mod options;
+mod tree;
+
+pub use options::{KnownOption, OptionKind, OptionPlace, known_option, optimize_mode};
+pub use tree::{
+    Constant, Enum, EnumItem, EnumNumber, Extend, Extension, Extensions, Field, FieldNumber, File,
+    Head, Import, Item, Kind, Label, Literal, MapField, Member, Message, Method, MethodEnd,
+    MethodItem, MethodType, Modifier, Name, Number, Oneof, Package, Range, RangeEnd, RangeNumber,
+    Reserved, Scalar, Separated, Service, ServiceItem, Setting, Settings, Statement, Syntax, Tail,
+    Top, TypeName, Value, Version,
+};
