@@ -4,3 +4,4 @@ pub mod Tree
 pub mod Grammar
 pub mod Conditions
 pub mod View
+pub mod Fits

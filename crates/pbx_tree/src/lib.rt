@@ -1,9 +1,13 @@
 //! The syntax tree of a source file, with the grammar that says which tokens it spells.
 #![tactic(auto)]
 
+mod conditions;
 mod options;
 mod tree;
 
+pub use conditions::{
+    Allowed, Expected, Unfit, key_fits, kind_fits, label_fits, text_fits, type_fits,
+};
 pub use options::{KnownOption, OptionKind, OptionPlace, known_option, optimize_mode};
 pub use tree::{
     Constant, Enum, EnumItem, EnumNumber, Extend, Extension, Extensions, Field, FieldNumber, File,
