@@ -1,0 +1,3 @@
+pub mod AllFit
+pub mod Seen
+pub mod Gathered

@@ -1,5 +1,5 @@
 -- What the code's values stand for.
-use Rattle.std.specs.Prelude.{List, [], ◌∷◌, map, option_map}
+use Rattle.std.specs.Prelude.{List, [], ◌∷◌, Option, None, map, option_map}
 use Rattle.pbx_token.specs.declared.token.Span.{Span}
 use Rattle.pbx_tree.specs.declared.tree.Name as code_name
 use Rattle.pbx_tree.specs.declared.tree.Literal as code_literal
@@ -55,6 +55,7 @@ use Rattle.pbx_tree.specs.declared.tree.Import as code_import
 use Rattle.pbx_tree.specs.declared.tree.Top as code_top
 use Rattle.pbx_tree.specs.declared.tree.Top.TheVariants as tops
 use Rattle.pbx_tree.specs.declared.tree.File as code_file
+use Rattle.pbx_tree.specs.Conditions.{item_setting}
 use Rattle.pbx_tree.specs.Tree.{Name, Literal, Count, Number, Separated, TypeName, Kind, scalar, named_type, Constant, constant_number, constant_word, constant_string, Setting, Settings, Statement, RangeEnd, range_number, range_max, Range, Extensions, Reserved, reserved_ranges, reserved_names, Tail, Field, MapField, Member, empty_member, member, Oneof, Extension, empty_extension, extension, Extend, Value, EnumItem, empty_in_enum, enum_value, enum_reserved, enum_option, Enum, MethodType, MethodItem, empty_in_method, method_option, MethodEnd, method_semicolon, method_block, Method, ServiceItem, empty_in_service, service_method, service_option, Service, Item, empty_item, item_field, item_map, item_oneof, item_enum, item_extend, item_extensions, item_reserved, item_option, Head, Body, end, item, message, Syntax, Package, Import, Top, empty_top, top_package, top_import, top_message, top_enum, top_extend, top_service, top_option, File}
 
 abbrev pub name_of : code_name.Name → Name
@@ -209,6 +210,11 @@ item_of = fold-Item Piece item_step
 -- the body of these items
 abbrev pub body_of : List code_item.Item → Body
 body_of is = all_before (map item_of is) end
+
+-- what an option statement among the items sets
+abbrev pub piece_setting : Piece → Option Setting
+piece_setting (plain i) = item_setting i
+piece_setting (nested h inner close) = None
 
 abbrev pub message_of : code_message.Message → Top
 message_of m = top_message (head_of m.head) (body_of m.items.items) m.close

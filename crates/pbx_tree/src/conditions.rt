@@ -36,6 +36,8 @@ pub enum Expected {
     KnownOption,
     /// An option that is not set earlier at the same place.
     UnsetOption,
+    /// No package after the first.
+    OnePackage,
     /// One of the marks.
     Mark(u8),
 }
@@ -77,6 +79,7 @@ impl Expected {
             Expected::OptimizeMode => "'SPEED', 'CODE_SIZE' or 'LITE_RUNTIME'",
             Expected::KnownOption => "a known option",
             Expected::UnsetOption => "an option that is not set yet",
+            Expected::OnePackage => "no second package",
             Expected::Mark(mark) => mark_words(mark),
         }
     }
@@ -324,6 +327,7 @@ pub fn setting_fits(allowed: Allowed<'_, '_>, setting: &Setting<'_>) -> Result<(
 }
 
 /// No setting of the name stands here.
+#[tactic(auto, unfolding(crate::specs::Conditions::lacks))]
 fn lacks(name: &str, settings: &[Setting<'_>]) -> bool
     ensures { result ≡ lacks_of name.now (map setting_of settings.now) }
 {
@@ -361,12 +365,13 @@ pub fn listed<'a>(
 ) -> Result<Vec<Setting<'a>>, AllocError>
     ensures { IfOk result (λ v. map setting_of v.items ≡ some_settings_of (option_map settings_of settings.now)) }
 {
+    let Some(list) = settings else {
+        return Ok(Vec::new(alloc));
+    };
     let mut all = Vec::new(alloc);
-    if let Some(settings) = settings {
-        all.push(settings.settings.first)?;
-        'each: for (_, setting) in &settings.settings.more {
-            all.push(*setting)?;
-        }
+    all.push(list.settings.first)?;
+    'each: for (_, setting) in &list.settings.more {
+        all.push(*setting)?;
     }
     Ok(all)
 }

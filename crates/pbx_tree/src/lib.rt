@@ -3,12 +3,17 @@
 
 mod conditions;
 mod options;
+mod statements;
 mod tree;
 
 pub use conditions::{
-    Allowed, Expected, Unfit, key_fits, kind_fits, label_fits, text_fits, type_fits,
+    Allowed, Expected, Unfit, key_fits, kind_fits, label_fits, listed, setting_fits, settings_fit,
+    text_fits, type_fits,
 };
 pub use options::{KnownOption, OptionKind, OptionPlace, known_option, optimize_mode};
+pub use statements::{
+    enum_settings, file_settings, message_settings, method_settings, packages_fit, service_settings,
+};
 pub use tree::{
     Constant, Enum, EnumItem, EnumNumber, Extend, Extension, Extensions, Field, FieldNumber, File,
     Head, Import, Item, Kind, Label, Literal, MapField, Member, Message, Method, MethodEnd,
