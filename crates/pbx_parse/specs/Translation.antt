@@ -4,6 +4,7 @@ use Rattle.std.specs.List.{filter_map}
 use Rattle.pbx_desc.specs.declared.field.FieldDescriptorProto.{FieldDescriptorProto}
 use Rattle.pbx_desc.specs.declared.message.DescriptorProto.{DescriptorProto}
 use Rattle.pbx_desc.specs.declared.file.FileDescriptorProto.{FileDescriptorProto}
+use Rattle.pbx_token.specs.Escapes.{unescaped}
 use Rattle.pbx_syntax.specs.declared.tree.Scalar.{Scalar}
 use Rattle.pbx_syntax.specs.declared.tree.Scalar.TheVariants as scalars
 use Rattle.pbx_syntax.specs.Tree.{Field, field, Body, end, item, Top, import, message, File}
@@ -22,9 +23,9 @@ abbrev pub field_records : Body → List FieldDescriptorProto
 field_records end = []
 field_records (item (field f) b) = field_record f ∷ field_records b
 
--- the name of the file that is imported, where it is an import
+-- the name of the file that is imported, where it is an import: the bytes that its string stands for
 abbrev pub import_name : Top → Option (List ℕ)
-import_name (import i) = Some i.name.text
+import_name (import i) = Some (unescaped i.name.text)
 import_name (message h b close) = None
 
 -- the record of the message, where it is one
@@ -34,4 +35,4 @@ message_record (message h b close) = Some (record { name = Some h.name.text; fie
 
 -- the record of a file of this name, with its imports and its messages in source order
 abbrev pub translate : List ℕ → File → FileDescriptorProto
-translate name f = record { name = Some name; dependency = filter_map import_name f.tops; message_type = filter_map message_record f.tops; syntax = Some f.syntax.text; unknown = [] }
+translate name f = record { name = Some name; dependency = filter_map import_name f.tops; message_type = filter_map message_record f.tops; syntax = Some (unescaped f.syntax.value.text); unknown = [] }

@@ -18,6 +18,7 @@ fn expected_text(alloc: Global, expected: Expected) -> Result<Text, NoMemory> {
         Expected::Proto3 => Text::from_str(alloc, "\"proto3\""),
         Expected::Top => Text::from_str(alloc, "'import' or 'message'"),
         Expected::ImportName => Text::from_str(alloc, "an import name in quotes"),
+        Expected::Utf8 => Text::from_str(alloc, "a string of UTF-8"),
         Expected::Identifier => Text::from_str(alloc, "an identifier"),
         Expected::Item => Text::from_str(alloc, "'int32', 'string' or '}'"),
         Expected::FieldName => {
@@ -127,6 +128,7 @@ fn fault_text(alloc: Global, fault: Fault, expected: Expected) -> Result<Text, N
         Fault::Token | Fault::Integer => expected_text(alloc, expected),
         Fault::CommentEnd => Text::from_str(alloc, "'*/'"),
         Fault::Quote(_) => Text::from_str(alloc, "a closing quote"),
+        Fault::Escape => Text::from_str(alloc, "a valid escape"),
     }
 }
 

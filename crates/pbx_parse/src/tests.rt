@@ -78,6 +78,10 @@ fn gives_records(rt: HostRuntime) -> Result<(), Fail> {
             "m.proto proto3 <a.proto>",
         ),
         (
+            r#"syntax = "proto\x33"; import "a\x2fb.proto"; import 'é\303\251\'';"#,
+            "m.proto proto3 <a/b.proto> <éé'>",
+        ),
+        (
             "syntax = 'proto3'; import 'b/a.proto'; import \"a.proto\"; import 'a.proto';",
             "m.proto proto3 <b/a.proto> <a.proto> <a.proto>",
         ),
@@ -157,6 +161,8 @@ fn refuses_imports(rt: HostRuntime) -> Result<(), Fail> {
     let top = "'import' or 'message'";
     let name = "an import name in quotes";
     let quote = "a closing quote";
+    let escape = "a valid escape";
+    let utf8 = "a string of UTF-8";
     for (source, place, expected, found) in [
         ("\"a.proto\";", "1:20", top, "'\"a.proto\"'"),
         ("Import \"a.proto\";", "1:20", top, "'Import'"),
@@ -177,7 +183,15 @@ fn refuses_imports(rt: HostRuntime) -> Result<(), Fail> {
         ("import 'a", "1:29", quote, "end of file"),
         ("import 'a\";", "1:31", quote, "end of file"),
         ("import 'a\n';", "1:29", quote, "'\n'"),
-        ("import 'a\\n';", "1:29", quote, "'\\'"),
+        ("import 'a\\", "1:30", quote, "end of file"),
+        ("import 'a\\'", "1:31", quote, "end of file"),
+        ("import 'a\\\n';", "1:30", quote, "'\n'"),
+        ("import 'a\\q';", "1:29", escape, "'\\'"),
+        ("import 'a\\400';", "1:29", escape, "'\\'"),
+        ("import '\\\\\\xg';", "1:30", escape, "'\\'"),
+        ("import '\\u0041';", "1:28", escape, "'\\'"),
+        (r#"import "\xff";"#, "1:27", utf8, r#"'"\xff"'"#),
+        ("import import '\\q", "1:27", name, "'import'"),
         ("import \"a\";;", "1:31", top, "';'"),
         ("import \"a\"; é", "1:32", top, "'é'"),
         (
@@ -247,7 +261,13 @@ fn refuses_faults(rt: HostRuntime) -> Result<(), Fail> {
             "end of file",
         ),
         ("syntax = 'proto3\n';", "1:17", "a closing quote", "'\n'"),
-        ("syntax = 'proto\\63';", "1:16", "a closing quote", "'\\'"),
+        ("syntax = 'proto\\83';", "1:16", "a valid escape", "'\\'"),
+        (
+            r"syntax = 'proto\62';",
+            "1:10",
+            "\"proto3\"",
+            r"''proto\62''",
+        ),
         ("syntax 'proto3'; é", "1:8", "'='", "''proto3''"),
         ("syntax = 'proto3' /* never", "1:27", "'*/'", "end of file"),
     ] {

@@ -2,12 +2,14 @@
 
 ghost use Rattle.std.specs.Prelude.{◌≡◌, Some, IfOk, map, pos};
 ghost use Rattle.std.specs.List.{filter_map};
+ghost use Rattle.pbx_token.specs.Escapes.{unescaped};
 ghost use Rattle.pbx_syntax.specs.Tree.{end};
 ghost use Rattle.pbx_syntax.specs.View.{field_of, items_of, message_of, top_of, file_of};
 ghost use Rattle.pbx_parse.specs.Translation.{kind_number, field_record, field_records, import_name, message_record, translate};
 
 use pbx_desc::{DescriptorProto, FieldDescriptorProto, FileDescriptorProto};
-use pbx_syntax::{Field, File, Item, Message, Scalar, Top};
+use pbx_syntax::{Field, File, Import, Item, Message, Scalar, Top};
+use pbx_token::unescape;
 use pbx_wire::{List, NoMemory, Text, Texts};
 use std::alloc::Global;
 
@@ -46,13 +48,24 @@ fn field_records(alloc: Global, items: &[Item<'_>]) -> Result<List<FieldDescript
     Ok(records)
 }
 
+/// The text that the name of an import stands for.
+fn import_name(alloc: Global, import: &Import<'_>) -> Result<Text, NoMemory>
+    ensures { IfOk result (λ t. t ≡ unescaped import.now.name.text.now) }
+{
+    let bytes = unescape(alloc, import.name.text)?;
+    match str::from_utf8(bytes.as_slice()) {
+        Ok(name) => Text::from_str(alloc, name),
+        Err(_) => unreachable!(),
+    }
+}
+
 fn import_names(alloc: Global, tops: &[Top<'_>]) -> Result<Texts, NoMemory>
     ensures { IfOk result (λ r. r ≡ filter_map import_name (map top_of tops.now)) }
 {
     let mut names = Texts::new(alloc);
     for top in tops {
         if let Top::Import(import) = top {
-            names.add(Text::from_str(alloc, import.name.text)?)?;
+            names.add(import_name(alloc, import)?)?;
         }
     }
     Ok(names)

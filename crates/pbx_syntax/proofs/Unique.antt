@@ -6,8 +6,8 @@ use Rattle.pbx_token.specs.Tokens.{Token, ident, int, str}
 use Rattle.pbx_syntax.specs.declared.tree.Scalar.{Scalar}
 use Rattle.pbx_syntax.specs.declared.tree.Scalar.TheVariants as scalars
 use Rattle.pbx_syntax.specs.Words.{scalar_word}
-use Rattle.pbx_syntax.specs.Tree.{Name, Syntax, Kind, Number, Field, Item, field, Body, end, item, Import, Head, Top, import, message, File}
-use Rattle.pbx_syntax.specs.Grammar.{marked, worded, quoted, named, string_named, counted, syntax_then, kind_then, field_then, item_then, body_then, import_then, head_then, top_then, tops_then, file_then}
+use Rattle.pbx_syntax.specs.Tree.{Name, Str, Syntax, Kind, Number, Field, Item, field, Body, end, item, Import, Head, Top, import, message, File}
+use Rattle.pbx_syntax.specs.Grammar.{marked, worded, quoted, named, counted, syntax_then, kind_then, field_then, item_then, body_then, import_then, head_then, top_then, tops_then, file_then}
 use Rattle.pbx_syntax.specs.View.{ends_body}
 
 -- the parts of two lists that are equal
@@ -22,19 +22,15 @@ worded_same a b s t e =
     let w : ident a ≡ ident b = ap (λ (x : Token). x.word) e in
     (cc, ap (λ (x : Token). x.span) e)
 
-quoted_same : (a b : List ℕ) (s t : Span) → quoted a s ≡ quoted b t → (a ≡ b) × (s ≡ t)
-quoted_same a b s t e =
-    let w : str a ≡ str b = ap (λ (x : Token). x.word) e in
-    (cc, ap (λ (x : Token). x.span) e)
+quoted_same : (s t : Str) → quoted s ≡ quoted t → s ≡ t
+quoted_same s t e =
+    let w : str s.text ≡ str t.text = ap (λ (x : Token). x.word) e in
+    let text : s.text ≡ t.text = cc in
+    ap (λ (v : List ℕ). record { text = v; span = s.span }) text ∙ ap (λ (v : Span). record { text = t.text; span = v }) (ap (λ (x : Token). x.span) e)
 
 named_same : (m n : Name) → named m ≡ named n → m ≡ n
 named_same m n e =
     let w = worded_same m.text n.text m.span n.span e in
-    ap (λ (s : List ℕ). record { text = s; span = m.span }) w.0 ∙ ap (λ (s : Span). record { text = n.text; span = s }) w.1
-
-string_named_same : (m n : Name) → string_named m ≡ string_named n → m ≡ n
-string_named_same m n e =
-    let w = quoted_same m.text n.text m.span n.span e in
     ap (λ (s : List ℕ). record { text = s; span = m.span }) w.0 ∙ ap (λ (s : Span). record { text = n.text; span = s }) w.1
 
 counted_same : (m n : Number) → counted m ≡ counted n → m ≡ n
@@ -104,7 +100,7 @@ head_same h k x y e =
     let word : h.keyword ≡ k.keyword = ap (λ (t : Token). t.span) a.0 in
     (ap (λ (s : Span). made_head s h.name h.open) word ∙ ap (λ (n : Name). made_head k.keyword n h.open) (named_same h.name k.name b.0) ∙ ap (λ (s : Span). made_head k.keyword k.name s) (marked_same 123 h.open k.open c.0), c.1)
 
-abbrev made_import : Span → Name → Span → Import
+abbrev made_import : Span → Str → Span → Import
 made_import k n z = record { keyword = k; name = n; end = z }
 
 import_same : (i j : Import) (x y : List Token) → import_then i x ≡ import_then j y → (i ≡ j) × (x ≡ y)
@@ -113,7 +109,7 @@ import_same i j x y e =
     let b = heads _ _ _ _ a.1 in
     let c = heads _ _ _ _ b.1 in
     let word : i.keyword ≡ j.keyword = ap (λ (t : Token). t.span) a.0 in
-    (ap (λ (s : Span). made_import s i.name i.end) word ∙ ap (λ (n : Name). made_import j.keyword n i.end) (string_named_same i.name j.name b.0) ∙ ap (λ (s : Span). made_import j.keyword j.name s) (marked_same 59 i.end j.end c.0), c.1)
+    (ap (λ (s : Span). made_import s i.name i.end) word ∙ ap (λ (n : Str). made_import j.keyword n i.end) (quoted_same i.name j.name b.0) ∙ ap (λ (s : Span). made_import j.keyword j.name s) (marked_same 59 i.end j.end c.0), c.1)
 
 -- an import does not begin as a message does
 pub no_message : (i : Import) (h : Head) (x y : List Token) → import_then i x ≡ head_then h y → ⊥
@@ -145,8 +141,8 @@ tops_same (t ∷ a) (u ∷ b) e =
     let h = top_same t u _ _ e in
     ap (λ (v : Top). v ∷ a) h.0 ∙ ap (λ (vs : List Top). u ∷ vs) (tops_same a b h.1)
 
-abbrev made_syntax : Span → Span → List ℕ → Span → Span → Syntax
-made_syntax k q t v z = record { keyword = k; equals = q; text = t; value = v; end = z }
+abbrev made_syntax : Span → Span → Str → Span → Syntax
+made_syntax k q v z = record { keyword = k; equals = q; value = v; end = z }
 
 syntax_same : (s t : Syntax) (x y : List Token) → syntax_then s x ≡ syntax_then t y → (s ≡ t) × (x ≡ y)
 syntax_same s t x y e =
@@ -154,13 +150,11 @@ syntax_same s t x y e =
     let b = heads _ _ _ _ a.1 in
     let c = heads _ _ _ _ b.1 in
     let d = heads _ _ _ _ c.1 in
-    let word : s.keyword ≡ t.keyword = ap (λ (u : Token). u.span) a.0 in
-    let text = quoted_same s.text t.text s.value t.value c.0 in (
-      ap (λ (k : Span). made_syntax k s.equals s.text s.value s.end) word
-          ∙ ap (λ (k : Span). made_syntax t.keyword k s.text s.value s.end) (marked_same 61 s.equals t.equals b.0)
-          ∙ ap (λ (k : List ℕ). made_syntax t.keyword t.equals k s.value s.end) text.0
-          ∙ ap (λ (k : Span). made_syntax t.keyword t.equals t.text k s.end) text.1
-          ∙ ap (λ (k : Span). made_syntax t.keyword t.equals t.text t.value k) (marked_same 59 s.end t.end d.0),
+    let word : s.keyword ≡ t.keyword = ap (λ (u : Token). u.span) a.0 in (
+      ap (λ (k : Span). made_syntax k s.equals s.value s.end) word
+          ∙ ap (λ (k : Span). made_syntax t.keyword k s.value s.end) (marked_same 61 s.equals t.equals b.0)
+          ∙ ap (λ (k : Str). made_syntax t.keyword t.equals k s.end) (quoted_same s.value t.value c.0)
+          ∙ ap (λ (k : Span). made_syntax t.keyword t.equals t.value k) (marked_same 59 s.end t.end d.0),
       d.1,
     )
 

@@ -1,5 +1,6 @@
 -- What the grammar does not say of a tree that is read.
 use Rattle.std.specs.Prelude.{◌≡◌, ◌≤◌, List, [], ◌∷◌, IsTrue, codes}
+use Rattle.pbx_token.specs.Escapes.{unescaped, StandsForText}
 use Rattle.pbx_syntax.specs.Words.{is_field_name}
 use Rattle.pbx_syntax.specs.Tree.{Field, Item, field, Body, end, item, Top, import, message, File}
 
@@ -14,14 +15,15 @@ unfoldable pub BodyFits : Body → Type 0
 BodyFits end = Unit {0}
 BodyFits (item i b) = ItemFits i × BodyFits b
 
+-- the name of an import is a text
 abbrev pub TopFits : Top → Type 0
-TopFits (import i) = Unit {0}
+TopFits (import i) = StandsForText i.name.text
 TopFits (message h b close) = BodyFits b
 
 unfoldable pub TopsFit : List Top → Type 0
 TopsFit [] = Unit {0}
 TopsFit (t ∷ ts) = TopFits t × TopsFit ts
 
--- the file says that it is in proto3, and each field fits
+-- the file says that it is in proto3, and each import and each field fits
 abbrev pub Conditions : File → Type 0
-Conditions f = (f.syntax.text ≡ codes "proto3") × TopsFit f.tops
+Conditions f = (unescaped f.syntax.value.text ≡ codes "proto3") × TopsFit f.tops

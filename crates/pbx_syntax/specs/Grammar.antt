@@ -4,7 +4,7 @@ use Rattle.std.specs.Prelude.{ℕ, List, [], ◌∷◌, codes}
 use Rattle.pbx_token.specs.Tokens.{Token, ident, int, str, mark}
 use Rattle.pbx_token.specs.declared.token.Span.{Span}
 use Rattle.pbx_syntax.specs.Words.{scalar_word}
-use Rattle.pbx_syntax.specs.Tree.{Name, Syntax, Kind, Number, Field, Item, field, Body, end, item, Import, Head, Top, import, message, File}
+use Rattle.pbx_syntax.specs.Tree.{Name, Str, Syntax, Kind, Number, Field, Item, field, Body, end, item, Import, Head, Top, import, message, File}
 
 -- ---- one token
 
@@ -14,15 +14,11 @@ marked b s = record { word = mark b; span = s }
 abbrev pub worded : List ℕ → Span → Token
 worded t s = record { word = ident t; span = s }
 
-abbrev pub quoted : List ℕ → Span → Token
-quoted t s = record { word = str t; span = s }
+abbrev pub quoted : Str → Token
+quoted s = record { word = str s.text; span = s.span }
 
 abbrev pub named : Name → Token
 named n = worded n.text n.span
-
--- a string that is a name
-abbrev pub string_named : Name → Token
-string_named n = quoted n.text n.span
 
 abbrev pub counted : Number → Token
 counted n = record { word = int n.value; span = n.span }
@@ -31,7 +27,7 @@ counted n = record { word = int n.value; span = n.span }
 
 -- syntax = "..." ;
 abbrev pub syntax_then : Syntax → List Token → List Token
-syntax_then s rest = worded (codes "syntax") s.keyword ∷ marked 61 s.equals ∷ quoted s.text s.value ∷ marked 59 s.end ∷ rest
+syntax_then s rest = worded (codes "syntax") s.keyword ∷ marked 61 s.equals ∷ quoted s.value ∷ marked 59 s.end ∷ rest
 
 abbrev pub kind_then : Kind → List Token → List Token
 kind_then k rest = worded (scalar_word k.scalar) k.span ∷ rest
@@ -49,7 +45,7 @@ body_then (item i b) rest = item_then i (body_then b rest)
 
 -- import "..." ;
 abbrev pub import_then : Import → List Token → List Token
-import_then i rest = worded (codes "import") i.keyword ∷ string_named i.name ∷ marked 59 i.end ∷ rest
+import_then i rest = worded (codes "import") i.keyword ∷ quoted i.name ∷ marked 59 i.end ∷ rest
 
 -- message NAME {
 abbrev pub head_then : Head → List Token → List Token

@@ -7,11 +7,15 @@ pub record Name : Type 0 where
   pub text : List ℕ
   pub span : Span
 
+-- a string, with what is written between its quotes
+pub record Str : Type 0 where
+  pub text : List ℕ
+  pub span : Span
+
 pub record Syntax : Type 0 where
   pub keyword : Span
   pub equals : Span
-  pub text : List ℕ
-  pub value : Span
+  pub value : Str
   pub end : Span
 
 pub record Kind : Type 0 where
@@ -43,10 +47,9 @@ pub record Head : Type 0 where
   pub name : Name
   pub «open» : Span
 
--- an import, with what stands between its quotes
 pub record Import : Type 0 where
   pub keyword : Span
-  pub name : Name
+  pub name : Str
   pub end : Span
 
 -- what stands at the top of a file

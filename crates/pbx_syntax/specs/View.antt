@@ -1,8 +1,9 @@
 -- What the code's values stand for.
-use Rattle.std.specs.Prelude.{◌≡◌, ℕ, List, [], ◌∷◌, map, drop, Bool, true, false, ◌==◌, Result, Ok, Err, codes}
+use Rattle.std.specs.Prelude.{◌≡◌, ℕ, List, [], ◌∷◌, map, drop, Bool, true, false, ◌==◌, Result, Ok, Err}
 use Rattle.pbx_token.specs.Tokens.{Word, ident, int, str, mark, Token}
 use Rattle.pbx_token.specs.View.{token_of}
 use Rattle.pbx_syntax.specs.declared.tree.Name as code_name
+use Rattle.pbx_syntax.specs.declared.tree.Str as code_str
 use Rattle.pbx_syntax.specs.declared.tree.Syntax as code_syntax
 use Rattle.pbx_syntax.specs.declared.tree.Kind as code_kind
 use Rattle.pbx_syntax.specs.declared.tree.FieldNumber as code_number
@@ -18,13 +19,16 @@ use Rattle.pbx_syntax.specs.declared.tree.File as code_file
 use Rattle.pbx_syntax.specs.declared.cursor.Cursor.{Cursor}
 use Rattle.pbx_syntax.specs.declared.error.ReadError.{ReadError}
 use Rattle.pbx_syntax.specs.declared.error.ReadError.TheVariants as errors
-use Rattle.pbx_syntax.specs.Tree.{Name, Syntax, Kind, Number, Field, Item, field, Body, end, item, Import, Head, Top, import, message, File}
+use Rattle.pbx_syntax.specs.Tree.{Name, Str, Syntax, Kind, Number, Field, Item, field, Body, end, item, Import, Head, Top, import, message, File}
 
 abbrev pub name_of : code_name.Name → Name
 name_of n = record { text = n.text.now; span = n.span }
 
+abbrev pub str_of : code_str.Str → Str
+str_of s = record { text = s.text.now; span = s.span }
+
 abbrev pub syntax_of : code_syntax.Syntax → Syntax
-syntax_of s = record { keyword = s.keyword; equals = s.equals; text = codes "proto3"; value = s.value; end = s.end }
+syntax_of s = record { keyword = s.keyword; equals = s.equals; value = str_of s.value; end = s.end }
 
 abbrev pub kind_of : code_kind.Kind → Kind
 kind_of k = record { scalar = k.scalar; span = k.span }
@@ -46,7 +50,7 @@ abbrev pub items_of : List code_item.Item → Body → Body
 items_of is b = all_before (map item_of is) b
 
 abbrev pub import_of : code_import.Import → Import
-import_of i = record { keyword = i.keyword; name = name_of i.name; end = i.end }
+import_of i = record { keyword = i.keyword; name = str_of i.name; end = i.end }
 
 abbrev pub head_of : code_head.Head → Head
 head_of h = record { keyword = h.keyword; name = name_of h.name; «open» = h.open }

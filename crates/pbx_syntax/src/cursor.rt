@@ -5,17 +5,18 @@
 ghost use Rattle.std.specs.Prelude.{◌≡◌, ◌∷◌, ◌+◌, [], List, ◌<◌, ◌≤◌, ◌↔◌, length, MatchOption, OnOk, IfOk, IsTrue, codes};
 ghost use Rattle.pbx_token.specs.Tokens as tokens;
 ghost use Rattle.pbx_token.specs.declared.token.Span.{Span};
+ghost use Rattle.pbx_token.specs.Escapes.{unescaped, StandsForText};
 ghost use Rattle.pbx_token.specs.View.{token_of};
 ghost use Rattle.pbx_syntax.specs.Tree as tree;
-ghost use Rattle.pbx_syntax.specs.Grammar.{marked, worded, named, counted, quoted, string_named, kind_then, field_then, syntax_then, import_then, head_then};
+ghost use Rattle.pbx_syntax.specs.Grammar.{marked, worded, named, counted, quoted, kind_then, field_then, syntax_then, import_then, head_then};
 ghost use Rattle.pbx_syntax.specs.Words.{scalar_word, is_field_name, is_plain};
 ghost use Rattle.std.specs.List.{list_all};
 ghost use Rattle.pbx_syntax.specs.Conditions.{FieldFits};
-ghost use Rattle.pbx_syntax.specs.View.{name_of, kind_of, number_of, field_of, syntax_of, import_of, head_of, left, Reaches};
+ghost use Rattle.pbx_syntax.specs.View.{name_of, str_of, kind_of, number_of, field_of, syntax_of, import_of, head_of, left, Reaches};
 
 use crate::error::{Expected, ReadError};
-use crate::tree::{Field, FieldNumber, Head, Import, Kind, Name, Scalar, Syntax};
-use pbx_token::{Span, Token, Word};
+use crate::tree::{Field, FieldNumber, Head, Import, Kind, Name, Scalar, Str, Syntax};
+use pbx_token::{Span, Token, Word, stands_for, stands_for_text};
 
 /// Tokens, of which those before `at` have been read.
 #[derive(Drop)]
@@ -139,38 +140,57 @@ impl<'s, 'a> Cursor<'s, 'a> {
         Err(self.unexpected(expected))
     }
 
-    pub fn string(&mut self, wanted: &str, expected: Expected) -> Result<Span, ReadError>
-        ensures found { IfOk result (λ s. left self.old ≡ quoted wanted.now s ∷ left self.new) }
-        ensures only { (s : Span) (rest : List tokens.Token) → left self.old ≡ quoted wanted.now s ∷ rest → Reaches (λ x. x) s rest result (left self.new) }
-        ensures shorter { OnOk result (length (left self.new) < length (left self.old)) }
-    {
-        if let Some(token) = self.peek() {
-            if let Word::Str(text) = token.word {
-                if text == wanted {
-                    self.at += 1;
-                    return Ok(token.span);
-                }
-            }
-        }
-        Err(self.unexpected(expected))
-    }
-
     /// Any string.
-    fn import_name(&mut self) -> Result<Name<'a>, ReadError>
-        ensures found { IfOk result (λ n. left self.old ≡ string_named (name_of n) ∷ left self.new) }
-        ensures only { (n : tree.Name) (rest : List tokens.Token) → left self.old ≡ string_named n ∷ rest → Reaches name_of n rest result (left self.new) }
+    fn string(&mut self, expected: Expected) -> Result<Str<'a>, ReadError>
+        ensures found { IfOk result (λ s. left self.old ≡ quoted (str_of s) ∷ left self.new) }
+        ensures only { (s : tree.Str) (rest : List tokens.Token) → left self.old ≡ quoted s ∷ rest → Reaches str_of s rest result (left self.new) }
         ensures shorter { OnOk result (length (left self.new) < length (left self.old)) }
     {
         if let Some(token) = self.peek() {
             if let Word::Str(text) = token.word {
                 self.at += 1;
-                return Ok(Name {
+                return Ok(Str {
                     text,
                     span: token.span,
                 });
             }
         }
-        Err(self.unexpected(Expected::ImportName))
+        Err(self.unexpected(expected))
+    }
+
+    /// A string that stands for these bytes.
+    fn string_for(&mut self, wanted: &str, expected: Expected) -> Result<Str<'a>, ReadError>
+        ensures found { IfOk result (λ s. left self.old ≡ quoted (str_of s) ∷ left self.new) }
+        ensures fits { IfOk result (λ s. unescaped s.text.now ≡ wanted.now) }
+        ensures only { (s : tree.Str) (rest : List tokens.Token) → unescaped s.text ≡ wanted.now → left self.old ≡ quoted s ∷ rest → Reaches str_of s rest result (left self.new) }
+        ensures shorter { OnOk result (length (left self.new) < length (left self.old)) }
+    {
+        let at = self.at;
+        let string = self.string(expected)?;
+        if stands_for(string.text, wanted.as_bytes()) {
+            Ok(string)
+        } else {
+            Err(ReadError::Unexpected { at, expected })
+        }
+    }
+
+    /// A string that stands for UTF-8.
+    fn import_name(&mut self) -> Result<Str<'a>, ReadError>
+        ensures found { IfOk result (λ s. left self.old ≡ quoted (str_of s) ∷ left self.new) }
+        ensures fits { IfOk result (λ s. StandsForText s.text.now) }
+        ensures only { (s : tree.Str) (rest : List tokens.Token) → StandsForText s.text → left self.old ≡ quoted s ∷ rest → Reaches str_of s rest result (left self.new) }
+        ensures shorter { OnOk result (length (left self.new) < length (left self.old)) }
+    {
+        let at = self.at;
+        let string = self.string(Expected::ImportName)?;
+        if stands_for_text(string.text) {
+            Ok(string)
+        } else {
+            Err(ReadError::Unexpected {
+                at,
+                expected: Expected::Utf8,
+            })
+        }
     }
 
     pub fn name(&mut self) -> Result<Name<'a>, ReadError>
@@ -269,14 +289,15 @@ impl<'s, 'a> Cursor<'s, 'a> {
         })
     }
 
-    pub fn syntax(&mut self) -> Result<Syntax, ReadError>
+    pub fn syntax(&mut self) -> Result<Syntax<'a>, ReadError>
         ensures found { IfOk result (λ k. left self.old ≡ syntax_then (syntax_of k) (left self.new)) }
-        ensures only { (k : tree.Syntax) (rest : List tokens.Token) → k.text ≡ codes "proto3" → left self.old ≡ syntax_then k rest → Reaches syntax_of k rest result (left self.new) }
+        ensures fits { IfOk result (λ k. unescaped k.value.text.now ≡ codes "proto3") }
+        ensures only { (k : tree.Syntax) (rest : List tokens.Token) → unescaped k.value.text ≡ codes "proto3" → left self.old ≡ syntax_then k rest → Reaches syntax_of k rest result (left self.new) }
         ensures shorter { OnOk result (length (left self.new) < length (left self.old)) }
     {
         let keyword = self.keyword("syntax", Expected::Syntax)?;
         let equals = self.mark(b'=')?;
-        let value = self.string("proto3", Expected::Proto3)?;
+        let value = self.string_for("proto3", Expected::Proto3)?;
         let end = self.mark(b';')?;
         Ok(Syntax {
             keyword,
@@ -288,7 +309,8 @@ impl<'s, 'a> Cursor<'s, 'a> {
 
     pub fn import(&mut self) -> Result<Import<'a>, ReadError>
         ensures found { IfOk result (λ i. left self.old ≡ import_then (import_of i) (left self.new)) }
-        ensures only { (i : tree.Import) (rest : List tokens.Token) → left self.old ≡ import_then i rest → Reaches import_of i rest result (left self.new) }
+        ensures fits { IfOk result (λ i. StandsForText i.name.text.now) }
+        ensures only { (i : tree.Import) (rest : List tokens.Token) → StandsForText i.name.text → left self.old ≡ import_then i rest → Reaches import_of i rest result (left self.new) }
         ensures shorter { OnOk result (length (left self.new) < length (left self.old)) }
     {
         let keyword = self.keyword("import", Expected::Top)?;

@@ -16,6 +16,8 @@ pub enum Expected {
     Top,
     /// The string that an import names a file by.
     ImportName,
+    /// A string that stands for UTF-8.
+    Utf8,
     /// The name of a message.
     Identifier,
     /// The kind with which a field begins, or the mark that ends the message.

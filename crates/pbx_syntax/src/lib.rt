@@ -11,5 +11,5 @@ mod tree;
 pub use error::{Expected, ReadError};
 pub use reading::{at_most_one, read_file};
 pub use tree::{
-    Field, FieldNumber, File, Head, Import, Item, Kind, Message, Name, Scalar, Syntax, Top,
+    Field, FieldNumber, File, Head, Import, Item, Kind, Message, Name, Scalar, Str, Syntax, Top,
 };

@@ -1,6 +1,7 @@
 //! The syntax tree, with the span of each token. Its texts stay in the source.
 
-ghost use Rattle.std.specs.Prelude.{◌≤◌};
+ghost use Rattle.std.specs.Prelude.{◌≡◌, ◌≤◌, codes};
+ghost use Rattle.pbx_token.specs.Escapes.{unescaped, StandsForText};
 
 use pbx_token::Span;
 
@@ -11,13 +12,22 @@ pub struct Name<'a> {
     pub span: Span,
 }
 
+/// A string.
+#[derive(Clone, Copy, Debug)]
+pub struct Str<'a> {
+    /// What is written between its quotes, escapes as they are.
+    pub text: &'a str,
+    pub span: Span,
+}
+
 /// `syntax = "proto3";`
 #[derive(Clone, Copy, Debug)]
-pub struct Syntax {
+pub struct Syntax<'a> {
     pub keyword: Span,
     pub equals: Span,
-    pub value: Span,
+    pub value: Str<'a>,
     pub end: Span,
+    ghost is_proto3: { unescaped value.text.now ≡ codes "proto3" },
 }
 
 /// A scalar type.
@@ -78,9 +88,9 @@ pub struct Message<'a> {
 #[derive(Clone, Copy, Debug)]
 pub struct Import<'a> {
     pub keyword: Span,
-    /// What stands between the quotes, and the span of the string.
-    pub name: Name<'a>,
+    pub name: Str<'a>,
     pub end: Span,
+    ghost is_text: { ∥ StandsForText name.text.now ∥₁ },
 }
 
 /// What stands at the top of a file.
@@ -93,6 +103,6 @@ pub enum Top<'a> {
 /// A file.
 #[derive(Debug, Drop)]
 pub struct File<'a> {
-    pub syntax: Syntax,
+    pub syntax: Syntax<'a>,
     pub tops: Vec<Top<'a>>,
 }

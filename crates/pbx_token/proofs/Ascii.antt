@@ -3,7 +3,7 @@ use Rattle.std.proofs.Common.{◌≡◌, ℕ, zero, suc, ◌+◌, ◌<◌, Bool,
 use Rattle.std.specs.List.{prefix_len}
 use Rattle.std.specs.Str.{IsAscii, IsUtf8}
 use Rattle.std.proofs.lemmas.Str.{IsUtf8-from_ascii}
-use Rattle.pbx_token.specs.declared.piece.Run.TheVariants as runs
+use Rattle.pbx_token.specs.declared.run.Run.TheVariants as runs
 use Rattle.pbx_token.specs.Bytes.{passes}
 
 pub word_byte : (b : ℕ) → passes runs.Word b ≡ true → b < 128

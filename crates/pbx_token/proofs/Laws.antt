@@ -5,11 +5,12 @@ use Rattle.std.specs.Prelude.{option_map, ◌==◌, ◌&&◌, ◌||◌}
 use Rattle.std.proofs.lemmas.List.{take-append-drop, take_at, drop_at, length-take, length-append}
 use Rattle.std.proofs.lemmas.List.Sums.{prefix_len-le-length}
 use Rattle.std.proofs.lemmas.Bool.{eqb-true}
-use Rattle.pbx_token.specs.declared.piece.Run.{Run}
-use Rattle.pbx_token.specs.declared.piece.Run.TheVariants as runs
+use Rattle.pbx_token.specs.declared.run.Run.{Run}
+use Rattle.pbx_token.specs.declared.run.Run.TheVariants as runs
 use Rattle.pbx_token.specs.declared.piece.Class.{Class}
 use Rattle.pbx_token.specs.declared.piece.Class.TheVariants as classes
-use Rattle.pbx_token.specs.Bytes.{is_start, is_digit, is_plain, passes, class_of, int_value}
+use Rattle.pbx_token.specs.Bytes.{not, is_start, is_digit, is_break, passes, class_of, int_value}
+use Rattle.pbx_token.specs.Escapes.{has_good_escapes}
 use Rattle.pbx_token.specs.Tokens.{Token}
 use Rattle.pbx_token.specs.Pieces.{Piece, blank, line, block, name, number, quoted, sign, piece_then, class_of_piece, block_end, quoted_end, Extent, FitsPiece, pieces_text, FitAll, begins_slash, tokens_from, origin, Lexes}
 use Rattle.pbx_token.specs.Scan.{more, pieces_by, pieces_in, pieces_at, number_with, block_with, quoted_with, quoted_at, one_at, piece_by, piece_at}
@@ -92,18 +93,19 @@ block_found (a ∷ bs) n e =
     let ih = block_found bs m.0 m.1 in
     subst (λ k. (k ≤ length (a ∷ bs)) × (a ∷ bs ≡ take k (a ∷ bs) ++ (42 ∷ 47 ∷ drop (k + 2) (a ∷ bs)))) m.2 (one_more a bs (42 ∷ 47 ∷ []) m.0 2 ih.0 ih.1))
 
-pub quoted_found : (q : ℕ) (bytes : List ℕ) (n : ℕ) → quoted_end q bytes ≡ Some n → (n ≤ length bytes) × (bytes ≡ take n bytes ++ (q ∷ drop (n + 1) bytes))
+pub quoted_found : (q : ℕ) (escaped : Bool) (bytes : List ℕ) (n : ℕ) → quoted_end q escaped bytes ≡ Some n → (n ≤ length bytes) × (bytes ≡ take n bytes ++ (q ∷ drop (n + 1) bytes))
 unfolding quoted_end
-quoted_found q [] n e = absurd cc
-quoted_found q (a ∷ bs) n e =
+quoted_found q escaped [] n e = absurd cc
+quoted_found q escaped (a ∷ bs) n e =
     let P : ℕ → Type 0 = λ k. (k ≤ length (a ∷ bs)) × (a ∷ bs ≡ take k (a ∷ bs) ++ (q ∷ drop (k + 1) (a ∷ bs))) in
-    by_test (a == q) (Some 0) _ (Some n) e
-    (λ p h. subst P (some_is 0 n h) (omega arith, ap (λ (x : ℕ). x ∷ bs) (eqb-true a q p)))
-    (λ p h. by_test (is_plain a) (option_map (λ k. 1 + k) (quoted_end q bs)) None (Some n) h
-    (λ p2 h2. let m = map_some (quoted_end q bs) n h2 in
-    let ih = quoted_found q bs m.0 m.1 in
-    subst P m.2 (one_more a bs (q ∷ []) m.0 1 ih.0 ih.1))
-    (λ p2 h2. absurd cc))
+    let others = quoted_end q ((a == 92) && not escaped) bs in
+    by_test ((a == q) && not escaped) (Some 0) _ (Some n) e
+    (λ p h. let t = both (a == q) (not escaped) p in subst P (some_is 0 n h) (omega arith, ap (λ (x : ℕ). x ∷ bs) (eqb-true a q t.0)))
+    (λ p h. by_test (is_break a) None (option_map (λ k. 1 + k) others) (Some n) h
+    (λ p2 h2. absurd cc)
+    (λ p2 h2. let m = map_some others n h2 in
+    let ih = quoted_found q ((a == 92) && not escaped) bs m.0 m.1 in
+    subst P m.2 (one_more a bs (q ∷ []) m.0 1 ih.0 ih.1)))
 
 block_with_takes : (o : Option ℕ) (bytes : List ℕ) (x : Piece × List ℕ) → block_end (drop 2 bytes) ≡ o → class_of bytes ≡ classes.Block → block_with o (drop 2 bytes) ≡ Some x → Taken bytes x.0 x.1
 block_with_takes None bytes x is h e = absurd cc
@@ -113,16 +115,18 @@ block_with_takes (Some n) bytes x is h e =
     at_end (Taken bytes) (block (take n d)) (drop (n + 2) d) x e
     (spelled bytes (block (take n d)) (drop (n + 2) d) (block_is bytes h ∙ ap (λ (r : List ℕ). 47 ∷ 42 ∷ r) f.1) h (ap block_end (sym f.1) ∙ is ∙ ap done (sym (front_length d n f.0))))
 
-quoted_with_takes : (q : ℕ) (o : Option ℕ) (bytes : List ℕ) (x : Piece × List ℕ) → quoted_end q bytes ≡ o → class_of (q ∷ bytes) ≡ classes.Quote → quoted_with q o bytes ≡ Some x → Taken (q ∷ bytes) x.0 x.1
+quoted_with_takes : (q : ℕ) (o : Option ℕ) (bytes : List ℕ) (x : Piece × List ℕ) → quoted_end q false bytes ≡ o → class_of (q ∷ bytes) ≡ classes.Quote → quoted_with q o bytes ≡ Some x → Taken (q ∷ bytes) x.0 x.1
 quoted_with_takes q None bytes x is h e = absurd cc
 quoted_with_takes q (Some n) bytes x is h e =
-    let f = quoted_found q bytes n is in
-    at_end (Taken (q ∷ bytes)) (quoted q (take n bytes)) (drop (n + 1) bytes) x e
-    (spelled (q ∷ bytes) (quoted q (take n bytes)) (drop (n + 1) bytes) (ap (λ (r : List ℕ). q ∷ r) f.1) h (ap (quoted_end q) (sym f.1) ∙ is ∙ ap done (sym (front_length bytes n f.0))))
+    let f = quoted_found q false bytes n is in
+    by_test (has_good_escapes (take n bytes)) (done (quoted q (take n bytes), drop (n + 1) bytes)) None (Some x) e
+    (λ good e2. at_end (Taken (q ∷ bytes)) (quoted q (take n bytes)) (drop (n + 1) bytes) x e2
+    (spelled (q ∷ bytes) (quoted q (take n bytes)) (drop (n + 1) bytes) (ap (λ (r : List ℕ). q ∷ r) f.1) h (ap (quoted_end q false) (sym f.1) ∙ is ∙ ap done (sym (front_length bytes n f.0)), good)))
+    (λ bad e2. absurd cc)
 
-quoted_at_takes : (bytes : List ℕ) (x : Piece × List ℕ) → class_of bytes ≡ classes.Quote → quoted_at bytes ≡ Some x → Taken bytes x.0 x.1
+pub quoted_at_takes : (bytes : List ℕ) (x : Piece × List ℕ) → class_of bytes ≡ classes.Quote → quoted_at bytes ≡ Some x → Taken bytes x.0 x.1
 quoted_at_takes [] x h e = absurd cc
-quoted_at_takes (q ∷ bytes) x h e = quoted_with_takes q (quoted_end q bytes) bytes x refl h e
+quoted_at_takes (q ∷ bytes) x h e = quoted_with_takes q (quoted_end q false bytes) bytes x refl h e
 
 by_takes : (k : Class) (bytes : List ℕ) (x : Piece × List ℕ) → class_of bytes ≡ k → piece_by k bytes ≡ Some x → Taken bytes x.0 x.1
 by_takes classes.Blank bytes x h e = one_takes blank classes.Blank (λ b. refl) (λ b rest. refl) (λ b rest. tt) bytes x h e
@@ -156,7 +160,7 @@ by_again (number t n) rest x =
     ∙ ap (λ o. number_with o (length t) (t ++ rest)) (ap int_value tk ∙ x.1)
     ∙ ap (λ (s : List ℕ). done (number s n, drop (length t) (t ++ rest))) tk
     ∙ ap (λ (r : List ℕ). done (number t n, r)) (drop_at t rest (length t) refl)
-by_again (quoted q t) rest x = rw (x) (rw (take_at t (q ∷ rest) (length t) refl) (ap (λ r. done (quoted q t, r)) (past t (q ∷ []) rest)))
+by_again (quoted q t) rest x = rw (x.0) (rw (take_at t (q ∷ rest) (length t) refl) (rw (x.1) (ap (λ r. done (quoted q t, r)) (past t (q ∷ []) rest))))
 by_again (sign b) rest x = refl
 
 pub piece_again : (p : Piece) (rest : List ℕ) → FitsPiece p rest → piece_at (piece_then p rest) ≡ Some (p, rest)

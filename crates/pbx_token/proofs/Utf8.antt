@@ -7,8 +7,8 @@ use Rattle.std.proofs.lemmas.List.{take_all, take_at, drop_at, length-append}
 use Rattle.std.proofs.lemmas.List.Sums.{prefix_len_stops}
 use Rattle.std.proofs.Math.Seq.{get_or-append_seam}
 use Rattle.std.proofs.lemmas.Str.{IsUtf8-nil, IsUtf8-take, IsUtf8-drop, IsCharBoundary-before_ascii, IsCharBoundary-after_ascii}
-use Rattle.pbx_token.specs.declared.piece.Run.{Run}
-use Rattle.pbx_token.specs.declared.piece.Run.TheVariants as runs
+use Rattle.pbx_token.specs.declared.run.Run.{Run}
+use Rattle.pbx_token.specs.declared.run.Run.TheVariants as runs
 use Rattle.pbx_token.specs.declared.piece.Class.{Class}
 use Rattle.pbx_token.specs.declared.piece.Class.TheVariants as classes
 use Rattle.pbx_token.specs.Bytes.{is_blank, is_start, is_digit, is_mark, passes, class_of, first_class_of}
@@ -117,15 +117,15 @@ next_text bytes next w e u =
     let t = piece_takes bytes (k.0, next) k.1 in
     after_piece k.0 next t.1 (subst IsUtf8 t.0 u)
 
-quoted_front : (q : ℕ) (bytes : List ℕ) (n : ℕ) → class_of (q ∷ bytes) ≡ classes.Quote → quoted_end q bytes ≡ Some n → IsUtf8 (q ∷ bytes) → IsUtf8 (take n bytes)
+quoted_front : (q : ℕ) (bytes : List ℕ) (n : ℕ) → class_of (q ∷ bytes) ≡ classes.Quote → quoted_end q false bytes ≡ Some n → IsUtf8 (q ∷ bytes) → IsUtf8 (take n bytes)
 quoted_front q bytes n e found u =
     let small = first_small q bytes classes.Quote tt (λ h. absurd cc) e in
-    let parts = quoted_found q bytes n found in
+    let parts = quoted_found q false bytes n found in
     (cut (take n bytes) q (drop (n + 1) bytes) small (subst IsUtf8 parts.1 (behind q bytes small u))).0
 
 -- what stands between quotes, as the code slices it
-pub quoted_text : (bytes : List ℕ) (n : ℕ) → class_of bytes ≡ classes.Quote → quoted_end (get_or bytes 0 0) (take (length bytes - 1) (drop 1 bytes)) ≡ Some n → IsUtf8 bytes → IsUtf8 (take n (take (length bytes - 1) (drop 1 bytes)))
+pub quoted_text : (bytes : List ℕ) (n : ℕ) → class_of bytes ≡ classes.Quote → quoted_end (get_or bytes 0 0) false (take (length bytes - 1) (drop 1 bytes)) ≡ Some n → IsUtf8 bytes → IsUtf8 (take n (take (length bytes - 1) (drop 1 bytes)))
 quoted_text [] n e found u = absurd cc
 quoted_text (q ∷ bytes) n e found u =
     let whole : take (length (q ∷ bytes) - 1) bytes ≡ bytes = take_all (length (q ∷ bytes) - 1) bytes (omega arith) in
-    subst (λ (t : List ℕ). IsUtf8 (take n t)) (sym whole) (quoted_front q bytes n e (ap (quoted_end q) (sym whole) ∙ found) u)
+    subst (λ (t : List ℕ). IsUtf8 (take n t)) (sym whole) (quoted_front q bytes n e (ap (quoted_end q false) (sym whole) ∙ found) u)

@@ -1,7 +1,7 @@
 -- Classes of bytes: "Letters and digits", "Integer literals" and "String literals" of the language specification.
 use Rattle.std.specs.Prelude.{ℕ, ◌+◌, ◌-◌, ◌*◌, ◌^◌, List, [], ◌∷◌, Bool, true, false, ◌==◌, ◌&&◌, ◌||◌, nat_le, nat_lt, Option, Some, None, if◌then◌else◌}
-use Rattle.pbx_token.specs.declared.piece.Run.{Run}
-use Rattle.pbx_token.specs.declared.piece.Run.TheVariants as runs
+use Rattle.pbx_token.specs.declared.run.Run.{Run}
+use Rattle.pbx_token.specs.declared.run.Run.TheVariants as runs
 use Rattle.pbx_token.specs.declared.piece.Class.{Class}
 use Rattle.pbx_token.specs.declared.piece.Class.TheVariants as classes
 
@@ -24,15 +24,20 @@ is_start b = (nat_le 65 b && nat_le b 90) || (nat_le 97 b && nat_le b 122) || (b
 abbrev pub is_mark : ℕ → Bool
 is_mark b = (b == 59) || (b == 123) || (b == 125) || (b == 91) || (b == 93) || (b == 40) || (b == 41) || (b == 60) || (b == 62) || (b == 61) || (b == 44) || (b == 46) || (b == 45)
 
--- the bytes of a word, of a number and what may follow it by mistake, of a comment's line
+-- the value of a hexadecimal digit, and 99 for any other byte
+abbrev pub digit_of : ℕ → ℕ
+digit_of b = if is_digit b then b - 48 else (if nat_le 97 b && nat_le b 102 then b - 87 else (if nat_le 65 b && nat_le b 70 then b - 55 else 99))
+
+-- the bytes of a word, of a number and what may follow it by mistake, of a comment's line, and the digits of a base
 abbrev pub passes : Run → ℕ → Bool
 passes runs.Word b = is_start b || is_digit b
 passes runs.Number b = is_start b || is_digit b || (b == 46)
 passes runs.Line b = not (b == 10)
+passes (runs.Digits base) b = nat_lt (digit_of b) base
 
--- a byte that stands for itself in a string: no line feed and no zero, and no escape is read
-abbrev pub is_plain : ℕ → Bool
-is_plain b = not (b == 10) && not (b == 0) && not (b == 92)
+-- a line feed or a zero, which no string holds
+abbrev pub is_break : ℕ → Bool
+is_break b = (b == 10) || (b == 0)
 
 -- what a byte begins
 abbrev pub first_class_of : ℕ → Class
@@ -48,10 +53,6 @@ class_of [] = classes.Bad
 class_of (a ∷ bs) = class_with a bs
 
 -- ---- numbers
-
--- the value of a hexadecimal digit, and 99 for any other byte
-abbrev pub digit_of : ℕ → ℕ
-digit_of b = if is_digit b then b - 48 else (if nat_le 97 b && nat_le b 102 then b - 87 else (if nat_le 65 b && nat_le b 70 then b - 55 else 99))
 
 -- the value of digits after a front of that value
 unfoldable pub digits_from : ℕ → ℕ → List ℕ → Option ℕ

@@ -1,5 +1,65 @@
--- stand-in until the real one comes
-use Rattle.std.specs.Prelude.{ℕ, List}
+-- The escapes of strings, and the bytes that strings stand for: "String literals" of the language specification,
+-- without `\u` and `\U`, with a small `x` only, and with at most two hexadecimal digits.
+use Rattle.std.specs.Prelude.{ℕ, zero, suc, ◌+◌, List, [], ◌∷◌, take, Bool, true, ◌==◌, ◌&&◌, ◌||◌, nat_le, nat_lt, Option, Some, None, option_map, unwrap_or, is_none, if◌then◌else◌}
+use Rattle.std.specs.List.{prefix_len}
+use Rattle.std.specs.Str.{IsUtf8}
+use Rattle.pbx_token.specs.declared.escape.Escape.{Escape}
+use Rattle.pbx_token.specs.declared.run.Run.TheVariants as runs
+use Rattle.pbx_token.specs.Bytes.{not, passes, digits_from}
 
-unfoldable pub unescaped : List ℕ → List ℕ
-unescaped t = t
+-- ---- one escape: the byte that it stands for, and how many bytes it has after its backslash
+
+-- \\ \' \" \? are the second byte itself, and \n \r \t \a \b \f \v are control characters
+abbrev pub simple_value : ℕ → Option ℕ
+simple_value b = if (b == 92) || (b == 39) || (b == 34) || (b == 63) then Some b
+    else (if b == 110 then Some 10 else (if b == 114 then Some 13 else (if b == 116 then Some 9 else (if b == 97 then Some 7
+    else (if b == 98 then Some 8 else (if b == 102 then Some 12 else (if b == 118 then Some 11 else None)))))))
+
+-- a number of so many digits, at least one, that fits a byte
+abbrev pub number_of : ℕ → Option ℕ → Option Escape
+number_of n None = None
+number_of n (Some v) = if nat_lt 0 n && nat_le v 255 then Some (record { value = v; size = n }) else None
+
+-- the digits of a base at the front, as many as stand there but at most so many
+abbrev pub number_at : ℕ → ℕ → List ℕ → Option Escape
+number_at base most bytes = let n = prefix_len (passes (runs.Digits base)) (take most bytes) in number_of n (digits_from base 0 (take n bytes))
+
+-- what follows a backslash: `x` and one or two hexadecimal digits, one to three octal digits, or one byte
+unfoldable pub escape_at : List ℕ → Option Escape
+escape_at [] = None
+escape_at (b ∷ bytes) = if b == 120 then option_map (λ e. record { value = e.value; size = e.size + 1 }) (number_at 16 2 bytes)
+    else (if nat_le 48 b && nat_le b 55 then number_at 8 3 (b ∷ bytes)
+    else option_map (λ v. record { value = v; size = 1 }) (simple_value b))
+
+-- ---- a string
+
+-- a backslash that begins no escape
+abbrev pub is_bad : ℕ → List ℕ → Bool
+is_bad b rest = (b == 92) && is_none (escape_at rest)
+
+-- what a byte stands for with what follows it: an escape where it is a backslash that begins one, else itself
+abbrev pub first_at : ℕ → List ℕ → Escape
+first_at b rest = unwrap_or (if b == 92 then escape_at rest else None) (record { value = b; size = 0 })
+
+-- each backslash begins an escape, once so many bytes are passed, which belong to an escape before
+unfoldable pub are_good_after : ℕ → List ℕ → Bool
+are_good_after n [] = true
+are_good_after zero (b ∷ bs) = not (is_bad b bs) && are_good_after (first_at b bs).size bs
+are_good_after (suc n) (b ∷ bs) = are_good_after n bs
+
+abbrev pub has_good_escapes : List ℕ → Bool
+has_good_escapes text = are_good_after 0 text
+
+-- the bytes that are stood for, once so many bytes are passed, which belong to an escape before
+unfoldable pub unescaped_after : ℕ → List ℕ → List ℕ
+unescaped_after n [] = []
+unescaped_after zero (b ∷ bs) = (first_at b bs).value ∷ unescaped_after (first_at b bs).size bs
+unescaped_after (suc n) (b ∷ bs) = unescaped_after n bs
+
+-- The bytes that a string stands for, of what is written between its quotes.
+abbrev pub unescaped : List ℕ → List ℕ
+unescaped text = unescaped_after 0 text
+
+-- A string stands for a text.
+abbrev pub StandsForText : List ℕ → Type 0
+StandsForText text = IsUtf8 (unescaped text)

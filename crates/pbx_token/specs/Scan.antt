@@ -1,10 +1,11 @@
 -- How a source is taken apart, from its first byte on: what the code follows, beside what `Lexes` says.
-use Rattle.std.specs.Prelude.{ℕ, zero, suc, ◌+◌, List, [], ◌∷◌, length, take, drop, Option, Some, None, option_map}
+use Rattle.std.specs.Prelude.{ℕ, zero, suc, ◌+◌, List, [], ◌∷◌, length, take, drop, false, Option, Some, None, option_map, if◌then◌else◌}
 use Rattle.std.specs.List.{prefix_len}
-use Rattle.pbx_token.specs.declared.piece.Run.TheVariants as runs
+use Rattle.pbx_token.specs.declared.run.Run.TheVariants as runs
 use Rattle.pbx_token.specs.declared.piece.Class.{Class}
 use Rattle.pbx_token.specs.declared.piece.Class.TheVariants as classes
 use Rattle.pbx_token.specs.Bytes.{passes, class_of, int_value}
+use Rattle.pbx_token.specs.Escapes.{has_good_escapes}
 use Rattle.pbx_token.specs.Pieces.{Piece, blank, line, block, name, number, quoted, sign, block_end, quoted_end}
 
 abbrev pub run_piece : (List ℕ → Piece) → ℕ → List ℕ → Option (Piece × List ℕ)
@@ -20,11 +21,11 @@ block_with (Some n) bytes = Some (block (take n bytes), drop (n + 2) bytes)
 
 abbrev pub quoted_with : ℕ → Option ℕ → List ℕ → Option (Piece × List ℕ)
 quoted_with q None bytes = None
-quoted_with q (Some n) bytes = Some (quoted q (take n bytes), drop (n + 1) bytes)
+quoted_with q (Some n) bytes = if has_good_escapes (take n bytes) then Some (quoted q (take n bytes), drop (n + 1) bytes) else None
 
 abbrev pub quoted_at : List ℕ → Option (Piece × List ℕ)
 quoted_at [] = None
-quoted_at (q ∷ bytes) = quoted_with q (quoted_end q bytes) bytes
+quoted_at (q ∷ bytes) = quoted_with q (quoted_end q false bytes) bytes
 
 abbrev pub one_at : (ℕ → Piece) → List ℕ → Option (Piece × List ℕ)
 one_at make [] = None

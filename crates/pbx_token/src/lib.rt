@@ -1,12 +1,18 @@
 //! The tokens of a source file, each with its place.
 #![tactic(auto)]
 
+mod digits;
+mod escape;
 mod lexer;
 mod piece;
+mod run;
 #[cfg(test)]
 mod tests;
+mod text;
 mod token;
 
+pub use escape::{stands_for, unescape};
 pub use lexer::{at_most_one, lex};
 pub use piece::{Fault, LexError};
+pub use text::stands_for_text;
 pub use token::{Place, Span, Token, Word, after};

@@ -1,14 +1,17 @@
 //! One piece of a source: a blank, a comment or a token.
 
-ghost use Rattle.std.specs.Prelude.{◌≡◌, ◌≤◌, ◌<◌, ◌+◌, length, take, drop, Some, IfSome, IfOk, IsTrue, option_map};
+ghost use Rattle.std.specs.Prelude.{◌≡◌, ◌≤◌, ◌<◌, ◌+◌, length, take, drop, false, IfSome, IfOk, IsTrue, option_map};
 ghost use Rattle.std.specs.List.{prefix_len};
 ghost use Rattle.std.specs.Str.{IsUtf8};
-ghost use Rattle.pbx_token.specs.Bytes.{passes, class_of, first_class_of, digit_of, digits_from, int_value, is_plain};
+ghost use Rattle.pbx_token.specs.Bytes.{passes, class_of, first_class_of, is_break};
 ghost use Rattle.pbx_token.specs.Pieces.{block_end, quoted_end, begins_slash};
-ghost use Rattle.pbx_token.specs.Scan.{piece_at};
+ghost use Rattle.pbx_token.specs.Scan.{piece_at, quoted_at};
 ghost use Rattle.pbx_token.specs.View.{Gives, kept, word_of};
 ghost use Rattle.pbx_token.specs.declared.piece.LexError.TheVariants.{NoMemory};
 
+use crate::digits::int_of;
+use crate::escape::bad_escape;
+use crate::run::{Run, run_len};
 use crate::token::Word;
 use std::alloc::{AllocError, AllocFailed};
 
@@ -23,6 +26,8 @@ pub enum Fault {
     CommentEnd,
     /// The byte there, or the end, cannot stand inside a string, and this quote has not come.
     Quote(u8),
+    /// The backslash there begins no escape.
+    Escape,
 }
 
 /// Why a source has no tokens.
@@ -66,14 +71,6 @@ impl<T: Drop> From<AllocFailed<T>> for LexError {
     }
 }
 
-/// Bytes that are read as far as they go.
-#[derive(Clone, Copy, Debug)]
-pub enum Run {
-    Word,
-    Number,
-    Line,
-}
-
 /// What the first bytes of a piece begin.
 #[derive(Clone, Copy, Debug)]
 pub enum Class {
@@ -85,27 +82,6 @@ pub enum Class {
     Quote,
     Mark,
     Bad,
-}
-
-fn passes_run(run: Run, b: u8) -> bool
-    ensures { result ≡ passes run b }
-{
-    match run {
-        Run::Word => b.is_ascii_alphanumeric() || b == b'_',
-        Run::Number => b.is_ascii_alphanumeric() || b == b'_' || b == b'.',
-        Run::Line => b != b'\n',
-    }
-}
-
-fn run_len(bytes: &[u8], run: Run) -> usize
-    ensures is { result ≡ prefix_len (passes run) bytes.now }
-    ensures within { result ≤ length bytes.now }
-{
-    let mut n = 0;
-    while n < bytes.len() && passes_run(run, bytes[n]) {
-        n += 1;
-    }
-    n
 }
 
 fn first_class(b: u8) -> Class
@@ -165,31 +141,33 @@ fn slash(bytes: &[u8]) -> bool
     }
 }
 
-/// Whether a byte may stand in a string as itself.
-fn plain(b: u8) -> bool
-    ensures { result ≡ is_plain b }
+/// Whether no string holds a byte.
+fn breaks(b: u8) -> bool
+    ensures { result ≡ is_break b }
 {
-    b != b'\n' && b != 0 && b != b'\\'
+    b == b'\n' || b == 0
 }
 
-/// How many bytes stand before the quote that closes.
+/// How many bytes stand before the first quote that no backslash escapes.
 #[tactic(auto, unfolding(crate::specs::Pieces::quoted_end))]
 fn quoted_len(bytes: &[u8], quote: u8) -> Option<usize>
-    ensures is { result ≡ quoted_end quote bytes.now }
+    ensures is { result ≡ quoted_end quote false bytes.now }
     ensures within { IfSome result (λ n. n + 1 ≤ length bytes.now) }
 {
     let mut rest = bytes;
     let mut n = 0;
+    let mut escaped = false;
     'scan: loop {
         match rest {
             [] => return None,
             [a, tail @ ..] => {
-                if *a == quote {
+                if *a == quote && !escaped {
                     return Some(n);
                 }
-                if !plain(*a) {
+                if breaks(*a) {
                     return None;
                 }
+                escaped = *a == b'\\' && !escaped;
                 rest = tail;
                 n += 1;
             }
@@ -197,73 +175,19 @@ fn quoted_len(bytes: &[u8], quote: u8) -> Option<usize>
     }
 }
 
-/// How many bytes are left at the first that is not plain, or at the end.
-fn left_plain(text: &[u8]) -> usize {
+/// How many bytes are left at the first that no string holds, or at the end.
+fn left_unbroken(text: &[u8]) -> usize {
     let mut rest = text;
     'scan: loop {
         match rest {
             [] => return 0,
             [a, tail @ ..] => {
-                if !plain(*a) {
+                if breaks(*a) {
                     return rest.len();
                 }
                 rest = tail;
             }
         }
-    }
-}
-
-/// The value of digits after a front of that value.
-#[tactic(auto, unfolding(crate::specs::Bytes::digits_from))]
-fn digits_value(base: u64, front: u64, digits: &[u8]) -> Option<u64>
-    requires { base ≤ 16 }
-    ensures { result ≡ digits_from base front digits.now }
-{
-    let mut rest = digits;
-    let mut value = front;
-    'scan: loop {
-        match rest {
-            [] => return Some(value),
-            [a, tail @ ..] => {
-                let digit = digit_value(*a);
-                if digit >= base {
-                    return None;
-                }
-                let Some(product) = value.checked_mul(base) else {
-                    return None;
-                };
-                let Some(sum) = product.checked_add(digit) else {
-                    return None;
-                };
-                value = sum;
-                rest = tail;
-            }
-        }
-    }
-}
-
-fn digit_value(b: u8) -> u64
-    ensures is { result ≡ digit_of b }
-    ensures small { result < 100 }
-{
-    match b {
-        b'0'..=b'9' => (b - b'0') as u64,
-        b'a'..=b'f' => (b - b'a') as u64 + 10,
-        b'A'..=b'F' => (b - b'A') as u64 + 10,
-        _ => 99,
-    }
-}
-
-fn int_of(text: &[u8]) -> Option<u64>
-    ensures { result ≡ int_value text.now }
-{
-    match text {
-        [] => None,
-        [b'0'] => Some(0),
-        [b'0', b'x' | b'X'] => None,
-        [b'0', b'x' | b'X', rest @ ..] => digits_value(16, 0, rest),
-        [b'0', rest @ ..] => digits_value(8, 0, rest),
-        [_, ..] => digits_value(10, 0, text),
     }
 }
 
@@ -285,6 +209,33 @@ fn word_at(bytes: &[u8]) -> (&str, &[u8])
 {
     let n = run_len(bytes, Run::Word);
     (text_of(&bytes[..n]), &bytes[n..])
+}
+
+/// The string at the front, and what follows it.
+fn quoted(bytes: &[u8]) -> Result<(Option<Word<'_>>, &[u8]), LexError>
+    requires quote { class_of bytes.now ≡ Class.Quote }
+    requires text { IsUtf8 bytes.now }
+    ensures read { Gives (λ x. (option_map word_of x.0, x.1.now)) (kept (quoted_at bytes.now)) result }
+    ensures shorter { IfOk result (λ x. length x.1.now < length bytes.now) }
+{
+    let [quote, text @ ..] = bytes else {
+        return Err(LexError::at(bytes, Fault::Token));
+    };
+    let Some(n) = quoted_len(text, *quote) else {
+        return Err(LexError::Fault {
+            left: left_unbroken(text),
+            begun: bytes.len(),
+            fault: Fault::Quote(*quote),
+        });
+    };
+    if let Some(left) = bad_escape(&text[..n]) {
+        return Err(LexError::Fault {
+            left: text.len() - n + left,
+            begun: bytes.len(),
+            fault: Fault::Escape,
+        });
+    }
+    Ok((Some(Word::Str(text_of(&text[..n]))), &text[n + 1..]))
 }
 
 /// The piece at the front: its word, if it is a token, and what follows it.
@@ -330,16 +281,6 @@ pub fn piece(bytes: &[u8]) -> Result<(Option<Word<'_>>, &[u8]), LexError>
                 Some(value) => Ok((Some(Word::Int(value)), &bytes[n..])),
             }
         }
-        Class::Quote => match bytes {
-            [] => Err(LexError::at(bytes, Fault::Token)),
-            [quote, text @ ..] => match quoted_len(text, *quote) {
-                None => Err(LexError::Fault {
-                    left: left_plain(text),
-                    begun: bytes.len(),
-                    fault: Fault::Quote(*quote),
-                }),
-                Some(n) => Ok((Some(Word::Str(text_of(&text[..n]))), &text[n + 1..])),
-            },
-        },
+        Class::Quote => quoted(bytes),
     }
 }

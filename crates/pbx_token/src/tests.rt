@@ -1,6 +1,6 @@
 //! Tokens of the public language specification's lexical elements, and where a fault lies.
 
-use crate::{Fault, LexError, Span, Token, Word, lex};
+use crate::{LexError, Span, Token, Word, lex, stands_for, stands_for_text, unescape};
 use std::alloc::Global;
 use std::process::Abort;
 use std::test::Fail;
@@ -28,8 +28,8 @@ fn show(alloc: Global, out: &mut String, token: Token<'_>) -> Result<(), Fail> {
         Word::Ident(text) => out.push_str(format!(in alloc; " {text}")?.as_str())?,
         Word::Int(value) => out.push_str(format!(in alloc; " #{value}")?.as_str())?,
         Word::Str(text) => {
-            let bytes = text.as_bytes();
-            out.push_str(format!(in alloc; " {bytes:?}")?.as_str())?;
+            let bytes = unescape(alloc, text)?;
+            out.push_str(format!(in alloc; " {text} {bytes:?}")?.as_str())?;
         }
         Word::Mark(mark) => out.push_str(format!(in alloc; " {}", mark as char)?.as_str())?,
     }
@@ -56,13 +56,12 @@ fn reads_tokens(rt: HostRuntime) -> Result<(), Fail> {
         ("1_", "2 of 2 left, lacks Integer"),
         ("1.", "2 of 2 left, lacks Integer"),
         ("1 .", " #1 ."),
-        ("''\"'\"'\"'", " [] [39] [34]"),
-        ("'é'", " [195, 169]"),
+        ("''\"'\"'\"'", "  [] ' [39] \" [34]"),
+        ("'é'", " é [195, 169]"),
         ("a 'b", "0 of 2 left, lacks Quote(39)"),
         ("a 'b\"", "0 of 3 left, lacks Quote(39)"),
         ("\"b\nc\"", "3 of 5 left, lacks Quote(34)"),
         ("'b\0'", "2 of 4 left, lacks Quote(39)"),
-        ("'b\\n'", "3 of 5 left, lacks Quote(39)"),
         ("a // b 'c\nd", " a d"),
         ("a // b\rc", " a"),
         ("a /* b\n ** é */ c /**/ d", " a c d"),
@@ -77,6 +76,48 @@ fn reads_tokens(rt: HostRuntime) -> Result<(), Fail> {
         let got = shown(&rt, rt.alloc(), source)?;
         assert_eq!(rt; got.as_str(), want, "at {source:?}");
     }
+    Ok(())
+}
+
+// Strings as written and the bytes that they stand for.
+#[test]
+fn reads_escapes(rt: HostRuntime) -> Result<(), Fail> {
+    for (source, want) in [
+        (
+            r"'\n\r\t\a\b\f\v'",
+            r" \n\r\t\a\b\f\v [10, 13, 9, 7, 8, 12, 11]",
+        ),
+        (r#"'\\\'\"\?'"#, r#" \\\'\"\? [92, 39, 34, 63]"#),
+        (r#""\"" '\"'"#, r#" \" [34] \" [34]"#),
+        (r"'\\' '\\\\'", r" \\ [92] \\\\ [92, 92]"),
+        (
+            r"'\x1\x1F\xf0\xag'",
+            r" \x1\x1F\xf0\xag [1, 31, 240, 10, 103]",
+        ),
+        (r"'\x1F2'", r" \x1F2 [31, 50]"),
+        (r"'\0\00\0001\18'", r" \0\00\0001\18 [0, 0, 0, 49, 1, 56]"),
+        (r"'\377\3777\47'", r" \377\3777\47 [255, 255, 55, 39]"),
+        (r"'é\303\251'", r" é\303\251 [195, 169, 195, 169]"),
+        (r"a '\400'", "5 of 6 left, lacks Escape"),
+        (r"'\8'", "3 of 4 left, lacks Escape"),
+        (r"'a\xg'", "4 of 6 left, lacks Escape"),
+        (r"'\x'", "3 of 4 left, lacks Escape"),
+        (r"'\X41'", "5 of 6 left, lacks Escape"),
+        (r"'\u0041'", "7 of 8 left, lacks Escape"),
+        (r"'\n\é'", "4 of 7 left, lacks Escape"),
+        (r"'\n\", "0 of 4 left, lacks Quote(39)"),
+        (r"'\q", "0 of 3 left, lacks Quote(39)"),
+        (r"'\'", "0 of 3 left, lacks Quote(39)"),
+        ("'\\\n'", "2 of 4 left, lacks Quote(39)"),
+        ("'\\\0'", "2 of 4 left, lacks Quote(39)"),
+    ] {
+        let got = shown(&rt, rt.alloc(), source)?;
+        assert_eq!(rt; got.as_str(), want, "at {source:?}");
+    }
+    assert!(rt; stands_for(r"proto\x33", b"proto3"));
+    assert!(rt; !stands_for("proto2", b"proto3"));
+    assert!(rt; stands_for_text(r"é\303\251\xf0\x9f\x98\x80"));
+    assert!(rt; !stands_for_text(r"\xed\xa0\x80"));
     Ok(())
 }
 

@@ -1,10 +1,9 @@
 use Rattle.std.proofs.Common.{ap, length, length-drop, sym, arith}
 use Rattle.std.specs.List.{prefix_len}
 use Rattle.std.proofs.lemmas.List.Sums.{prefix_len-le-length}
-use Rattle.pbx_token.specs.declared.piece.Run.TheVariants as runs
+use Rattle.pbx_token.specs.declared.run.Run.TheVariants as runs
 use Rattle.pbx_token.specs.Bytes.{passes}
 use Rattle.pbx_token.proofs.Laws.{word_runs}
-use Rattle.pbx_token.proofs.Utf8.{quoted_text}
 use Rattle.pbx_token.proofs.piece.piece.Goals as goal
 
 pub returns-in-Word-clause-shorter : goal.returns-in-Word-clause-shorter
@@ -12,6 +11,3 @@ returns-in-Word-clause-shorter c =
     let bytes = c.args.bytes.now in
     let n = prefix_len (passes runs.Word) bytes in
     omega (arith, ap length c.word_at.ensures.rest, word_runs bytes (sym c.in-Word.ensures), length-drop n bytes, prefix_len-le-length (passes runs.Word) bytes)
-
-pub text_of-requires : goal.text_of-requires
-text_of-requires c = quoted_text c.args.bytes.now c.in-Some-quoted_len.n (sym c.in-Quote.ensures) (sym c.in-Some-quoted_len.ensures.is) c.requires

@@ -1,7 +1,7 @@
 use Rattle.std.proofs.Common.{length, drop, ◌-◌, ◌≡◌, ◌≤◌, ◌+◌}
 use Rattle.std.specs.List.{prefix_len}
 use Rattle.pbx_token.specs.Bytes.{passes}
-use Rattle.pbx_token.proofs.piece.run_len.Given as goal
+use Rattle.pbx_token.proofs.run.run_len.Given as goal
 
 abbrev pub invariant-loop-n : goal.invariant-loop-n
 invariant-loop-n l = record {

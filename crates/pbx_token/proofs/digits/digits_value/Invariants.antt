@@ -1,6 +1,6 @@
 use Rattle.std.proofs.Common.{length, ◌≡◌}
 use Rattle.pbx_token.specs.Bytes.{digits_from}
-use Rattle.pbx_token.proofs.piece.digits_value.Given as goal
+use Rattle.pbx_token.proofs.digits.digits_value.Given as goal
 
 abbrev pub invariant-scan : goal.invariant-scan
 invariant-scan l = digits_from l.base l.value l.rest ≡ digits_from l.base l.front l.digits
