@@ -353,7 +353,7 @@ version_of (Some s) = syntax_version s
 abbrev pub tops_fit : Version → List Top → Bool
 tops_fit v ts = list_all (top_fits v) ts && nat_le (length (packages ts)) 1 && all_fit (option_fits places.File) (filter_map top_setting ts)
 
-abbrev fit_with : Option Version → List Top → Bool
+abbrev pub fit_with : Option Version → List Top → Bool
 fit_with None ts = false
 fit_with (Some v) ts = tops_fit v ts
 

@@ -2,6 +2,7 @@
 #![tactic(auto)]
 
 mod conditions;
+mod law;
 mod options;
 mod statements;
 mod tree;
@@ -10,6 +11,7 @@ pub use conditions::{
     Allowed, Expected, Unfit, key_fits, kind_fits, label_fits, listed, setting_fits, settings_fit,
     text_fits, type_fits,
 };
+pub use law::at_most_one;
 pub use options::{KnownOption, OptionKind, OptionPlace, known_option, optimize_mode};
 pub use statements::{
     enum_settings, file_settings, message_settings, method_settings, packages_fit, service_settings,
