@@ -6,3 +6,5 @@ pub mod UniqueTokens
 pub mod UniqueParts
 pub mod UniqueBlocks
 pub mod UniqueFile
+pub mod Examples
+pub mod Texts

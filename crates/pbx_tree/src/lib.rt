@@ -5,6 +5,8 @@ mod conditions;
 mod law;
 mod options;
 mod statements;
+#[cfg(test)]
+mod tests;
 mod tree;
 
 pub use conditions::{

@@ -5,7 +5,7 @@ ghost use Rattle.std.specs.Str.{is_utf8};
 ghost use Rattle.pbx_token.specs.Escapes.{unescaped};
 ghost use Rattle.pbx_tree.specs.Conditions.{is_enum_number};
 
-use pbx_token::Span;
+use pbx_token::{Span, stands_for_text};
 
 /// The version of the language that a file is written in.
 #[derive(Clone, Copy, Debug, PartialEq, Eq)]
@@ -65,6 +65,27 @@ pub struct Literal<'a> {
     /// Whether the bytes that it stands for are UTF-8.
     pub is_text: bool,
     ghost told: { is_text ≡ is_utf8 (unescaped text.now) },
+}
+
+impl<'a> Literal<'a> {
+    /// What is written between the quotes, and the place of the literal.
+    pub fn new(text: &'a str, span: Span) -> Literal<'a>
+        ensures text { result.text.now ≡ text.now }
+        ensures span { result.span ≡ span }
+    {
+        let is_text = is_text(text);
+        Literal {
+            text,
+            span,
+            is_text,
+        }
+    }
+}
+
+fn is_text(text: &str) -> bool
+    ensures { result ≡ is_utf8 (unescaped text.now) }
+{
+    stands_for_text(text)
 }
 
 /// The number of a field.
