@@ -9,7 +9,7 @@ use Rattle.std.specs.Result.{IsErr}
 use Rattle.pbx_tree.specs.declared.conditions.Unfit.{Unfit}
 use Rattle.pbx_tree.specs.Tree.{Setting}
 use Rattle.pbx_tree.specs.Fits.{Fits}
-use Rattle.pbx_tree.proofs.Tests.{both, joined, is_false}
+use Rattle.pbx_tree.proofs.Holds.{both, joined, is_false}
 use Rattle.pbx_tree.specs.Conditions.{lacks, all_fit}
 
 -- an error, where the test does not hold

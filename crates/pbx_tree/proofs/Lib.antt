@@ -1,4 +1,4 @@
-pub mod Tests
+pub mod Holds
 pub mod AllFit
 pub mod Seen
 pub mod Gathered

@@ -8,7 +8,7 @@ use Rattle.pbx_tree.specs.declared.tree.Version.{Version}
 use Rattle.pbx_tree.specs.Tree.{TypeName, Kind, scalar, named_type, Reserved, reserved_ranges, reserved_names, Field, MapField, Member, empty_member, member, Oneof, Extension, empty_extension, extension, Extend, Value, EnumItem, empty_in_enum, enum_value, enum_reserved, enum_option, Enum, MethodType, MethodItem, empty_in_method, method_option, MethodEnd, method_semicolon, method_block, Method, ServiceItem, empty_in_service, service_method, service_option, Service}
 use Rattle.pbx_tree.specs.Grammar.{marked, worded, word_then, number_then, type_then, kind_then, reserved_then, label_then, map_then, member_then, oneof_then, extension_then, extend_then, value_then, enum_item_then, enum_then, method_type_then, method_item_then, method_end_then, method_then, service_item_then, service_then}
 use Rattle.pbx_tree.specs.Conditions.{map_fits, member_fits, oneof_fits, extension_fits, extend_fits, method_type_fits, method_fits, service_item_fits, service_fits}
-use Rattle.pbx_tree.proofs.Tests.{both, always}
+use Rattle.pbx_tree.proofs.Holds.{both, always}
 use Rattle.pbx_tree.proofs.UniqueTokens.{heads, next_is, is_mark, is_string, begins_number, sees_mark, sees, sees_word, apart, word_same, named_same, number_same, any, closes, SpellsOnce, block_same}
 use Rattle.pbx_tree.proofs.UniqueParts.{type_same, type_sees, scalar_same, kind_same, number_begins, settings_same, statement_same, reserved_same, tail_same, kind_tail_same, field_same}
 

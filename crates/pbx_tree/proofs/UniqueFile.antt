@@ -16,7 +16,7 @@ use Rattle.pbx_tree.specs.Words.{scalar_word, label_word, modifier_word, is_labe
 use Rattle.pbx_tree.specs.Tree.{Name, Separated, Kind, scalar, named_type, Tail, Field, Item, empty_item, item_field, item_map, item_oneof, item_enum, item_extend, item_extensions, item_reserved, item_option, reserved_ranges, reserved_names, Head, Body, end, item, message, Syntax, Package, Import, Top, empty_top, top_package, top_import, top_message, top_enum, top_extend, top_service, top_option, File}
 use Rattle.pbx_tree.specs.Grammar.{marked, list_then, next_then, name_then, count_then, kind_then, tail_then, label_then, item_then, head_then, body_then, syntax_then, package_then, modifier_then, import_then, top_then, first_then, file_then}
 use Rattle.pbx_tree.specs.Conditions.{begins_with_no, item_fits, body_fits, top_fits, version_of, fit_with, Conditions}
-use Rattle.pbx_tree.proofs.Tests.{both, neither, from_not, to_not}
+use Rattle.pbx_tree.proofs.Holds.{both, neither, from_not, to_not}
 use Rattle.pbx_tree.proofs.UniqueTokens.{heads, first_is, is_string, sees_mark, sees_word, apart, word_same, named_same, quoted_same, count_same, any, closes, list_same}
 use Rattle.pbx_tree.proofs.UniqueParts.{full_same, statement_same, count_begins, reserved_same, extensions_same, field_same}
 use Rattle.pbx_tree.proofs.UniqueBlocks.{field_marks, map_same, oneof_same, extend_same, enum_same, service_same, reserved_marks}

@@ -11,7 +11,7 @@ use Rattle.pbx_tree.specs.Words.{scalar_word, label_word, is_scalar_word, is_lab
 use Rattle.pbx_tree.specs.Tree.{Name, Count, Number, Separated, TypeName, Kind, scalar, named_type, Constant, constant_number, constant_word, constant_string, Setting, Settings, Statement, RangeEnd, range_number, range_max, Range, Extensions, Reserved, reserved_ranges, reserved_names, Tail, Field}
 use Rattle.pbx_tree.specs.Grammar.{marked, separated_then, name_then, literal_then, count_then, number_then, full_then, type_then, kind_then, constant_then, setting_then, some_settings_then, settings_then, statement_then, range_end_then, to_then, range_then, extensions_then, reserved_then, tail_then, label_then, field_then}
 use Rattle.pbx_tree.specs.Conditions.{kind_fits, kind_is_no, begins_with_no}
-use Rattle.pbx_tree.proofs.Tests.{from_not}
+use Rattle.pbx_tree.proofs.Holds.{from_not}
 use Rattle.pbx_tree.proofs.UniqueTokens.{heads, first_is, is_string, begins_number, sees_mark, sees, sees_word, apart, word_same, span_same, named_same, quoted_same, counted_same, mark_then_same, number_same, count_same, SpellsOnce, any, all_separated_same}
 
 -- ---- names of types

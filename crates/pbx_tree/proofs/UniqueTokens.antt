@@ -10,7 +10,7 @@ use Rattle.pbx_token.specs.declared.token.Span.{Span}
 use Rattle.pbx_token.specs.Tokens.{Word, Token, ident, int, str, mark}
 use Rattle.pbx_tree.specs.Tree.{Name, Literal, Count, Number, Separated, all_of}
 use Rattle.pbx_tree.specs.Grammar.{marked, worded, named, quoted, counted, mark_then, list_then, next_then, separated_then, count_then, number_then}
-use Rattle.pbx_tree.proofs.Tests.{both, joined, to_not, always}
+use Rattle.pbx_tree.proofs.Holds.{both, joined, to_not, always}
 
 -- the parts of two lists that are equal
 pub heads : {t u : Token} {ts us : List Token} → t ∷ ts ≡ u ∷ us → (t ≡ u) × (ts ≡ us)
