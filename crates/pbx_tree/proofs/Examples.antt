@@ -1,15 +1,14 @@
 -- Some whole trees, the tokens that they spell, and whether they fit.
-use Rattle.std.proofs.Common.{◌≡◌, ℕ, ◌+◌, List, [], ◌∷◌, Bool, true, false, Option, Some, None, map, codes, refl}
+use Rattle.std.proofs.Common.{◌≡◌, ℕ, ◌+◌, List, [], ◌∷◌, true, false, Option, Some, None, map, codes, refl}
 use Rattle.pbx_token.specs.declared.token.Span.{Span}
-use Rattle.pbx_token.specs.Escapes.{unescaped_after}
 use Rattle.pbx_token.specs.Tokens.{Token, ident, int, str, mark}
 use Rattle.pbx_tree.specs.declared.tree.Scalar.TheVariants as scalars
 use Rattle.pbx_tree.specs.declared.tree.Label.TheVariants as labels
 use Rattle.pbx_tree.specs.declared.tree.Modifier.TheVariants as modifiers
 use Rattle.pbx_tree.specs.declared.tree.Version.TheVariants as versions
-use Rattle.pbx_tree.specs.Tree.{Name, Literal, Count, Number, Separated, TypeName, Kind, scalar, named_type, Constant, constant_number, constant_word, constant_string, Setting, Settings, Statement, RangeEnd, range_number, range_max, Range, Reserved, reserved_ranges, reserved_names, Tail, Field, MapField, empty_member, member, Oneof, EnumItem, enum_value, enum_option, Enum, MethodType, method_option, method_block, Method, item_field, item_oneof, Head, Body, end, item, message, Syntax, Package, Import, Top, empty_top, top_package, top_import, top_message, top_enum, File}
+use Rattle.pbx_tree.specs.Tree.{Name, Literal, Count, Number, TypeName, Kind, scalar, named_type, Constant, constant_number, constant_word, constant_string, Setting, RangeEnd, range_number, range_max, Range, Reserved, reserved_ranges, reserved_names, Tail, Field, MapField, empty_member, member, Oneof, method_option, method_block, Method, item_field, Body, end, item, message, empty_top, top_package, top_import, top_message, File}
 use Rattle.pbx_tree.specs.Grammar.{list_then, field_then, map_then, oneof_then, method_then, reserved_then, count_then, number_then, body_then, file_then}
-use Rattle.pbx_tree.specs.Conditions.{lacks, all_fit, field_fits, map_fits, oneof_fits, method_fits, reserved_fits, is_range_number, is_enum_number, item_fits, body_settings, body_fits, file_fits}
+use Rattle.pbx_tree.specs.Conditions.{lacks, all_fit, field_fits, map_fits, oneof_fits, method_fits, reserved_fits, is_range_number, is_enum_number, body_settings, body_fits}
 
 -- ---- the token of each place
 
