@@ -71,17 +71,17 @@ fn imports_are_refused_at_their_importer(rt: HostRuntime) -> Result<(), Fail> {
     let rows: [Step<'_>; 5] = [
         (
             "root.proto",
-            "root.proto: import 'existing.proto' was listed twice",
+            "root.proto:1:45: import 'existing.proto' was listed twice",
             there,
         ),
         (
             "above.proto",
-            "root.proto: import 'existing.proto' was listed twice",
+            "root.proto:1:45: import 'existing.proto' was listed twice",
             there,
         ),
         (
             "outer.proto",
-            "dep2.proto: import 'notfound.proto' not found",
+            "dep2.proto:1:45: import 'notfound.proto' not found",
             there,
         ),
         (
@@ -91,7 +91,7 @@ fn imports_are_refused_at_their_importer(rt: HostRuntime) -> Result<(), Fail> {
         ),
         (
             "gone.proto",
-            "gone.proto: import 'notfound.proto' not found",
+            "gone.proto:1:20: import 'notfound.proto' not found",
             "",
         ),
     ];
