@@ -109,37 +109,35 @@ const INDEXED: [FileRow<'static>; 5] = [
     ("b.proto", &[]),
 ];
 
-/// Whether an import of the file is listed twice or not found, without a place, and its index.
-fn refused_import(alloc: Global, path: &str) -> Result<(bool, u32), Fail> {
+/// Whether an import of the file is listed twice or not found, its index, and the column of its place on line 1.
+fn refused_import(alloc: Global, path: &str) -> Result<(bool, u32, u32), Fail> {
     let mut compiler = compiler_of(alloc, resolver_of(alloc, &INDEXED)?)?;
     let error = compiler.open_file(path).err().ok_or("accepted")?;
     match error.kind() {
         ErrorKind::DuplicateImport {
             index,
-            place: None,
+            place: Some((1, column)),
             ..
-        } => Ok((true, *index)),
+        } => Ok((true, *index, *column)),
         ErrorKind::ImportNotFound {
             index,
-            place: None,
+            place: Some((1, column)),
             ..
-        } => Ok((false, *index)),
-        _ => Ok((false, 0)),
+        } => Ok((false, *index, *column)),
+        _ => Ok((false, 0, 0)),
     }
 }
 
 #[test]
-fn refused_imports_have_their_index(rt: HostRuntime) -> Result<(), Fail> {
+fn refused_imports_have_their_place(rt: HostRuntime) -> Result<(), Fail> {
     let alloc = rt.alloc();
-    let (twice, index) = refused_import(alloc, "second.proto")?;
-    assert!(rt; twice);
-    assert_eq!(rt; index, 1);
-    let (twice, index) = refused_import(alloc, "third.proto")?;
-    assert!(rt; twice);
-    assert_eq!(rt; index, 2);
-    let (twice, index) = refused_import(alloc, "gone.proto")?;
-    assert!(rt; !twice);
-    assert_eq!(rt; index, 1);
+    for (path, want) in [
+        ("second.proto", (true, 1, 38)),
+        ("third.proto", (true, 2, 56)),
+        ("gone.proto", (false, 1, 38)),
+    ] {
+        assert_eq!(rt; refused_import(alloc, path)?, want, "at {path:?}");
+    }
     Ok(())
 }
 
@@ -210,7 +208,7 @@ fn faulty(alloc: Global) -> Result<MemoryResolver, Fail> {
 #[test]
 fn faults_of_files_are_told(rt: HostRuntime) -> Result<(), Fail> {
     let alloc = rt.alloc();
-    let bad = "bad.proto:2:1: expected 'import' or 'message', but found 'M'";
+    let bad = "bad.proto:2:1: expected ';' or a keyword that begins a statement, but found 'M'";
     let other = "file 'a.proto' declares the name 'b.proto'";
     let unnamed = "file 'none.proto' declares the name ''";
     let old = "old.proto: record not built yet";
