@@ -101,6 +101,47 @@ fn imports_are_refused_at_their_importer(rt: HostRuntime) -> Result<(), Fail> {
     Ok(())
 }
 
+/// Sources whose imports stand at other places than in a row of statements.
+const PLACED: [(&str, &str); 4] = [
+    ("existing.proto", "syntax = \"proto3\";"),
+    (
+        "root.proto",
+        "import 'existing.proto'; import 'existing.proto';",
+    ),
+    ("gone.proto", "// comment \nimport 'notfound.proto';"),
+    ("long.proto", "import\n'notfound.proto';"),
+];
+
+#[test]
+fn imports_have_the_place_of_their_statement(rt: HostRuntime) -> Result<(), Fail> {
+    let alloc = rt.alloc();
+    let mut resolver = MemoryResolver::new(alloc);
+    for (name, source) in PLACED {
+        resolver.put(name, source)?;
+    }
+    let mut compiler = compiler_of(alloc, resolver)?;
+    let there = "existing.proto(import)";
+    let steps: [Step<'_>; 3] = [
+        (
+            "root.proto",
+            "root.proto:1:26: import 'existing.proto' was listed twice",
+            there,
+        ),
+        (
+            "gone.proto",
+            "gone.proto:2:1: import 'notfound.proto' not found",
+            there,
+        ),
+        // A statement over two lines has no place.
+        (
+            "long.proto",
+            "long.proto: import 'notfound.proto' not found",
+            there,
+        ),
+    ];
+    run(&rt, alloc, &mut compiler, &steps)
+}
+
 const INDEXED: [FileRow<'static>; 5] = [
     ("second.proto", &["a.proto", "a.proto"]),
     ("third.proto", &["a.proto", "b.proto", "a.proto"]),
