@@ -3,6 +3,7 @@ pub mod Spelling
 pub mod Texts
 pub mod Begin
 pub mod FieldFirst
+pub mod Pieces
 pub mod Steps
 pub mod ItemForms
 pub mod TopForms

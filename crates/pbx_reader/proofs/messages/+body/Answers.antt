@@ -1,16 +1,16 @@
-use Rattle.std.proofs.Common.{rules, ◌≡◌, ◌∙◌, ◌++◌, ◌∷◌, [], List, ℕ, Option, Some, None, Result, Ok, Err, IfOk, map, true, false, codes, refl, sym, ap, arith}
+use Rattle.std.proofs.Common.{◌≡◌, ◌∙◌, ◌++◌, ◌∷◌, [], List, ℕ, Option, Some, None, Result, Ok, Err, IfOk, map, true, false, codes, refl, sym, ap, arith}
 use Rattle.std.proofs.lemmas.Result.{err_from_is_err_and}
 use Rattle.std.proofs.lemmas.List.{map_push}
 use Rattle.pbx_token.specs.declared.token.Span.{Span}
 use Rattle.pbx_token.specs.Tokens.{Token}
 use Rattle.pbx_tree.specs.declared.tree.Version.{Version}
-use Rattle.pbx_tree.specs.declared.tree.Item.TheVariants as code
 use Rattle.pbx_tree.specs.Tree.{Head, Body, end, Top, empty_top, top_package, top_import, top_message, top_enum, top_extend, top_service, top_option}
 use Rattle.pbx_tree.specs.Grammar.{body_then}
 use Rattle.pbx_tree.specs.Conditions.{body_fits}
-use Rattle.pbx_tree.specs.View.{Piece, plain, nested, head_of, body_of, item_of, add, all_before}
+use Rattle.pbx_tree.specs.View.{Piece, plain, nested, item_of, add, all_before}
 use Rattle.pbx_reader.specs.Bodies.{piece_then, piece_fits}
 use Rattle.pbx_reader.specs.View.{left, sees_word, ends_block}
+use Rattle.pbx_reader.proofs.Pieces.{piece_of_message}
 use Rattle.pbx_reader.proofs.Steps.{before_push, add_then, add_fits, end_then, end_fits, begins, ended, nested_fits}
 use Rattle.pbx_reader.proofs.ItemForms.{other, plain_goes}
 use Rattle.pbx_reader.proofs.messages.+body.Goals as goal
@@ -90,5 +90,4 @@ one_item-returns-clause-only t c = λ p rest fit e.
     let fits = sym (nested_fits c.args.version c.args.levels x.0.0 x.0.1 x.0.2 c.if-levels-eq0.false) ∙ sym (ap (piece_fits c.args.version c.args.levels) x.1) ∙ fit in
     let m = c.in_ok-message.message in
     let r = c.in_ok-message.ensures.only x.0.0 x.0.1 x.0.2 rest fits (e ∙ ap (λ (y : Piece). piece_then y rest) x.1) in
-    let is : item_of (code.Message m.head m.items m.close) ≡ nested (head_of m.head) (body_of m.items.items) m.close = search rules in
-    (is ∙ same_nested _ _ _ _ _ _ r.0 ∙ sym x.1, r.1)
+    (piece_of_message m.head m.items m.close ∙ same_nested _ _ _ _ _ _ r.0 ∙ sym x.1, r.1)

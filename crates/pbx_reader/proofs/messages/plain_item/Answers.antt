@@ -1,12 +1,12 @@
-use Rattle.std.proofs.Common.{rules, ◌≡◌, ◌∙◌, true, codes, sym, ap}
+use Rattle.std.proofs.Common.{◌≡◌, ◌∙◌, true, codes, sym, ap}
 use Rattle.std.proofs.lemmas.Result.{err_from_is_err_and}
-use Rattle.pbx_tree.specs.declared.tree.Item.TheVariants as code
 use Rattle.pbx_tree.specs.Tree.{MapField, Item, item_map}
 use Rattle.pbx_tree.specs.Grammar.{item_then}
 use Rattle.pbx_tree.specs.Conditions.{item_fits}
-use Rattle.pbx_tree.specs.View.{Piece, plain, item_of, map_of}
+use Rattle.pbx_tree.specs.View.{Piece, plain}
 use Rattle.pbx_reader.specs.View.{left, sees_word, sees_both}
 use Rattle.pbx_reader.proofs.ItemForms.{is_map, is_oneof, is_enum, is_extend}
+use Rattle.pbx_reader.proofs.Pieces.{piece_of_map}
 use Rattle.pbx_reader.proofs.messages.plain_item.Goals as goal
 
 pub returns-then-sees_both-clause-only : goal.returns-then-sees_both-clause-only
@@ -15,8 +15,7 @@ returns-then-sees_both-clause-only c = λ i rest fit e.
     let x = is_map c.args.version i rest (left c.args.cursor.now) seen fit e in
     let r = c.in_ok-map_field.ensures.only x.0 rest (sym (ap (item_fits c.args.version) x.1) ∙ fit) (e ∙ ap (λ (y : Item). item_then y rest) x.1) in
     let made : MapField → Piece = λ m. plain (item_map m) in
-    let is : item_of (code.Map c.in_ok-map_field.field-0) ≡ made (map_of c.in_ok-map_field.field-0) = search rules in
-    (is ∙ ap made r.0 ∙ ap plain (sym x.1), r.1)
+    (piece_of_map c.in_ok-map_field.field-0 ∙ ap made r.0 ∙ ap plain (sym x.1), r.1)
 
 pub returns-in_err-oneof-clause-only : goal.returns-in_err-oneof-clause-only
 returns-in_err-oneof-clause-only c = λ i rest fit e.
