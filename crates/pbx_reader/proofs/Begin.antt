@@ -11,7 +11,7 @@ use Rattle.pbx_tree.specs.Tree.{Item, empty_item, item_field, item_map, item_one
 use Rattle.pbx_tree.specs.Grammar.{list_then, item_then, top_then, worded, number_then, value_then, enum_item_then, method_item_then, service_item_then, label_then, tail_then, member_then, extension_then, reserved_then, mark_then, full_then, type_then, kind_then}
 use Rattle.pbx_tree.specs.Conditions.{type_fits, stream_fits, kind_is_no, begins_with_no}
 use Rattle.pbx_tree.specs.Words.{is_scalar_word, is_label_word, scalar_word}
-use Rattle.pbx_reader.specs.View.{ends_block, ends_file, sees, sees_mark, sees_word, sees_without, word_follows, number, label_follows}
+use Rattle.pbx_reader.specs.View.{ends_block, ends_file, sees, sees_type, sees_mark, sees_word, sees_without, word_follows, number, label_follows}
 
 type_with : (d : Option Span) (f : Separated Name) (rest : List Token) → type_fits (record { dot = d; full = f }) ≡ not (sees is_scalar_word (mark_then 46 d (full_then f rest)))
 type_with None f rest = refl
@@ -20,6 +20,14 @@ type_with (Some s) f rest = refl
 -- a type that fits does not begin with the word of a scalar type
 pub type_begins : (t : TypeName) (rest : List Token) → type_fits t ≡ not (sees is_scalar_word (type_then t rest))
 type_begins t rest = type_with t.dot t.full rest
+
+type_next_with : (d : Option Span) (f : Separated Name) (rest : List Token) → sees_type (mark_then 46 d (full_then f rest)) ≡ true
+type_next_with None f rest = refl
+type_next_with (Some s) f rest = refl
+
+-- a type begins with a name or a dot
+pub type_is_next : (t : TypeName) (rest : List Token) → sees_type (type_then t rest) ≡ true
+type_is_next t rest = type_next_with t.dot t.full rest
 
 pub all_names : {A : Type 0} (xs : List A) → list_all (λ _. true) xs ≡ true
 all_names [] = refl

@@ -44,6 +44,12 @@ begins_number (int n) = true
 begins_number (str t) = false
 begins_number (mark c) = c == 45
 
+abbrev pub begins_type : Word → Bool
+begins_type (ident t) = true
+begins_type (int n) = false
+begins_type (str t) = false
+begins_type (mark c) = c == 46
+
 -- the mark is next
 abbrev pub sees_mark : ℕ → List Token → Bool
 sees_mark b [] = false
@@ -67,6 +73,11 @@ sees_string (t ∷ ts) = is_string t.word
 abbrev pub sees_number : List Token → Bool
 sees_number [] = false
 sees_number (t ∷ ts) = begins_number t.word
+
+-- a name or a dot is next
+abbrev pub sees_type : List Token → Bool
+sees_type [] = false
+sees_type (t ∷ ts) = begins_type t.word
 
 abbrev pub tail : List Token → List Token
 tail [] = []

@@ -12,7 +12,7 @@ ghost use Rattle.pbx_tree.specs.Tree as tree;
 ghost use Rattle.pbx_tree.specs.Grammar.{marked, worded, named, quoted, counted, mark_then, word_then, number_then};
 ghost use Rattle.pbx_tree.specs.Conditions.{is_text as text_fits_of, is_field_number, is_range_number, is_enum_number};
 ghost use Rattle.pbx_tree.specs.View.{name_of, literal_of, field_number_of, range_number_of, enum_number_of, number_of};
-ghost use Rattle.pbx_reader.specs.View.{left, sees_mark, sees_word, sees_both, sees_without, word_follows, tail, ends_block, sees_string, sees_number, number, Reaches};
+ghost use Rattle.pbx_reader.specs.View.{left, sees_mark, sees_word, sees_both, sees_without, word_follows, tail, ends_block, sees_string, sees_number, sees_type, number, Reaches};
 
 use crate::error::ReadError;
 use pbx_token::{Span, Token, Word, stands_for_text};
@@ -146,6 +146,20 @@ impl<'s, 'a> Cursor<'s, 'a> {
             Some(token) => match token.word {
                 Word::Int(_) => true,
                 Word::Mark(b) => b == b'-',
+                _ => false,
+            },
+            None => false,
+        }
+    }
+
+    /// Whether a name or a dot is next.
+    pub fn sees_type(&self) -> bool
+        ensures { result ≡ sees_type (left self.now) }
+    {
+        match self.peek() {
+            Some(token) => match token.word {
+                Word::Ident(_) => true,
+                Word::Mark(b) => b == b'.',
                 _ => false,
             },
             None => false,

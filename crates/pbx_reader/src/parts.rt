@@ -54,11 +54,15 @@ pub fn full_name<'a>(
 }
 
 /// The name of a type, which may be a scalar type's word.
+#[tactic(auto, using(crate::proofs::Begin::type_is_next))]
 pub fn type_name<'a>(alloc: Global, cursor: &mut Cursor<'_, 'a>) -> Result<TypeName<'a>, ReadError>
     ensures found { IfOk result (λ t. left cursor.old ≡ type_then (type_of t) (left cursor.new)) }
     ensures only { (t : tree.TypeName) (rest : List tokens.Token) → sees_mark 46 rest ≡ false → left cursor.old ≡ type_then t rest → Reaches type_of t rest result (left cursor.new) }
     ensures shorter { OnOk result (length (left cursor.new) < length (left cursor.old)) }
 {
+    if !cursor.sees_type() {
+        return Err(cursor.unexpected(Expected::Type));
+    }
     let dot = cursor.eat(b'.');
     let full = full_name(alloc, cursor)?;
     Ok(TypeName { dot, full })
