@@ -1,4 +1,4 @@
-use Rattle.std.proofs.Common.{◌≡◌, ◌∙◌, Bool, true, false, Option, Some, None, if◌then◌else◌, refl, sym, ap}
+use Rattle.std.proofs.Common.{◌≡◌, ◌∙◌, Bool, true, Option, Some, None, if◌then◌else◌, refl, sym, ap}
 use Rattle.pbx_tree.specs.Tree.{Field}
 use Rattle.pbx_tree.specs.View.{field_of}
 use Rattle.pbx_translation.specs.Fields.{is_proto3_optional, labelled_field, typed_field, untyped_field}

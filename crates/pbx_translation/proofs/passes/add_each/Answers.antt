@@ -1,4 +1,3 @@
-use Rattle.std.proofs.Common.{◌≡◌}
 use Rattle.pbx_translation.proofs.Lists.{begins}
 use Rattle.pbx_translation.proofs.passes.add_each.Goals as goal
 

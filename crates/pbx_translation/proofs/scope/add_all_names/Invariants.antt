@@ -1,4 +1,4 @@
-use Rattle.std.proofs.Common.{◌≡◌, ℕ, List, ◌++◌, take}
+use Rattle.std.proofs.Common.{ℕ, List, ◌++◌, take}
 use Rattle.std.specs.List.{flat_map}
 use Rattle.pbx_translation.specs.Scope.{Holds}
 use Rattle.pbx_translation.proofs.scope.add_all_names.Given as goal

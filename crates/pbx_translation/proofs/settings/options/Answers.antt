@@ -1,4 +1,4 @@
-use Rattle.std.proofs.Common.{◌∙◌, refl, sym, ap}
+use Rattle.std.proofs.Common.{◌∙◌, sym, ap}
 use Rattle.std.proofs.lemmas.Bool.{false≢true}
 use Rattle.pbx_translation.specs.Settings.{options_with}
 use Rattle.pbx_translation.proofs.Placed.{options_all, options_some}

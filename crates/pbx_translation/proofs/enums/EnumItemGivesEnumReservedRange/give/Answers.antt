@@ -1,4 +1,4 @@
-use Rattle.std.proofs.Common.{◌≡◌, ◌∙◌, ◌++◌, sym, ap}
+use Rattle.std.proofs.Common.{◌∙◌, ◌++◌, sym, ap}
 use Rattle.std.proofs.lemmas.Result.{on_ok_weaker}
 use Rattle.pbx_tree.specs.declared.tree.EnumItem.TheVariants as enum_items
 use Rattle.pbx_tree.specs.View.{range_of, enum_number_of, enum_item_of}

@@ -1,9 +1,8 @@
-use Rattle.std.proofs.Common.{◌≡◌, ◌∙◌, ℕ, List, Bool, true, if◌then◌else◌, sym, ap, arith, string_bytes}
+use Rattle.std.proofs.Common.{◌∙◌, Bool, true, if◌then◌else◌, sym, ap, arith, string_bytes}
 use Rattle.std.specs.Str.{bytes_eq}
 use Rattle.std.specs.BTreeSet.{contains_text}
 use Rattle.std.proofs.lemmas.Grind.{common_steps}
 use Rattle.std.proofs.lemmas.Map.Text.{btree_set_updates_text}
-use Rattle.pbx_translation.specs.Messages.{is_among}
 use Rattle.pbx_translation.proofs.Taken.{among_more, swapped}
 use Rattle.pbx_translation.proofs.scope.Scope.add.Goals as goal
 
