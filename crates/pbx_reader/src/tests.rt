@@ -8,81 +8,70 @@ use std::test::Fail;
 
 // The index of the token of this span.
 fn index_of(tokens: &[Token<'_>], place: Span) -> usize {
-    let mut at = 0;
-    for token in tokens {
-        if token.span == place {
-            return at;
-        }
-        at += 1;
-    }
-    at
+    let at = tokens.iter().position(|token| token.span == place);
+    at.unwrap_or(tokens.len())
 }
 
 // Nothing for tokens that spell a file, else the index of the one that cannot stand there and what could.
 fn outcome(alloc: Global, tokens: &[Token<'_>]) -> Result<String, Fail> {
-    match read_file(alloc, tokens) {
-        Ok(_) => Ok(String::new(alloc)),
-        Err(ReadError::NoMemory) => Ok(String::from_str(alloc, "no memory")?),
-        Err(ReadError::Unexpected { at, expected }) => Ok(format!(in alloc; "{at} {expected:?}")?),
-        Err(ReadError::Unfit(unfit)) => {
-            let at = index_of(tokens, unfit.place);
-            let expected = unfit.expected;
-            Ok(format!(in alloc; "{at} {expected:?}")?)
-        }
-    }
+    let (at, expected) = match read_file(alloc, tokens) {
+        Ok(_) => return Ok(String::new(alloc)),
+        Err(ReadError::NoMemory) => return Ok(String::from_str(alloc, "no memory")?),
+        Err(ReadError::Unexpected { at, expected }) => (at, expected),
+        Err(ReadError::Unfit(unfit)) => (index_of(tokens, unfit.place), unfit.expected),
+    };
+    let words = expected.words();
+    Ok(format!(in alloc; "{at} {words}")?)
 }
 
-fn of_source(rt: &impl Abort, alloc: Global, source: &str) -> Result<String, Fail> {
+fn expect(rt: &impl Abort, alloc: Global, source: &str, want: &str) -> Result<(), Fail> {
     assert!(rt; source.len() < 2147483648);
     let tokens = lex(alloc, source)?;
-    outcome(alloc, tokens.as_slice())
+    let got = outcome(alloc, tokens.as_slice())?;
+    assert_eq!(rt; got.as_str(), want, "at {source:?}");
+    Ok(())
 }
 
 fn all_read(rt: &impl Abort, alloc: Global, rows: &[(&str, &str)]) -> Result<(), Fail> {
     for (source, want) in rows {
-        let got = of_source(rt, alloc, source)?;
-        assert_eq!(rt; got.as_str(), *want, "at {source:?}");
+        expect(rt, alloc, source, want)?;
     }
     Ok(())
 }
 
-// What is expected at each place of the tokens in turn, from this one on, where a mark stands that no form has.
-fn stops(alloc: Global, tokens: &[Token<'_>], first: usize) -> Result<String, Fail> {
-    let mut all = String::new(alloc);
-    for k in first..tokens.len() + 1 {
-        let mut front = Vec::new(alloc);
-        for token in tokens.iter().take(k) {
-            front.push(*token)?;
-        }
-        front.push(Token {
-            word: Word::Mark(b'?'),
-            span: Span {
-                line: 9,
-                from: 0,
-                to: 1,
-            },
-        })?;
-        let got = outcome(alloc, front.as_slice())?;
-        if k > first {
-            all.push_str(" ")?;
-        }
-        all.push_str(got.as_str())?;
-        all.push_str(",")?;
+// The first tokens, and a mark that no form has.
+fn broken<'a>(alloc: Global, tokens: &[Token<'a>], count: usize) -> Result<Vec<Token<'a>>, Fail> {
+    let mut front = Vec::new(alloc);
+    for token in tokens.iter().take(count) {
+        front.push(*token)?;
     }
-    Ok(all)
+    front.push(Token {
+        word: Word::Mark(b'?'),
+        span: Span {
+            line: 9,
+            from: 0,
+            to: 1,
+        },
+    })?;
+    Ok(front)
 }
 
-fn all_stop(
-    rt: &impl Abort,
-    alloc: Global,
-    first: usize,
-    rows: &[(&str, &str)],
-) -> Result<(), Fail> {
-    for (source, want) in rows {
-        assert!(rt; source.len() < 2147483648);
-        let tokens = lex(alloc, source)?;
-        let got = stops(alloc, tokens.as_slice(), first)?;
-        assert_eq!(rt; got.as_str(), *want, "at {source:?}");
+// Tokens with what could stand in place of each: they spell a file, and none with another token there.
+fn stops(rt: &impl Abort, alloc: Global, row: &[(&str, &str)]) -> Result<(), Fail> {
+    let mut source = String::new(alloc);
+    for (token, _) in row {
+        source.push_str(token)?;
+        source.push_str(" ")?;
+    }
+    let source = source.as_str();
+    expect(rt, alloc, source, "")?;
+    assert!(rt; source.len() < 2147483648);
+    let tokens = lex(alloc, source)?;
+    for (k, (_, words)) in row.iter().enumerate() {
+        let front = broken(alloc, tokens.as_slice(), k)?;
+        let got = outcome(alloc, front.as_slice())?;
+        let want = format!(in alloc; "{k} {words}")?;
+        assert_eq!(rt; got.as_str(), want.as_str(), "in {source:?}");
     }
     Ok(())
 }
@@ -99,43 +88,84 @@ fn nested(alloc: Global, levels: usize) -> Result<String, Fail> {
     Ok(source)
 }
 
+// A word of a scalar type is that type, unless a dot stands before it.
+#[test]
+fn scalars(rt: HostRuntime) -> Result<(), Fail> {
+    let key = "5 an integer type, 'bool' or 'string'";
+    for (word, as_key) in [
+        ("double", key),
+        ("float", key),
+        ("int32", ""),
+        ("int64", ""),
+        ("uint32", ""),
+        ("uint64", ""),
+        ("sint32", ""),
+        ("sint64", ""),
+        ("fixed32", ""),
+        ("fixed64", ""),
+        ("sfixed32", ""),
+        ("sfixed64", ""),
+        ("bool", ""),
+        ("string", ""),
+        ("bytes", key),
+    ] {
+        let map = format!(in rt.alloc(); "message M{{map<{word},{word}>a=1;}}")?;
+        expect(&rt, rt.alloc(), map.as_str(), as_key)?;
+        let named = format!(in rt.alloc(); "extend {word}{{}}")?;
+        expect(&rt, rt.alloc(), named.as_str(), "1 a type")?;
+        let dotted = format!(in rt.alloc(); "extend.{word}{{required.{word} a=1;}}")?;
+        expect(&rt, rt.alloc(), dotted.as_str(), "")?;
+    }
+    Ok(())
+}
+
+// What a word begins in a message, where it is the type of a oneof's member.
 #[test]
 fn first_word_decides(rt: HostRuntime) -> Result<(), Fail> {
+    for (word, want) in [
+        ("message", "9 '{'"),
+        ("enum", "9 '{'"),
+        ("oneof", "9 '{'"),
+        ("extend", "9 '{'"),
+        ("extensions", "8 a number of at most 536870911"),
+        ("reserved", "8 a string"),
+        ("option", "8 a known option"),
+        ("optional", "9 an identifier"),
+        ("required", "9 an identifier"),
+        ("repeated", "9 an identifier"),
+        ("map", ""),
+        ("rpc", ""),
+        ("Message", ""),
+    ] {
+        let item = format!(in rt.alloc(); "syntax='proto3';message M{{{word} a=1;}}")?;
+        expect(&rt, rt.alloc(), item.as_str(), want)?;
+        let member = format!(in rt.alloc(); "message M{{oneof o{{{word} a=1;}}}}")?;
+        expect(&rt, rt.alloc(), member.as_str(), "")?;
+    }
     all_read(
         &rt,
         rt.alloc(),
         &[
             ("", ""),
+            ("message M{optional optional optional=1;}", ""),
+            ("syntax='proto3';message M{.message message=1;}", ""),
+            ("syntax='proto3';message M{map map<int32,M>a=1;}", "9 '='"),
+            ("syntax='proto3';extend M{option a=1;map b=2;}", ""),
+            ("syntax='proto3';extend M{optional a=1;}", "9 an identifier"),
+            ("message M{optional int32.B a=1;}", "5 an identifier"),
+            ("enum E{reserved=0;option=1;message=2;}", ""),
+            ("enum E{reserved A;}", "4 a string"),
+            ("service S{rpc A(stream stream)returns(stream.stream);}", ""),
+            ("service S{rpc A(stream)returns(B);}", "7 a type"),
+            ("service S{rpc A(.stream)returns(int32);}", "11 a type"),
             (
-                "syntax='proto\\x33';message M{int32 a=1;map map=2;.map b=3;}",
-                "",
-            ),
-            ("syntax='proto2';;", ""),
-            (
-                "message M{optional optional optional=1;optional .int32 message=2;}",
-                "",
+                "syntax='proto3';syntax='proto3';",
+                "4 ';' or a keyword that begins a statement",
             ),
             (
-                "syntax='proto3';message M{oneof o{option a=1;message b=2;map c=3;}}",
-                "",
+                ";syntax='proto3';",
+                "1 ';' or a keyword that begins a statement",
             ),
-            (
-                "syntax='proto3';extend M{option a=1;message b=2;extend c=3;}",
-                "",
-            ),
-            ("syntax='proto3';extend M{optional a=1;}", "9 Identifier"),
-            ("syntax='proto3';message M{message a=1;}", "9 Mark(123)"),
-            ("syntax='proto3';message M{option a=1}", "11 Mark(59)"),
-            ("message M{optional int32.B a=1;}", "5 Identifier"),
-            ("enum E{reserved=0;option=1;option allow_alias=true;}", ""),
-            (
-                "service S{rpc A(stream stream)returns(stream.stream.B){}}",
-                "",
-            ),
-            ("service S{rpc A(stream)returns(B);}", "7 Identifier"),
-            ("service S{rpc A(.stream)returns(int32);}", "11 Type"),
-            ("extend int32{}", "1 Type"),
-            ("import weak'a.proto';import public'\\'';", ""),
         ],
     )
 }
@@ -146,177 +176,476 @@ fn conditions(rt: HostRuntime) -> Result<(), Fail> {
         &rt,
         rt.alloc(),
         &[
-            ("message M{int32 a=1;}", "3 Label"),
-            ("syntax='proto4';", "2 Version"),
-            ("syntax='proto3';syntax='proto3';", "4 Top"),
-            ("package a;package b.c;", "3 OnePackage"),
-            ("import'\\377';", "1 Text"),
-            ("message M{reserved'a','\\377';}", "6 Text"),
+            ("syntax='proto\\x33';message M{int32 a=1;}", ""),
+            ("syntax='proto2';message M{int32 a=1;}", "7 a label"),
+            ("message M{int32 a=1;}", "3 a label"),
+            ("message M{oneof o{int32 a=1;}map<int32,M>b=2;}", ""),
+            ("extend M{int32 a=1;}", "3 a label"),
+            ("syntax='proto4';", "2 \"proto2\" or \"proto3\""),
+            ("package a;package b.c;", "3 no second package"),
+            ("import'\\303\\251';", ""),
+            ("import'\\303';", "1 a string in UTF-8"),
+            ("message M{reserved'a','\\377';}", "6 a string in UTF-8"),
             (
-                "syntax='proto3';message M{map<float,int32>a=1;}",
-                "9 KeyType",
+                "message M{message N{option map_entry=true;}}",
+                "7 a known option",
+            ),
+            ("enum E{A=0[packed=true];}", "7 a known option"),
+            ("service S{option deprecated='a';}", "6 'true' or 'false'"),
+            (
+                "service S{rpc A(B)returns(C){option a=1;}}",
+                "14 a known option",
             ),
             (
-                "option java_package='a';option java_package='b';",
-                "6 UnsetOption",
+                "option go_package='\\n\\r\\t\\a\\b\\f\\v\\\\\\'\\\"\\?\\x1\\x7f\\0\\12\\177';",
+                "",
             ),
-            ("option packed=true;", "1 KnownOption"),
-            ("message M{option deprecated=1;}", "6 Bool"),
+            ("option go_package='\\x80';", "3 a string in UTF-8"),
+            ("option deprecated=1;", "3 'true' or 'false'"),
+            ("option optimize_for=LITE_RUNTIME;", ""),
+            (
+                "option optimize_for=FAST;",
+                "3 'SPEED', 'CODE_SIZE' or 'LITE_RUNTIME'",
+            ),
+            (
+                "option go_package='a';option go_package='a';",
+                "6 an option that is not set yet",
+            ),
+            (
+                "message M{option deprecated=true;message N{option deprecated=false;}}",
+                "",
+            ),
             (
                 "enum E{option allow_alias=true;option allow_alias=true;}",
-                "9 UnsetOption",
+                "9 an option that is not set yet",
             ),
-            ("service S{option deprecated='a';}", "6 Bool"),
             (
-                "service S{rpc A(B)returns(C){option packed=true;}}",
-                "14 KnownOption",
-            ),
-            ("enum E{A=0[packed=true];}", "7 KnownOption"),
-            ("message M{optional float a=1[default=1];}", "9 KnownOption"),
-            (
-                "syntax='proto3';message M{map<int32,int32>a=1[default=1];}",
-                "17 KnownOption",
+                "syntax='proto3';message M{map<int32,M>a=1[default=1];}",
+                "17 a known option",
             ),
         ],
     )
+}
+
+// Options of a field of this type, where it has them.
+#[test]
+fn field_options(rt: HostRuntime) -> Result<(), Fail> {
+    for (kind, options, want) in [
+        (
+            "int32",
+            "json_name='a',packed=true,deprecated=false,default=-1",
+            "",
+        ),
+        ("uint32", "default=-18446744073709551615", ""),
+        ("int32", "default=true", "11 an integer"),
+        ("float", "default=1", "9 a known option"),
+        ("double", "default=inf", "9 a known option"),
+        ("bool", "default=false", ""),
+        ("bool", "default=-1", "11 'true' or 'false'"),
+        ("string", "default='\\303\\251'", ""),
+        ("string", "default='\\303'", "11 a string in UTF-8"),
+        ("bytes", "default='\\303'", ""),
+        ("bytes", "default=a", "11 a string"),
+        ("M", "default=A", ""),
+        ("M", "default='A'", "11 an identifier"),
+        ("int32", "json_name=a", "11 a string in UTF-8"),
+        ("int32", "packed=1", "11 'true' or 'false'"),
+        ("int32", "ctype=CORD", "9 a known option"),
+        (
+            "int32",
+            "packed=true,packed=true",
+            "13 an option that is not set yet",
+        ),
+    ] {
+        let source = format!(in rt.alloc(); "message M{{optional {kind} a=1[{options}];}}")?;
+        expect(&rt, rt.alloc(), source.as_str(), want)?;
+    }
+    Ok(())
 }
 
 #[test]
 fn borders(rt: HostRuntime) -> Result<(), Fail> {
-    all_read(
-        &rt,
-        rt.alloc(),
-        &[
-            ("message M{optional int32 a=2147483647;}", ""),
-            ("message M{optional int32 a=2147483648;}", "7 FieldNumber"),
-            ("message M{extensions 536870911 to 536870911;}", ""),
-            ("message M{extensions 536870912;}", "4 RangeNumber"),
-            ("message M{reserved 1 to 536870912;}", "6 RangeNumber"),
-            ("enum E{A=-2147483648;B=2147483647;}", ""),
-            ("enum E{A=-2147483649;}", "6 EnumNumber"),
-            ("enum E{A=2147483648;}", "5 EnumNumber"),
-            ("enum E{reserved -2147483648 to 2147483647;}", ""),
-            ("enum E{reserved 0 to 2147483648;}", "6 EnumNumber"),
-        ],
-    )?;
+    for (statement, want) in [
+        ("optional int32 a=2147483647;", ""),
+        ("optional int32 a=2147483648;", "7 a field number"),
+        ("optional int32 a=-1;", "7 a field number"),
+        ("optional int32 a=0x7fffffff;", ""),
+        ("optional int32 a=0X80000000;", "7 a field number"),
+        ("optional int32 a=017777777777;", ""),
+        ("optional int32 a=020000000000;", "7 a field number"),
+        ("optional int32 a=536870912;", ""),
+        ("extensions 0,536870911 to 536870911;", ""),
+        ("extensions 536870912;", "4 a number of at most 536870911"),
+        (
+            "extensions 1 to 536870912;",
+            "6 a number of at most 536870911",
+        ),
+        ("extensions -1;", "4 a number of at most 536870911"),
+        ("reserved 0x1fffffff,03777777777 to 0;", ""),
+        ("reserved 04000000000;", "4 a number of at most 536870911"),
+        (
+            "reserved 1 to 0x20000000;",
+            "6 a number of at most 536870911",
+        ),
+        ("reserved -1;", "4 a number of at most 536870911"),
+        ("enum E{A=-2147483648;B=2147483647;}", ""),
+        ("enum E{A=-2147483649;}", "9 a 32-bit integer"),
+        ("enum E{A=2147483648;}", "8 a 32-bit integer"),
+        ("enum E{A=-0x80000000;B=-017777777777;}", ""),
+        ("enum E{A=0x80000000;}", "8 a 32-bit integer"),
+        ("enum E{reserved -2147483648 to 2147483647;}", ""),
+        ("enum E{reserved -2147483649;}", "8 a 32-bit integer"),
+        ("enum E{reserved 0 to 2147483648;}", "9 a 32-bit integer"),
+    ] {
+        let source = format!(in rt.alloc(); "message M{{{statement}}}")?;
+        expect(&rt, rt.alloc(), source.as_str(), want)?;
+    }
     let deepest = nested(rt.alloc(), 31)?;
+    expect(&rt, rt.alloc(), deepest.as_str(), "")?;
     let deeper = nested(rt.alloc(), 32)?;
-    all_read(
+    expect(
         &rt,
         rt.alloc(),
-        &[(deepest.as_str(), ""), (deeper.as_str(), "93 Level")],
+        deeper.as_str(),
+        "93 a message of at most 31 levels",
     )
 }
 
 #[test]
-fn stops_in_files_and_enums(rt: HostRuntime) -> Result<(), Fail> {
-    all_stop(
+fn stops_in_statements(rt: HostRuntime) -> Result<(), Fail> {
+    stops(
         &rt,
         rt.alloc(),
-        0,
         &[
-            (
-                "syntax=\"proto3\";",
-                "0 Top, 1 Mark(61), 2 Version, 3 Mark(59), 4 Top,",
-            ),
-            (";", "0 Top, 1 Top,"),
-            (
-                "package a.b;",
-                "0 Top, 1 Identifier, 2 Mark(59), 3 Identifier, 4 Mark(59), 5 Top,",
-            ),
-            (
-                "import public \"a\";",
-                "0 Top, 1 String, 2 String, 3 Mark(59), 4 Top,",
-            ),
-            (
-                "option deprecated=true;",
-                "0 Top, 1 Identifier, 2 Mark(61), 3 Constant, 4 Mark(59), 5 Top,",
-            ),
-            (
-                "option java_package=\"a\";",
-                "0 Top, 1 Identifier, 2 Mark(61), 3 Constant, 4 Mark(59), 5 Top,",
-            ),
-            (
-                "enum E{A=-1[deprecated=true];}",
-                "0 Top, 1 Identifier, 2 Mark(123), 3 Identifier, 4 Mark(61), 5 EnumNumber, 6 EnumNumber, 7 Mark(59), 8 Identifier, 9 Mark(61), 10 Constant, 11 Mark(93), 12 Mark(59), 13 Identifier, 14 Top,",
-            ),
-            (
-                "enum E{reserved 1 to max,-2;}",
-                "0 Top, 1 Identifier, 2 Mark(123), 3 Identifier, 4 String, 5 Mark(59), 6 RangeEnd, 7 Mark(59), 8 EnumNumber, 9 EnumNumber, 10 Mark(59), 11 Identifier, 12 Top,",
-            ),
-            (
-                "enum E{reserved \"A\",\"B\";}",
-                "0 Top, 1 Identifier, 2 Mark(123), 3 Identifier, 4 String, 5 Mark(59), 6 String, 7 Mark(59), 8 Identifier, 9 Top,",
-            ),
-        ],
-    )
-}
-
-#[test]
-fn stops_in_services_and_ranges(rt: HostRuntime) -> Result<(), Fail> {
-    all_stop(
-        &rt,
-        rt.alloc(),
-        0,
-        &[
-            (
-                "service S{rpc A(stream.B)returns(C);}",
-                "0 Top, 1 Identifier, 2 Mark(123), 3 ServiceItem, 4 Identifier, 5 Mark(40), 6 Identifier, 7 Identifier, 8 Identifier, 9 Mark(41), 10 Returns, 11 Mark(40), 12 Identifier, 13 Mark(41), 14 MethodEnd, 15 ServiceItem, 16 Top,",
-            ),
-            (
-                "service S{rpc A(B)returns(C){option deprecated=true;;}}",
-                "0 Top, 1 Identifier, 2 Mark(123), 3 ServiceItem, 4 Identifier, 5 Mark(40), 6 Identifier, 7 Mark(41), 8 Returns, 9 Mark(40), 10 Identifier, 11 Mark(41), 12 MethodEnd, 13 MethodItem, 14 Identifier, 15 Mark(61), 16 Constant, 17 Mark(59), 18 MethodItem, 19 MethodItem, 20 ServiceItem, 21 Top,",
-            ),
-            (
-                "service S{;option deprecated=true;}",
-                "0 Top, 1 Identifier, 2 Mark(123), 3 ServiceItem, 4 ServiceItem, 5 Identifier, 6 Mark(61), 7 Constant, 8 Mark(59), 9 ServiceItem, 10 Top,",
-            ),
-            (
-                "extend.A.B{;optional int32 a=1;}",
-                "0 Top, 1 Identifier, 2 Identifier, 3 Mark(123), 4 Identifier, 5 Mark(123), 6 Label, 7 Label, 8 Identifier, 9 Identifier, 10 Mark(61), 11 FieldNumber, 12 Mark(59), 13 Label, 14 Top,",
-            ),
-            (
-                "message M{extensions 1,4 to 536870911,9 to max;}",
-                "0 Top, 1 Identifier, 2 Mark(123), 3 Label, 4 RangeNumber, 5 Mark(59), 6 RangeNumber, 7 Mark(59), 8 RangeEnd, 9 Mark(59), 10 RangeNumber, 11 Mark(59), 12 RangeEnd, 13 Mark(59), 14 Label, 15 Top,",
-            ),
-            (
-                "message M{reserved 1 to 2;reserved \"a\";}",
-                "0 Top, 1 Identifier, 2 Mark(123), 3 Label, 4 String, 5 Mark(59), 6 RangeEnd, 7 Mark(59), 8 Label, 9 String, 10 Mark(59), 11 Label, 12 Top,",
-            ),
-        ],
-    )
-}
-
-#[test]
-fn stops_in_messages(rt: HostRuntime) -> Result<(), Fail> {
-    all_stop(
-        &rt,
-        rt.alloc(),
-        0,
-        &[
-            (
-                "message M{optional int32 a=1[default=5,deprecated=true];}",
-                "0 Top, 1 Identifier, 2 Mark(123), 3 Label, 4 Identifier, 5 Identifier, 6 Mark(61), 7 FieldNumber, 8 Mark(59), 9 Identifier, 10 Mark(61), 11 Constant, 12 Mark(93), 13 Identifier, 14 Mark(61), 15 Constant, 16 Mark(93), 17 Mark(59), 18 Label, 19 Top,",
-            ),
-            (
-                "message M{message N{}enum E{A=0;}extend N{};option deprecated=true;}",
-                "0 Top, 1 Identifier, 2 Mark(123), 3 Label, 4 Identifier, 5 Mark(123), 6 Label, 7 Label, 8 Identifier, 9 Mark(123), 10 Identifier, 11 Mark(61), 12 EnumNumber, 13 Mark(59), 14 Identifier, 15 Label, 16 Identifier, 17 Mark(123), 18 Label, 19 Label, 20 Label, 21 Identifier, 22 Mark(61), 23 Constant, 24 Mark(59), 25 Label, 26 Top,",
-            ),
+            ("syntax", "';' or a keyword that begins a statement"),
+            ("=", "'='"),
+            ("'proto3'", "\"proto2\" or \"proto3\""),
+            (";", "';'"),
+            ("", "';' or a keyword that begins a statement"),
         ],
     )?;
-    all_stop(
+    stops(
         &rt,
         rt.alloc(),
-        4,
         &[
-            (
-                "syntax=\"proto3\";message M{map<string,.N>a=1;}",
-                "4 Top, 5 Identifier, 6 Mark(123), 7 Identifier, 8 Identifier, 9 KeyType, 10 Mark(44), 11 Identifier, 12 Identifier, 13 Mark(62), 14 Identifier, 15 Mark(61), 16 FieldNumber, 17 Mark(59), 18 Identifier, 19 Top,",
-            ),
-            (
-                "syntax=\"proto3\";message M{oneof o{;int32 a=1;B b=2;}}",
-                "4 Top, 5 Identifier, 6 Mark(123), 7 Identifier, 8 Identifier, 9 Mark(123), 10 Identifier, 11 Identifier, 12 Identifier, 13 Mark(61), 14 FieldNumber, 15 Mark(59), 16 Identifier, 17 Mark(61), 18 FieldNumber, 19 Mark(59), 20 Identifier, 21 Identifier, 22 Top,",
-            ),
+            (";", "';' or a keyword that begins a statement"),
+            ("", "';' or a keyword that begins a statement"),
+        ],
+    )?;
+    stops(
+        &rt,
+        rt.alloc(),
+        &[
+            ("package", "';' or a keyword that begins a statement"),
+            ("a", "an identifier"),
+            (".", "';'"),
+            ("b", "an identifier"),
+            (";", "';'"),
+            ("", "';' or a keyword that begins a statement"),
+        ],
+    )?;
+    stops(
+        &rt,
+        rt.alloc(),
+        &[
+            ("import", "';' or a keyword that begins a statement"),
+            ("'a'", "a string"),
+            (";", "';'"),
+            ("import", "';' or a keyword that begins a statement"),
+            ("public", "a string"),
+            ("'a'", "a string"),
+            (";", "';'"),
+            ("import", "';' or a keyword that begins a statement"),
+            ("weak", "a string"),
+            ("'a'", "a string"),
+            (";", "';'"),
+            ("", "';' or a keyword that begins a statement"),
+        ],
+    )?;
+    stops(
+        &rt,
+        rt.alloc(),
+        &[
+            ("option", "';' or a keyword that begins a statement"),
+            ("java_package", "an identifier"),
+            ("=", "'='"),
+            ("'a'", "an integer, an identifier or a string"),
+            (";", "';'"),
+            ("", "';' or a keyword that begins a statement"),
+        ],
+    )?;
+    stops(
+        &rt,
+        rt.alloc(),
+        &[
+            ("extend", "';' or a keyword that begins a statement"),
+            (".", "a type"),
+            ("A", "an identifier"),
+            (".", "'{'"),
+            ("B", "an identifier"),
+            ("{", "'{'"),
+            (";", "a label"),
+            ("optional", "a label"),
+            ("int32", "a type"),
+            ("a", "an identifier"),
+            ("=", "'='"),
+            ("1", "a field number"),
+            (";", "';'"),
+            ("}", "a label"),
+            ("", "';' or a keyword that begins a statement"),
+        ],
+    )
+}
+
+#[test]
+fn stops_in_enums(rt: HostRuntime) -> Result<(), Fail> {
+    stops(
+        &rt,
+        rt.alloc(),
+        &[
+            ("enum", "';' or a keyword that begins a statement"),
+            ("E", "an identifier"),
+            ("{", "'{'"),
+            (";", "an identifier"),
+            ("A", "an identifier"),
+            ("=", "'='"),
+            ("-", "a 32-bit integer"),
+            ("1", "a 32-bit integer"),
+            ("[", "';'"),
+            ("deprecated", "an identifier"),
+            ("=", "'='"),
+            ("true", "an integer, an identifier or a string"),
+            ("]", "']'"),
+            (";", "';'"),
+            ("reserved", "an identifier"),
+            ("1", "a string"),
+            ("to", "';'"),
+            ("max", "an integer or 'max'"),
+            (",", "';'"),
+            ("-", "a 32-bit integer"),
+            ("2", "a 32-bit integer"),
+            (";", "';'"),
+            ("reserved", "an identifier"),
+            ("'A'", "a string"),
+            (",", "';'"),
+            ("'B'", "a string"),
+            (";", "';'"),
+            ("option", "an identifier"),
+            ("allow_alias", "an identifier"),
+            ("=", "'='"),
+            ("true", "an integer, an identifier or a string"),
+            (";", "';'"),
+            ("}", "an identifier"),
+            ("", "';' or a keyword that begins a statement"),
+        ],
+    )
+}
+
+#[test]
+fn stops_in_services(rt: HostRuntime) -> Result<(), Fail> {
+    stops(
+        &rt,
+        rt.alloc(),
+        &[
+            ("service", "';' or a keyword that begins a statement"),
+            ("S", "an identifier"),
+            ("{", "'{'"),
+            (";", "';', 'rpc', 'option' or '}'"),
+            ("option", "';', 'rpc', 'option' or '}'"),
+            ("deprecated", "an identifier"),
+            ("=", "'='"),
+            ("true", "an integer, an identifier or a string"),
+            (";", "';'"),
+            ("rpc", "';', 'rpc', 'option' or '}'"),
+            ("A", "an identifier"),
+            ("(", "'('"),
+            ("stream", "a type"),
+            (".", "a type"),
+            ("B", "an identifier"),
+            (")", "')'"),
+            ("returns", "'returns'"),
+            ("(", "'('"),
+            ("C", "a type"),
+            (")", "')'"),
+            (";", "';' or '{'"),
+            ("rpc", "';', 'rpc', 'option' or '}'"),
+            ("D", "an identifier"),
+            ("(", "'('"),
+            ("B", "a type"),
+            (")", "')'"),
+            ("returns", "'returns'"),
+            ("(", "'('"),
+            ("stream", "a type"),
+            ("C", "a type"),
+            (".", "')'"),
+            ("D", "an identifier"),
+            (")", "')'"),
+            ("{", "';' or '{'"),
+            (";", "';', 'option' or '}'"),
+            ("option", "';', 'option' or '}'"),
+            ("deprecated", "an identifier"),
+            ("=", "'='"),
+            ("true", "an integer, an identifier or a string"),
+            (";", "';'"),
+            ("}", "';', 'option' or '}'"),
+            ("}", "';', 'rpc', 'option' or '}'"),
+            ("", "';' or a keyword that begins a statement"),
+        ],
+    )
+}
+
+#[test]
+fn stops_in_proto2_messages(rt: HostRuntime) -> Result<(), Fail> {
+    stops(
+        &rt,
+        rt.alloc(),
+        &[
+            ("message", "';' or a keyword that begins a statement"),
+            ("M", "an identifier"),
+            ("{", "'{'"),
+            (";", "a label"),
+            ("required", "a label"),
+            ("A", "a type"),
+            (".", "an identifier"),
+            ("B", "an identifier"),
+            ("a", "an identifier"),
+            ("=", "'='"),
+            ("1", "a field number"),
+            ("[", "';'"),
+            ("default", "an identifier"),
+            ("=", "'='"),
+            ("C", "an integer, an identifier or a string"),
+            (",", "']'"),
+            ("deprecated", "an identifier"),
+            ("=", "'='"),
+            ("true", "an integer, an identifier or a string"),
+            ("]", "']'"),
+            (";", "';'"),
+            ("message", "a label"),
+            ("N", "an identifier"),
+            ("{", "'{'"),
+            ("}", "a label"),
+            ("enum", "a label"),
+            ("E", "an identifier"),
+            ("{", "'{'"),
+            ("A", "an identifier"),
+            ("=", "'='"),
+            ("0", "a 32-bit integer"),
+            (";", "';'"),
+            ("}", "an identifier"),
+            ("extend", "a label"),
+            ("N", "a type"),
+            ("{", "'{'"),
+            ("}", "a label"),
+            ("option", "a label"),
+            ("deprecated", "an identifier"),
+            ("=", "'='"),
+            ("true", "an integer, an identifier or a string"),
+            (";", "';'"),
+            ("}", "a label"),
+            ("", "';' or a keyword that begins a statement"),
+        ],
+    )?;
+    stops(
+        &rt,
+        rt.alloc(),
+        &[
+            ("message", "';' or a keyword that begins a statement"),
+            ("M", "an identifier"),
+            ("{", "'{'"),
+            ("extensions", "a label"),
+            ("1", "a number of at most 536870911"),
+            (",", "';'"),
+            ("4", "a number of at most 536870911"),
+            ("to", "';'"),
+            ("9", "an integer or 'max'"),
+            (",", "';'"),
+            ("12", "a number of at most 536870911"),
+            ("to", "';'"),
+            ("max", "an integer or 'max'"),
+            (";", "';'"),
+            ("reserved", "a label"),
+            ("1", "a string"),
+            ("to", "';'"),
+            ("2", "an integer or 'max'"),
+            (",", "';'"),
+            ("5", "a number of at most 536870911"),
+            (";", "';'"),
+            ("reserved", "a label"),
+            ("'a'", "a string"),
+            (",", "';'"),
+            ("'b'", "a string"),
+            (";", "';'"),
+            ("}", "a label"),
+            ("", "';' or a keyword that begins a statement"),
+        ],
+    )
+}
+
+#[test]
+fn stops_in_proto3_messages(rt: HostRuntime) -> Result<(), Fail> {
+    stops(
+        &rt,
+        rt.alloc(),
+        &[
+            ("syntax", "';' or a keyword that begins a statement"),
+            ("=", "'='"),
+            ("'proto3'", "\"proto2\" or \"proto3\""),
+            (";", "';'"),
+            ("message", "';' or a keyword that begins a statement"),
+            ("M", "an identifier"),
+            ("{", "'{'"),
+            ("map", "a type"),
+            ("<", "an identifier"),
+            ("string", "an integer type, 'bool' or 'string'"),
+            (",", "','"),
+            (".", "a type"),
+            ("N", "an identifier"),
+            (">", "'>'"),
+            ("a", "an identifier"),
+            ("=", "'='"),
+            ("1", "a field number"),
+            ("[", "';'"),
+            ("json_name", "an identifier"),
+            ("=", "'='"),
+            ("'b'", "an integer, an identifier or a string"),
+            ("]", "']'"),
+            (";", "';'"),
+            ("oneof", "a type"),
+            ("o", "an identifier"),
+            ("{", "'{'"),
+            (";", "a type"),
+            ("int32", "a type"),
+            ("b", "an identifier"),
+            ("=", "'='"),
+            ("2", "a field number"),
+            (";", "';'"),
+            ("B", "a type"),
+            (".", "an identifier"),
+            ("C", "an identifier"),
+            ("d", "an identifier"),
+            ("=", "'='"),
+            ("3", "a field number"),
+            ("[", "';'"),
+            ("packed", "an identifier"),
+            ("=", "'='"),
+            ("true", "an integer, an identifier or a string"),
+            ("]", "']'"),
+            (";", "';'"),
+            ("}", "a type"),
+            ("repeated", "a type"),
+            ("int32", "a type"),
+            ("e", "an identifier"),
+            ("=", "'='"),
+            ("4", "a field number"),
+            (";", "';'"),
+            ("F", "a type"),
+            ("g", "an identifier"),
+            ("=", "'='"),
+            ("5", "a field number"),
+            (";", "';'"),
+            ("}", "a type"),
+            ("", "';' or a keyword that begins a statement"),
         ],
     )
 }
