@@ -288,14 +288,14 @@ impl<'s, 'a> Cursor<'s, 'a> {
         Err(self.unexpected(expected))
     }
 
-    /// A string that stands for UTF-8.
-    pub fn text(&mut self) -> Result<Literal<'a>, ReadError>
+    /// A string that stands for UTF-8; where no string is next, what could stand there.
+    pub fn text(&mut self, expected: Expected) -> Result<Literal<'a>, ReadError>
         ensures found { IfOk result (λ l. left self.old ≡ quoted (literal_of l) ∷ left self.new) }
         ensures fits { IfOk result (λ l. text_fits_of (literal_of l) ≡ true) }
         ensures only { (l : tree.Literal) (rest : List tokens.Token) → text_fits_of l ≡ true → left self.old ≡ quoted l ∷ rest → Reaches literal_of l rest result (left self.new) }
         ensures shorter { OnOk result (length (left self.new) < length (left self.old)) }
     {
-        let literal = self.literal(Expected::String)?;
+        let literal = self.literal(expected)?;
         text_fits(&literal)?;
         Ok(literal)
     }

@@ -143,7 +143,7 @@ impl<'a> Production<'a> for Literal<'a> {
         cursor: &mut Cursor<'_, 'a>,
         _version: Version,
     ) -> Result<Literal<'a>, ReadError> {
-        cursor.text()
+        cursor.text(Expected::String)
     }
 }
 

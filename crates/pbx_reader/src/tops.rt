@@ -91,7 +91,7 @@ fn import<'a>(cursor: &mut Cursor<'_, 'a>) -> Result<Import<'a>, ReadError>
 {
     let keyword = cursor.keyword("import", Expected::Keyword)?;
     let modifier = cursor.eat_modifier();
-    let path = cursor.text()?;
+    let path = cursor.text(Expected::ImportName)?;
     let end = cursor.mark(b';')?;
     Ok(Import {
         keyword,
