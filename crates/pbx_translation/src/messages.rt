@@ -18,7 +18,7 @@ use pbx_desc::{
 use pbx_tree::{
     Item, OptionPlace, Range, RangeEnd, RangeNumber, Reserved, Version, message_settings,
 };
-use pbx_wire::{List, NoMemory, Text};
+use pbx_wire::{List, NoMemory, Recs, Text};
 use std::alloc::Global;
 
 /// The greatest number of a field.
@@ -236,20 +236,21 @@ pub(crate) fn message_with(
 {
     let settings = message_settings(alloc, items)?;
     let mut oneofs = all_given(alloc, version, items)?;
-    let fields = fields(alloc, version, oneofs.len(), items)?;
+    let field = fields(alloc, version, oneofs.len(), items)?;
     add_made_oneofs(alloc, version, items, &mut oneofs)?;
-    let mut record = DescriptorProto::new(alloc);
-    record.name = Some(Text::from_str(alloc, name)?);
-    record.field = fields;
-    record.nested_type = types;
-    record.enum_type = all_given(alloc, version, items)?;
-    record.extension_range = all_given(alloc, version, items)?;
-    record.extension = all_given(alloc, version, items)?;
-    record.options = options(alloc, OptionPlace::Message, settings.as_slice())?;
-    record.oneof_decl = oneofs;
-    record.reserved_range = all_given(alloc, version, items)?;
-    record.reserved_name = all_given(alloc, version, items)?;
-    Ok(record)
+    Ok(DescriptorProto {
+        name: Some(Text::from_str(alloc, name)?),
+        field,
+        nested_type: types,
+        enum_type: all_given(alloc, version, items)?,
+        extension_range: all_given(alloc, version, items)?,
+        extension: all_given(alloc, version, items)?,
+        options: options(alloc, OptionPlace::Message, settings.as_slice())?,
+        oneof_decl: oneofs,
+        reserved_range: all_given(alloc, version, items)?,
+        reserved_name: all_given(alloc, version, items)?,
+        unknown: Recs::new(alloc),
+    })
 }
 
 /// The messages and the entries of maps among the items of a message.
