@@ -7,23 +7,18 @@ use Rattle.pbx_desc.specs.declared.message.DescriptorProto.{DescriptorProto}
 use Rattle.pbx_tree.specs.declared.tree.Head as code_head
 use Rattle.pbx_tree.specs.declared.tree.MapField as code_map
 use Rattle.pbx_tree.specs.declared.tree.Extensions as code_extensions
-use Rattle.pbx_tree.specs.declared.tree.Reserved as code_reserved
-use Rattle.pbx_tree.specs.declared.tree.Reserved.TheVariants as reserved
-use Rattle.pbx_tree.specs.declared.tree.Separated.{Separated}
 use Rattle.pbx_tree.specs.declared.tree.Range as code_range
-use Rattle.pbx_tree.specs.declared.tree.Literal as code_literal
 use Rattle.pbx_tree.specs.declared.tree.Version.{Version}
 use Rattle.pbx_tree.specs.declared.tree.RangeNumber as code_range_number
 use Rattle.pbx_tree.specs.declared.tree.Item as items
 use Rattle.pbx_tree.specs.declared.tree.Item.TheOpen as layers
 use Rattle.pbx_tree.specs.declared.tree.Item.{Item, out-Item, roll-Item, roll-out-Item, map-Item, fold_out-Item}
-use Rattle.pbx_tree.specs.declared.tree.Item.TheVariants.{rolls-Map, rolls-Message, outs-Map, outs-Message, outs-Extensions, outs-Reserved}
-use Rattle.pbx_tree.specs.Tree.{item_map, item_extensions, item_reserved}
-use Rattle.pbx_tree.specs.View.{head_of, map_of, extensions_of, reserved_of, range_of, range_number_of, literal_of, Piece, plain, nested, item_step, item_of, body_of}
+use Rattle.pbx_tree.specs.declared.tree.Item.TheVariants.{rolls-Map, rolls-Message, outs-Map, outs-Message, outs-Extensions}
+use Rattle.pbx_tree.specs.Tree.{item_map, item_extensions}
+use Rattle.pbx_tree.specs.View.{head_of, map_of, extensions_of, range_of, range_number_of, Piece, plain, nested, item_step, item_of, body_of}
 use Rattle.pbx_translation.specs.Passes.{listed}
-use Rattle.pbx_translation.specs.Texts.{string_text}
 use Rattle.pbx_translation.specs.Fields.{entry_record}
-use Rattle.pbx_translation.specs.Messages.{reserved_range, extension_range, reserved_ranges_in, reserved_names_in, extension_ranges_in, message_with, nested_types}
+use Rattle.pbx_translation.specs.Messages.{extension_range, extension_ranges_in, message_with, nested_types}
 use Rattle.pbx_translation.proofs.Lists.{listed_seen}
 use Rattle.pbx_translation.proofs.Counted.{types_in}
 
@@ -43,27 +38,11 @@ piece_of_message h is close = layer_of (items.Message h is close) ∙ ap layer (
 pub piece_of_extensions : (e : code_extensions.Extensions) → item_of (items.Extensions e) ≡ plain (item_extensions (extensions_of e))
 piece_of_extensions e = layer_of (items.Extensions e) ∙ ap layer (outs-Extensions e)
 
-pub piece_of_reserved : (r : code_reserved.Reserved code_range_number.RangeNumber) → item_of (items.Reserved r) ≡ plain (item_reserved (reserved_of range_number_of r))
-piece_of_reserved r = layer_of (items.Reserved r) ∙ ap layer (outs-Reserved r)
-
--- ---- ranges and names
+-- ---- ranges
 
 pub extension_ranges_seen : (x : Item) (e : code_extensions.Extensions) → x ≡ items.Extensions e
     → map (λ (r : code_range.Range code_range_number.RangeNumber). extension_range (range_of range_number_of r)) (listed e.ranges) ≡ extension_ranges_in (item_of x)
 extension_ranges_seen x e is = listed_seen extension_range (range_of range_number_of) e.ranges ∙ sym (ap extension_ranges_in (ap item_of is ∙ piece_of_extensions e))
-
-module _ (x : Item) (r : code_reserved.Reserved code_range_number.RangeNumber) (is : x ≡ items.Reserved r) (keyword close : Span) where
-  pub reserved_ranges_seen : (ranges : Separated (code_range.Range code_range_number.RangeNumber)) → r ≡ reserved.Ranges keyword ranges close
-      → map (λ (s : code_range.Range code_range_number.RangeNumber). reserved_range (range_of range_number_of s)) (listed ranges) ≡ reserved_ranges_in (item_of x)
-  reserved_ranges_seen ranges e =
-      listed_seen reserved_range (range_of range_number_of) ranges
-      ∙ sym (ap reserved_ranges_in (ap item_of is ∙ piece_of_reserved r) ∙ ap (λ (s : code_reserved.Reserved code_range_number.RangeNumber). reserved_ranges_in (plain (item_reserved (reserved_of range_number_of s)))) e)
-
-  pub reserved_names_seen : (names : Separated code_literal.Literal) → r ≡ reserved.Names keyword names close
-      → map (λ (l : code_literal.Literal). string_text (literal_of l)) (listed names) ≡ reserved_names_in (item_of x)
-  reserved_names_seen names e =
-      listed_seen string_text literal_of names
-      ∙ sym (ap reserved_names_in (ap item_of is ∙ piece_of_reserved r) ∙ ap (λ (s : code_reserved.Reserved code_range_number.RangeNumber). reserved_names_in (plain (item_reserved (reserved_of range_number_of s)))) e)
 
 -- ---- nested types
 

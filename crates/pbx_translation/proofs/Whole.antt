@@ -1,6 +1,6 @@
--- A message and a file by their parts.
+-- A service and a message by their parts.
 use Rattle.std.proofs.Common.{◌≡◌, ℕ, List, [], ◌++◌, length, map, Option, Some, refl, sym, ap, ◌∙◌}
-use Rattle.std.specs.List.{flat_map}
+use Rattle.std.specs.List.{flat_map, filter_map}
 use Rattle.pbx_desc.specs.declared.enumeration.EnumDescriptorProto.{EnumDescriptorProto}
 use Rattle.pbx_desc.specs.declared.field.FieldDescriptorProto.{FieldDescriptorProto}
 use Rattle.pbx_desc.specs.declared.field.OneofDescriptorProto.{OneofDescriptorProto}
@@ -8,15 +8,28 @@ use Rattle.pbx_desc.specs.declared.message.DescriptorProto.{DescriptorProto, rol
 use Rattle.pbx_desc.specs.declared.message.ExtensionRange.{ExtensionRange}
 use Rattle.pbx_desc.specs.declared.message.ReservedRange.{ReservedRange}
 use Rattle.pbx_desc.specs.declared.options.Options.{Options}
+use Rattle.pbx_desc.specs.declared.service.MethodDescriptorProto.{MethodDescriptorProto}
+use Rattle.pbx_desc.specs.declared.service.ServiceDescriptorProto.{ServiceDescriptorProto}
+use Rattle.pbx_wire.specs.declared.rec.Rec.{Rec}
 use Rattle.pbx_tree.specs.declared.tree.Version.{Version}
 use Rattle.pbx_tree.specs.declared.tree.Item as code_item
 use Rattle.pbx_tree.specs.declared.options.OptionPlace.TheVariants as places
-use Rattle.pbx_tree.specs.Conditions.{body_settings}
-use Rattle.pbx_tree.specs.Tree.{Body}
+use Rattle.pbx_tree.specs.Conditions.{body_settings, service_setting}
+use Rattle.pbx_tree.specs.Tree.{Body, Service}
 use Rattle.pbx_tree.specs.View.{Piece, item_of, body_of}
 use Rattle.pbx_translation.specs.Settings.{options_of}
+use Rattle.pbx_translation.specs.Services.{method_records, service_record}
 use Rattle.pbx_translation.specs.Messages.{pieces, oneof_record, oneofs_in, optional_names_in, names_in, made_names, oneof_records, fields_from, fields_of, enums_in, extension_ranges_in, extensions_in, reserved_ranges_in, reserved_names_in, message_with}
 use Rattle.pbx_translation.proofs.Lists.{flat_seen, pieces_seen}
+
+pub service_made : (s : Service) (name : List ℕ) (methods : List MethodDescriptorProto) (options : Option Options) (unknown : List Rec)
+    → name ≡ s.name.text
+    → methods ≡ flat_map method_records s.items
+    → options ≡ options_of places.Service (filter_map service_setting s.items)
+    → unknown ≡ []
+    → record { name = Some name; method = methods; options = options; unknown = unknown } ≡ service_record s
+unfolding service_record
+service_made s name methods options unknown n m o u = cc
 
 module _ (items : List code_item.Item) where
   seen : pieces (body_of items) ≡ map item_of items
