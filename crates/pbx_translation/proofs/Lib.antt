@@ -4,3 +4,6 @@ pub mod Taken
 pub mod Counted
 pub mod Placed
 pub mod Strings
+pub mod ItemForms
+pub mod Steps
+pub mod Whole

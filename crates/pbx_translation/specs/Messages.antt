@@ -44,7 +44,7 @@ reserved_range r = record { start = Some (pos r.from.value); end = Some (pos (la
 unfoldable pub extension_range : Range Count → ExtensionRange
 extension_range r = record { start = Some (pos r.from.value); end = Some (pos (last_number r.from r.to + 1)); options = None; unknown = [] }
 
-abbrev ranges_reserved : Reserved Count → List ReservedRange
+abbrev pub ranges_reserved : Reserved Count → List ReservedRange
 ranges_reserved (reserved_ranges keyword ranges close) = map reserved_range (all_of ranges)
 ranges_reserved (reserved_names keyword names close) = []
 

@@ -1,8 +1,9 @@
 //! Records of messages.
 
 ghost use Rattle.std.specs.Prelude.{◌≡◌, ◌+◌, ◌++◌, pos, length, map, IfOk, OnOk};
-ghost use Rattle.pbx_tree.specs.View.{range_of, range_number_of, item_of, body_of};
-ghost use Rattle.pbx_translation.specs.Messages.{last_number as last_number_of, reserved_range, extension_range, reserved_ranges_in, reserved_names_in, extension_ranges_in, enums_in, extensions_in, oneofs_in as oneofs_in_of, optional_names_in, fields_in, fields_from, message_with as message_with_of, nested_types as nested_types_of};
+ghost use Rattle.pbx_tree.specs.View.{range_of, range_number_of, reserved_of, item_of, body_of};
+ghost use Rattle.pbx_translation.specs.Enums.{names_reserved};
+ghost use Rattle.pbx_translation.specs.Messages.{last_number as last_number_of, reserved_range, extension_range, ranges_reserved, reserved_ranges_in, reserved_names_in, extension_ranges_in, enums_in, extensions_in, oneofs_in as oneofs_in_of, optional_names_in, fields_in, fields_from, message_with as message_with_of, nested_types as nested_types_of};
 
 use crate::enums::enum_record;
 use crate::fields::{
@@ -18,7 +19,7 @@ use pbx_desc::{
 use pbx_tree::{
     Item, OptionPlace, Range, RangeEnd, RangeNumber, Reserved, Version, message_settings,
 };
-use pbx_wire::{List, NoMemory, Text};
+use pbx_wire::{List, NoMemory, Recs, Text};
 use std::alloc::Global;
 
 /// The greatest number of a field.
@@ -59,6 +60,34 @@ impl Becomes<ExtensionRange> for Range<RangeNumber> {
     }
 }
 
+/// Adds the ranges of numbers that the statement reserves.
+fn add_reserved_ranges(
+    alloc: Global,
+    reserved: &Reserved<'_, RangeNumber>,
+    records: &mut List<ReservedRange>,
+) -> Result<(), NoMemory>
+    ensures { OnOk result (records.new ≡ records.old ++ ranges_reserved (reserved_of range_number_of reserved.now)) }
+{
+    match reserved {
+        Reserved::Ranges(_, ranges, _) => add_each(alloc, ranges, records),
+        Reserved::Names(_, _, _) => Ok(()),
+    }
+}
+
+/// Adds the names that the statement reserves.
+fn add_reserved_names(
+    alloc: Global,
+    reserved: &Reserved<'_, RangeNumber>,
+    records: &mut List<Text>,
+) -> Result<(), NoMemory>
+    ensures { OnOk result (records.new ≡ records.old ++ names_reserved (reserved_of range_number_of reserved.now)) }
+{
+    match reserved {
+        Reserved::Ranges(_, _, _) => Ok(()),
+        Reserved::Names(_, names, _) => add_each(alloc, names, records),
+    }
+}
+
 impl Gives<ReservedRange> for Item<'_> {
     ghost given = { λ version item. reserved_ranges_in (item_of item) };
 
@@ -69,7 +98,7 @@ impl Gives<ReservedRange> for Item<'_> {
         records: &mut List<ReservedRange>,
     ) -> Result<(), NoMemory> {
         match self {
-            Item::Reserved(Reserved::Ranges(_, ranges, _)) => add_each(alloc, ranges, records),
+            Item::Reserved(reserved) => add_reserved_ranges(alloc, reserved, records),
             _ => Ok(()),
         }
     }
@@ -85,7 +114,7 @@ impl Gives<Text> for Item<'_> {
         records: &mut List<Text>,
     ) -> Result<(), NoMemory> {
         match self {
-            Item::Reserved(Reserved::Names(_, names, _)) => add_each(alloc, names, records),
+            Item::Reserved(reserved) => add_reserved_names(alloc, reserved, records),
             _ => Ok(()),
         }
     }
@@ -236,20 +265,21 @@ pub(crate) fn message_with(
 {
     let settings = message_settings(alloc, items)?;
     let mut oneofs = all_given(alloc, version, items)?;
-    let fields = fields(alloc, version, oneofs.len(), items)?;
+    let field = fields(alloc, version, oneofs.len(), items)?;
     add_made_oneofs(alloc, version, items, &mut oneofs)?;
-    let mut record = DescriptorProto::new(alloc);
-    record.name = Some(Text::from_str(alloc, name)?);
-    record.field = fields;
-    record.nested_type = types;
-    record.enum_type = all_given(alloc, version, items)?;
-    record.extension_range = all_given(alloc, version, items)?;
-    record.extension = all_given(alloc, version, items)?;
-    record.options = options(alloc, OptionPlace::Message, settings.as_slice())?;
-    record.oneof_decl = oneofs;
-    record.reserved_range = all_given(alloc, version, items)?;
-    record.reserved_name = all_given(alloc, version, items)?;
-    Ok(record)
+    Ok(DescriptorProto {
+        name: Some(Text::from_str(alloc, name)?),
+        field,
+        nested_type: types,
+        enum_type: all_given(alloc, version, items)?,
+        extension_range: all_given(alloc, version, items)?,
+        extension: all_given(alloc, version, items)?,
+        options: options(alloc, OptionPlace::Message, settings.as_slice())?,
+        oneof_decl: oneofs,
+        reserved_range: all_given(alloc, version, items)?,
+        reserved_name: all_given(alloc, version, items)?,
+        unknown: Recs::new(alloc),
+    })
 }
 
 /// The messages and the entries of maps among the items of a message.
