@@ -51,8 +51,9 @@ module _ (items : List code_item.Item) where
         ∙ ap (λ (os : List OneofDescriptorProto). os ++ map oneof_record (made_names (flat_map names_in (map item_of items)) (flat_map (optional_names_in v) (map item_of items)))) (are ∙ flat_seen oneofs_in item_of items)
         ∙ ap (oneof_records v) (sym seen)
 
-pub message_made : (v : Version) (name : List ℕ) (b : Body) (types : List DescriptorProto) (fields : List FieldDescriptorProto) (enums : List EnumDescriptorProto) (ranges : List ExtensionRange) (extensions : List FieldDescriptorProto)
-    (options : Option Options) (oneofs : List OneofDescriptorProto) (reserved : List ReservedRange) (names : List (List ℕ))
+pub message_made : (v : Version) (name text : List ℕ) (b : Body) (types : List DescriptorProto) (fields : List FieldDescriptorProto) (enums : List EnumDescriptorProto) (ranges : List ExtensionRange) (extensions : List FieldDescriptorProto)
+    (options : Option Options) (oneofs : List OneofDescriptorProto) (reserved : List ReservedRange) (names : List (List ℕ)) (unknown : List Rec)
+    → text ≡ name
     → fields ≡ fields_of v (pieces b)
     → enums ≡ flat_map enums_in (pieces b)
     → ranges ≡ flat_map extension_ranges_in (pieces b)
@@ -61,8 +62,9 @@ pub message_made : (v : Version) (name : List ℕ) (b : Body) (types : List Desc
     → oneofs ≡ oneof_records v (pieces b)
     → reserved ≡ flat_map reserved_ranges_in (pieces b)
     → names ≡ flat_map reserved_names_in (pieces b)
+    → unknown ≡ []
     → roll-DescriptorProto (record {
-      name = Some name;
+      name = Some text;
       field = fields;
       nested_type = types;
       enum_type = enums;
@@ -72,8 +74,8 @@ pub message_made : (v : Version) (name : List ℕ) (b : Body) (types : List Desc
       oneof_decl = oneofs;
       reserved_range = reserved;
       reserved_name = names;
-      unknown = [];
+      unknown = unknown;
     })
     ≡ message_with v name b types
 unfolding message_with
-message_made v name b types fields enums ranges extensions options oneofs reserved names f e r x o s d n = cc
+message_made v name text b types fields enums ranges extensions options oneofs reserved names unknown t f e r x o s d n u = cc

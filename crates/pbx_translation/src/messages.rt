@@ -1,9 +1,12 @@
 //! Records of messages.
 
 ghost use Rattle.std.specs.Prelude.{◌≡◌, ◌+◌, ◌++◌, pos, length, map, IfOk, OnOk};
+ghost use Rattle.pbx_tree.specs.declared.options.OptionPlace.TheVariants as places;
+ghost use Rattle.pbx_tree.specs.Conditions.{body_settings};
 ghost use Rattle.pbx_tree.specs.View.{range_of, range_number_of, reserved_of, item_of, body_of};
+ghost use Rattle.pbx_translation.specs.Settings.{options_of};
 ghost use Rattle.pbx_translation.specs.Enums.{names_reserved};
-ghost use Rattle.pbx_translation.specs.Messages.{last_number as last_number_of, reserved_range, extension_range, ranges_reserved, reserved_ranges_in, reserved_names_in, extension_ranges_in, enums_in, extensions_in, oneofs_in as oneofs_in_of, optional_names_in, fields_in, fields_from, message_with as message_with_of, nested_types as nested_types_of};
+ghost use Rattle.pbx_translation.specs.Messages.{last_number as last_number_of, reserved_range, extension_range, ranges_reserved, reserved_ranges_in, reserved_names_in, extension_ranges_in, enums_in, extensions_in, oneofs_in as oneofs_in_of, optional_names_in, fields_in, fields_from, fields_of, oneof_records, pieces, message_with as message_with_of, nested_types as nested_types_of};
 
 use crate::enums::enum_record;
 use crate::fields::{
@@ -14,7 +17,7 @@ use crate::scope::{add_made_oneofs, oneof_record};
 use crate::settings::options;
 use pbx_desc::{
     DescriptorProto, EnumDescriptorProto, ExtensionRange, FieldDescriptorProto,
-    OneofDescriptorProto, ReservedRange,
+    OneofDescriptorProto, Options, ReservedRange,
 };
 use pbx_tree::{
     Item, OptionPlace, Range, RangeEnd, RangeNumber, Reserved, Version, message_settings,
@@ -252,8 +255,29 @@ fn counted(count: usize, more: usize) -> Result<usize, NoMemory>
     count.checked_add(more).ok_or(NoMemory)
 }
 
+/// The fields and the oneofs of a message.
+fn fields_and_oneofs(
+    alloc: Global,
+    version: Version,
+    items: &[Item<'_>],
+) -> Result<(List<FieldDescriptorProto>, List<OneofDescriptorProto>), NoMemory>
+    ensures { IfOk result (λ r. (r.0 ≡ fields_of version (pieces (body_of items.now))) × (r.1 ≡ oneof_records version (pieces (body_of items.now)))) }
+{
+    let mut oneofs = all_given(alloc, version, items)?;
+    let fields = fields(alloc, version, oneofs.len(), items)?;
+    add_made_oneofs(alloc, version, items, &mut oneofs)?;
+    Ok((fields, oneofs))
+}
+
+/// The options record of a message.
+fn message_options(alloc: Global, items: &[Item<'_>]) -> Result<Option<Options>, NoMemory>
+    ensures { IfOk result (λ options. options ≡ options_of places.Message (body_settings (body_of items.now))) }
+{
+    let settings = message_settings(alloc, items)?;
+    options(alloc, OptionPlace::Message, settings.as_slice())
+}
+
 /// The message of this name, these items and these nested types.
-#[tactic(auto, unfolding(crate::specs::Messages::message_with))]
 pub(crate) fn message_with(
     alloc: Global,
     version: Version,
@@ -263,10 +287,7 @@ pub(crate) fn message_with(
 ) -> Result<DescriptorProto, NoMemory>
     ensures { IfOk result (λ it. it ≡ message_with_of version name.now (body_of items.now) types) }
 {
-    let settings = message_settings(alloc, items)?;
-    let mut oneofs = all_given(alloc, version, items)?;
-    let field = fields(alloc, version, oneofs.len(), items)?;
-    add_made_oneofs(alloc, version, items, &mut oneofs)?;
+    let (field, oneof_decl) = fields_and_oneofs(alloc, version, items)?;
     Ok(DescriptorProto {
         name: Some(Text::from_str(alloc, name)?),
         field,
@@ -274,8 +295,8 @@ pub(crate) fn message_with(
         enum_type: all_given(alloc, version, items)?,
         extension_range: all_given(alloc, version, items)?,
         extension: all_given(alloc, version, items)?,
-        options: options(alloc, OptionPlace::Message, settings.as_slice())?,
-        oneof_decl: oneofs,
+        options: message_options(alloc, items)?,
+        oneof_decl,
         reserved_range: all_given(alloc, version, items)?,
         reserved_name: all_given(alloc, version, items)?,
         unknown: Recs::new(alloc),
