@@ -8,7 +8,7 @@ use Rattle.pbx_token.specs.Tokens.{Token}
 use Rattle.pbx_tree.specs.declared.tree.Scalar.{Scalar}
 use Rattle.pbx_tree.specs.declared.tree.Scalar.TheVariants as scalars
 use Rattle.pbx_tree.specs.declared.tree.Label.{Label}
-use Rattle.pbx_tree.specs.Tree.{Name, Separated, TypeName, Kind, scalar, named_type, Tail, Field}
+use Rattle.pbx_tree.specs.Tree.{Name, Separated, Kind, scalar, named_type, Tail, Field}
 use Rattle.pbx_tree.specs.Words.{scalar_word, label_word, is_label_word, begins_item}
 use Rattle.pbx_tree.specs.Grammar.{name_then, list_then, next_then, full_then, mark_then, kind_then, tail_then, label_then, field_then}
 use Rattle.pbx_tree.specs.Conditions.{kind_is_no, begins_with_no}

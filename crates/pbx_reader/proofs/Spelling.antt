@@ -1,5 +1,5 @@
 -- The words of the language, apart from one another.
-use Rattle.std.proofs.Common.{◌≡◌, ℕ, List, Bool, true, false, codes, if◌then◌else◌, refl, sym, ap, ◌∙◌}
+use Rattle.std.proofs.Common.{◌≡◌, ℕ, List, true, codes, if◌then◌else◌, refl, sym, ap, ◌∙◌}
 use Rattle.std.specs.Str.{bytes_eq}
 use Rattle.pbx_tree.specs.declared.tree.Scalar.{Scalar}
 use Rattle.pbx_tree.specs.declared.tree.Scalar.TheVariants as scalars

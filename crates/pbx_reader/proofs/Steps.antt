@@ -1,11 +1,11 @@
 -- One item more of a body, as the loop reads it.
-use Rattle.std.proofs.Common.{◌≡◌, ℕ, zero, suc, ◌-◌, List, [], ◌∷◌, ◌++◌, Bool, true, false, refl, sym, ap, ◌∙◌, arith}
+use Rattle.std.proofs.Common.{◌≡◌, ℕ, zero, suc, ◌-◌, List, [], ◌∷◌, ◌++◌, true, false, refl, sym, ap, ◌∙◌, arith}
 use Rattle.std.proofs.lemmas.Bool.{false≢true}
 use Rattle.pbx_token.specs.declared.token.Span.{Span}
 use Rattle.pbx_token.specs.Tokens.{Token}
 use Rattle.pbx_tree.specs.declared.tree.Version.{Version}
-use Rattle.pbx_tree.specs.Tree.{Head, Item, Body, end, item, message}
-use Rattle.pbx_tree.specs.Grammar.{item_then, body_then}
+use Rattle.pbx_tree.specs.Tree.{Head, Body, end, item, message}
+use Rattle.pbx_tree.specs.Grammar.{body_then}
 use Rattle.pbx_tree.specs.Conditions.{item_fits, body_fits}
 use Rattle.pbx_tree.specs.View.{Piece, plain, nested, add, all_before}
 use Rattle.pbx_reader.specs.Bodies.{piece_then, piece_fits, message_fits}

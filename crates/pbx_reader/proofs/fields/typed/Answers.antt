@@ -1,9 +1,9 @@
-use Rattle.std.proofs.Common.{◌≡◌, ◌∙◌, refl, ap}
+use Rattle.std.proofs.Common.{◌∙◌, refl, ap}
 use Rattle.std.proofs.lemmas.Result.{err_from_is_err_and}
 use Rattle.pbx_tree.specs.Tree.{Kind, Tail}
 use Rattle.pbx_tree.specs.Grammar.{tail_then}
 use Rattle.pbx_tree.specs.Conditions.{tail_fits, field_setting_fits}
-use Rattle.pbx_tree.specs.View.{kind_of, tail_of}
+use Rattle.pbx_tree.specs.View.{tail_of}
 use Rattle.pbx_reader.proofs.fields.typed.Goals as goal
 
 pub returns-in_err-tail-clause-only : goal.returns-in_err-tail-clause-only

@@ -1,4 +1,4 @@
-use Rattle.std.proofs.Common.{◌≡◌, ◌∙◌, ◌∷◌, List, Bool, ◌&&◌, map, sym, ap}
+use Rattle.std.proofs.Common.{◌∙◌, List, map, sym, ap}
 use Rattle.std.proofs.lemmas.Result.{err_from_is_err_and}
 use Rattle.std.proofs.lemmas.List.Folds.{list_all-map}
 use Rattle.std.specs.List.{list_all}
@@ -6,7 +6,6 @@ use Rattle.pbx_token.specs.declared.token.Span.{Span}
 use Rattle.pbx_tree.specs.Tree.{Separated}
 use Rattle.pbx_tree.specs.Grammar.{list_then, next_then}
 use Rattle.pbx_tree.specs.View.{next_of}
-use Rattle.pbx_reader.specs.View.{left}
 use Rattle.pbx_reader.proofs.Lists.{both, followed, and_true}
 use Rattle.pbx_reader.proofs.many.separated.Goals as goal
 

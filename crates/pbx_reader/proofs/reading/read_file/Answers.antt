@@ -1,10 +1,10 @@
-use Rattle.std.proofs.Common.{◌≡◌, ◌∙◌, [], List, Option, None, Some, map, true, sym, ap}
+use Rattle.std.proofs.Common.{◌≡◌, ◌∙◌, [], List, Option, None, Some, map, sym, ap}
 use Rattle.std.proofs.lemmas.Bool.{false≢true}
 use Rattle.std.proofs.lemmas.Result.{err_from_is_err_and}
 use Rattle.pbx_tree.specs.declared.tree.Version.{Version}
 use Rattle.pbx_tree.specs.Tree.{Syntax, Top, File}
 use Rattle.pbx_tree.specs.Grammar.{list_then, top_then}
-use Rattle.pbx_tree.specs.Conditions.{version_of, fit_with, tops_fit}
+use Rattle.pbx_tree.specs.Conditions.{version_of, fit_with}
 use Rattle.pbx_tree.specs.View.{top_of}
 use Rattle.pbx_reader.proofs.Begin.{tops_begin}
 use Rattle.pbx_reader.proofs.reading.read_file.Goals as goal

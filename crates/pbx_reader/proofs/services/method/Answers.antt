@@ -1,4 +1,4 @@
-use Rattle.std.proofs.Common.{◌≡◌, ◌∙◌, ◌∷◌, ◌&&◌, List, codes, ap}
+use Rattle.std.proofs.Common.{◌∙◌, ◌∷◌, ◌&&◌, List, codes, ap}
 use Rattle.std.proofs.lemmas.Result.{err_from_is_err_and}
 use Rattle.pbx_token.specs.Tokens.{Token}
 use Rattle.pbx_tree.specs.Grammar.{worded, named, method_type_then}
