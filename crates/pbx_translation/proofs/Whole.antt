@@ -51,9 +51,10 @@ module _ (items : List code_item.Item) where
         ∙ ap (λ (os : List OneofDescriptorProto). os ++ map oneof_record (made_names (flat_map names_in (map item_of items)) (flat_map (optional_names_in v) (map item_of items)))) (are ∙ flat_seen oneofs_in item_of items)
         ∙ ap (oneof_records v) (sym seen)
 
-pub message_made : (v : Version) (name text : List ℕ) (b : Body) (types : List DescriptorProto) (fields : List FieldDescriptorProto) (enums : List EnumDescriptorProto) (ranges : List ExtensionRange) (extensions : List FieldDescriptorProto)
+pub message_made : (v : Version) (name text : List ℕ) (b : Body) (types kept : List DescriptorProto) (fields : List FieldDescriptorProto) (enums : List EnumDescriptorProto) (ranges : List ExtensionRange) (extensions : List FieldDescriptorProto)
     (options : Option Options) (oneofs : List OneofDescriptorProto) (reserved : List ReservedRange) (names : List (List ℕ)) (unknown : List Rec)
     → text ≡ name
+    → kept ≡ types
     → fields ≡ fields_of v (pieces b)
     → enums ≡ flat_map enums_in (pieces b)
     → ranges ≡ flat_map extension_ranges_in (pieces b)
@@ -66,7 +67,7 @@ pub message_made : (v : Version) (name text : List ℕ) (b : Body) (types : List
     → roll-DescriptorProto (record {
       name = Some text;
       field = fields;
-      nested_type = types;
+      nested_type = kept;
       enum_type = enums;
       extension_range = ranges;
       extension = extensions;
@@ -78,4 +79,4 @@ pub message_made : (v : Version) (name text : List ℕ) (b : Body) (types : List
     })
     ≡ message_with v name b types
 unfolding message_with
-message_made v name text b types fields enums ranges extensions options oneofs reserved names unknown t f e r x o s d n u = cc
+message_made v name text b types kept fields enums ranges extensions options oneofs reserved names unknown t k f e r x o s d n u = cc
