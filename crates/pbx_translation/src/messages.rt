@@ -1,6 +1,7 @@
 //! Records of messages.
 
 ghost use Rattle.std.specs.Prelude.{◌≡◌, ◌+◌, ◌++◌, pos, length, map, IfOk, OnOk};
+ghost use Rattle.std.specs.List.{flat_map};
 ghost use Rattle.pbx_tree.specs.declared.options.OptionPlace.TheVariants as places;
 ghost use Rattle.pbx_tree.specs.Conditions.{body_settings};
 ghost use Rattle.pbx_tree.specs.View.{range_of, range_number_of, reserved_of, item_of, body_of};
@@ -22,7 +23,7 @@ use pbx_desc::{
 use pbx_tree::{
     Item, OptionPlace, Range, RangeEnd, RangeNumber, Reserved, Version, message_settings,
 };
-use pbx_wire::{List, NoMemory, Recs, Text};
+use pbx_wire::{List, NoMemory, Recs, Text, Texts};
 use std::alloc::Global;
 
 /// The greatest number of a field.
@@ -269,6 +270,32 @@ fn fields_and_oneofs(
     Ok((fields, oneofs))
 }
 
+/// The enums and the extensions that stand in a message.
+fn enums_and_extensions(
+    alloc: Global,
+    version: Version,
+    items: &[Item<'_>],
+) -> Result<(List<EnumDescriptorProto>, List<FieldDescriptorProto>), NoMemory>
+    ensures { IfOk result (λ r. (r.0 ≡ flat_map enums_in (pieces (body_of items.now))) × (r.1 ≡ flat_map (extensions_in version) (pieces (body_of items.now)))) }
+{
+    let enums = all_given(alloc, version, items)?;
+    let extensions = all_given(alloc, version, items)?;
+    Ok((enums, extensions))
+}
+
+/// The ranges and the names that a message reserves.
+fn ranges_and_names(
+    alloc: Global,
+    version: Version,
+    items: &[Item<'_>],
+) -> Result<(List<ReservedRange>, Texts), NoMemory>
+    ensures { IfOk result (λ r. (r.0 ≡ flat_map reserved_ranges_in (pieces (body_of items.now))) × (r.1 ≡ flat_map reserved_names_in (pieces (body_of items.now)))) }
+{
+    let ranges = all_given(alloc, version, items)?;
+    let names = all_given(alloc, version, items)?;
+    Ok((ranges, names))
+}
+
 /// The options record of a message.
 fn message_options(alloc: Global, items: &[Item<'_>]) -> Result<Option<Options>, NoMemory>
     ensures { IfOk result (λ options. options ≡ options_of places.Message (body_settings (body_of items.now))) }
@@ -288,17 +315,19 @@ pub(crate) fn message_with(
     ensures { IfOk result (λ it. it ≡ message_with_of version name.now (body_of items.now) types) }
 {
     let (field, oneof_decl) = fields_and_oneofs(alloc, version, items)?;
+    let (enum_type, extension) = enums_and_extensions(alloc, version, items)?;
+    let (reserved_range, reserved_name) = ranges_and_names(alloc, version, items)?;
     Ok(DescriptorProto {
         name: Some(Text::from_str(alloc, name)?),
         field,
         nested_type: types,
-        enum_type: all_given(alloc, version, items)?,
+        enum_type,
         extension_range: all_given(alloc, version, items)?,
-        extension: all_given(alloc, version, items)?,
+        extension,
         options: message_options(alloc, items)?,
         oneof_decl,
-        reserved_range: all_given(alloc, version, items)?,
-        reserved_name: all_given(alloc, version, items)?,
+        reserved_range,
+        reserved_name,
         unknown: Recs::new(alloc),
     })
 }
