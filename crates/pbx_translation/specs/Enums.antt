@@ -7,7 +7,7 @@ use Rattle.pbx_desc.specs.declared.enumeration.EnumValueDescriptorProto.{EnumVal
 use Rattle.pbx_token.specs.declared.token.Span.{Span}
 use Rattle.pbx_tree.specs.declared.options.OptionPlace.TheVariants as places
 use Rattle.pbx_tree.specs.Conditions.{settings_of, enum_setting}
-use Rattle.pbx_tree.specs.Tree.{Number, all_of, RangeEnd, range_number, range_max, Range, Reserved, reserved_ranges, reserved_names, Value, EnumItem, empty_in_enum, enum_value, enum_reserved, enum_option, Enum}
+use Rattle.pbx_tree.specs.Tree.{Number, all_of, RangeEnd, range_number, range_max, Range, Reserved, reserved_ranges, reserved_names, Value, EnumItem, enum_value, enum_reserved, Enum}
 use Rattle.pbx_translation.specs.Texts.{signed, string_text}
 use Rattle.pbx_translation.specs.Settings.{options_of}
 

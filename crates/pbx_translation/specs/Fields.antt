@@ -1,5 +1,5 @@
 -- Records of fields, extensions and the entries of maps.
-use Rattle.std.specs.Prelude.{ℕ, List, [], ◌∷◌, Bool, true, false, Option, Some, None, option_map, option_and_then, ℤ, pos, if◌then◌else◌, codes, ◌++◌}
+use Rattle.std.specs.Prelude.{ℕ, List, [], ◌∷◌, Bool, true, false, Option, Some, None, option_map, option_and_then, ℤ, pos, if◌then◌else◌, codes}
 use Rattle.std.specs.List.{flat_map}
 use Rattle.pbx_wire.specs.declared.rec.Rec.TheVariants as rec
 use Rattle.pbx_desc.specs.declared.field.FieldDescriptorProto.{FieldDescriptorProto}
@@ -15,7 +15,7 @@ use Rattle.pbx_tree.specs.declared.tree.Version.{Version}
 use Rattle.pbx_tree.specs.declared.tree.Version.TheVariants as versions
 use Rattle.pbx_tree.specs.declared.options.OptionPlace.TheVariants as places
 use Rattle.pbx_tree.specs.Conditions.{settings_of}
-use Rattle.pbx_tree.specs.Tree.{TypeName, Kind, scalar, named_type, Constant, constant_number, constant_word, constant_string, Setting, Tail, Field, MapField, Member, empty_member, member, Oneof, Extension, empty_extension, extension, Extend}
+use Rattle.pbx_tree.specs.Tree.{TypeName, Kind, scalar, named_type, Constant, constant_number, constant_word, constant_string, Setting, Tail, Field, MapField, Member, empty_member, member, Extension, empty_extension, extension, Extend}
 use Rattle.pbx_translation.specs.Texts.{type_text, entry_name, string_text, escaped, number_text}
 use Rattle.pbx_translation.specs.Settings.{options_of, set_to}
 

@@ -1,5 +1,5 @@
 -- Words of the passes over the items of a tree.
-use Rattle.std.specs.Prelude.{◌≡◌, ℕ, List, ◌∷◌, map, length}
+use Rattle.std.specs.Prelude.{List, ◌∷◌, map}
 use Rattle.pbx_tree.specs.declared.tree.Separated.{Separated}
 
 -- in their order

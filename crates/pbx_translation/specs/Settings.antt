@@ -1,5 +1,5 @@
 -- Options records.
-use Rattle.std.specs.Prelude.{ℕ, List, [], ◌∷◌, Bool, Option, Some, None, option_map, if◌then◌else◌, codes}
+use Rattle.std.specs.Prelude.{ℕ, List, [], ◌∷◌, Option, Some, None, option_map, if◌then◌else◌, codes}
 use Rattle.std.specs.List.{flat_map, find}
 use Rattle.std.specs.Str.{bytes_eq}
 use Rattle.pbx_wire.specs.declared.rec.Rec.{Rec}
@@ -11,7 +11,7 @@ use Rattle.pbx_tree.specs.declared.options.OptionKind.{OptionKind}
 use Rattle.pbx_tree.specs.declared.options.OptionKind.TheVariants as kinds
 use Rattle.pbx_tree.specs.declared.options.KnownOption.{KnownOption}
 use Rattle.pbx_tree.specs.Options.{known_option, optimize_mode}
-use Rattle.pbx_tree.specs.Tree.{Name, Constant, constant_number, constant_word, constant_string, Setting}
+use Rattle.pbx_tree.specs.Tree.{Constant, constant_word, constant_string, Setting}
 
 -- `true` is 1, and `false` is 0
 abbrev pub truth : List ℕ → ℕ

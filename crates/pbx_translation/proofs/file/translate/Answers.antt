@@ -1,17 +1,12 @@
 use Rattle.std.proofs.Common.{◌≡◌, List, map, ap, Some, ◌∙◌}
 use Rattle.std.specs.List.{flat_map, filter_map}
-use Rattle.pbx_desc.specs.declared.enumeration.EnumDescriptorProto.{EnumDescriptorProto}
-use Rattle.pbx_desc.specs.declared.field.FieldDescriptorProto.{FieldDescriptorProto}
-use Rattle.pbx_desc.specs.declared.file.FileDescriptorProto.{FileDescriptorProto}
-use Rattle.pbx_desc.specs.declared.message.DescriptorProto.{DescriptorProto}
-use Rattle.pbx_desc.specs.declared.service.ServiceDescriptorProto.{ServiceDescriptorProto}
 use Rattle.pbx_tree.specs.declared.options.OptionPlace.TheVariants as places
 use Rattle.pbx_tree.specs.declared.tree.Modifier.TheVariants as modifiers
 use Rattle.pbx_tree.specs.Conditions.{packages, top_setting}
 use Rattle.pbx_tree.specs.Tree.{Import, Top}
 use Rattle.pbx_tree.specs.View.{top_of, import_of, file_of, setting_of}
 use Rattle.pbx_translation.specs.Settings.{options_of}
-use Rattle.pbx_translation.specs.Translation.{imports_in, messages_in, enums_in, services_in, extensions_in, import_name, indexes_from, version_in, syntax_name, package_name, translate_of}
+use Rattle.pbx_translation.specs.Translation.{imports_in, messages_in, enums_in, services_in, extensions_in, import_name, indexes_from, version_in, syntax_name, package_name}
 use Rattle.pbx_translation.proofs.Tops.{gathered_at_top}
 use Rattle.pbx_translation.proofs.file.translate.Goals as goal
 

@@ -1,5 +1,4 @@
 use Rattle.std.proofs.Common.{ap, ◌∙◌}
-use Rattle.pbx_tree.specs.declared.tree.Item.{Item}
 use Rattle.pbx_tree.specs.View.{body_of}
 use Rattle.pbx_translation.specs.Messages.{nested_types}
 use Rattle.pbx_translation.proofs.ItemForms.{adds_no_type, adds_entry, adds_message}

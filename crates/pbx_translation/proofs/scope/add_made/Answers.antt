@@ -15,11 +15,10 @@ each-preserved c = λ taken h.
     let made = c.as_str.result.now in
     let named : made ≡ free_name w.0 (95 ∷ n.now) = c.as_str.ensures.value ∙ c.in_ok-made.ensures w.0 w.1 ∙ ap (free_name w.0) c.in_ok-joined.ensures in
     let same : c.as_str-in-each.result.now ≡ made = c.as_str-in-each.ensures.value ∙ sym c.as_str.ensures.value in
-    let after : c.add-in-each.new.self ≡ c.each.oneofs ++ oneof_record made ∷ [] = c.in_ok-add-2.ensures.ok ∙ ap (λ o. c.each.oneofs ++ o ∷ []) (c.in_ok-oneof_record.ensures ∙ ap oneof_record same) in
-    (
+    let after : c.add-in-each.new.self ≡ c.each.oneofs ++ oneof_record made ∷ [] = c.in_ok-add-2.ensures.ok ∙ ap (λ o. c.each.oneofs ++ o ∷ []) (c.in_ok-oneof_record.ensures ∙ ap oneof_record same) in (
       w.0 ++ made ∷ [],
       c.in_ok-add.ensures w.0 w.1,
-      made_goes_on text_in names c.each.name-index n w.0 made c.each.oneofs c.add-in-each.new.self _ c.each-test.true (get_or_default names c.each.name-index _ _ c.each-test.true) named after w.2
+      made_goes_on text_in names c.each.name-index n w.0 made c.each.oneofs c.add-in-each.new.self _ c.each-test.true (get_or_default names c.each.name-index _ _ c.each-test.true) named after w.2,
     )
 
 pub returns : goal.returns
