@@ -66,11 +66,7 @@ fn gives_records(rt: HostRuntime) -> Result<(), Fail> {
 }
 
 // Each source has an error of this place, with what could stand there and what does.
-fn refuse(
-    rt: &impl Abort,
-    alloc: Global,
-    rows: &[(&str, &str, &str, &str)],
-) -> Result<(), Fail> {
+fn refuse(rt: &impl Abort, alloc: Global, rows: &[(&str, &str, &str, &str)]) -> Result<(), Fail> {
     for (source, place, expected, found) in rows {
         let got = shown(rt, alloc, source)?;
         let want = format!(in alloc; "foo.proto:{place}: expected {expected}, but found {found}")?;
@@ -94,11 +90,31 @@ fn refuses_tokens(rt: HostRuntime) -> Result<(), Fail> {
             ("message A", "1:10", "'{'", "end of file"),
             ("mesage A {}", "1:1", top, "'mesage'"),
             ("\r\n\u{feff}message A {}", "2:1", top, "'\u{feff}'"),
-            ("syntax = \"proto4\";", "1:10", "\"proto2\" or \"proto3\"", "'\"proto4\"'"),
-            ("syntax = proto3;", "1:10", "\"proto2\" or \"proto3\"", "'proto3'"),
+            (
+                "syntax = \"proto4\";",
+                "1:10",
+                "\"proto2\" or \"proto3\"",
+                "'\"proto4\"'",
+            ),
+            (
+                "syntax = proto3;",
+                "1:10",
+                "\"proto2\" or \"proto3\"",
+                "'proto3'",
+            ),
             ("import a;", "1:8", "an import name in quotes", "'a'"),
-            ("import \"\\xff\";", "1:8", "a string in UTF-8", "'\"\\xff\"'"),
-            ("package a;\n\tpackage b;", "2:2", "no second package", "'package'"),
+            (
+                "import \"\\xff\";",
+                "1:8",
+                "a string in UTF-8",
+                "'\"\\xff\"'",
+            ),
+            (
+                "package a;\n\tpackage b;",
+                "2:2",
+                "no second package",
+                "'package'",
+            ),
             (
                 "message A { optional int32 a = 2147483648; }",
                 "1:32",
@@ -127,7 +143,12 @@ fn refuses_faults(rt: HostRuntime) -> Result<(), Fail> {
         &[
             ("syntax\n\n \u{e9};", "3:2", "'='", "'\u{e9}'"),
             ("syntax = 'proto3", "1:17", "a closing quote", "end of file"),
-            ("syntax = 'proto3\";", "1:19", "a closing quote", "end of file"),
+            (
+                "syntax = 'proto3\";",
+                "1:19",
+                "a closing quote",
+                "end of file",
+            ),
             ("syntax = 'proto3\n';", "1:17", "a closing quote", "'\n'"),
             ("syntax = 'proto\\83';", "1:16", "a valid escape", "'\\'"),
             ("syntax = 'proto\\64';", "1:10", version, "''proto\\64''"),
@@ -136,12 +157,37 @@ fn refuses_faults(rt: HostRuntime) -> Result<(), Fail> {
             ("/* \u{e9} */ \u{e9}", "1:10", top, "'\u{e9}'"),
             ("\n/", "2:1", top, "'/'"),
             ("\nmesage M {}\n'", "2:1", top, "'mesage'"),
-            ("message M { optional int32 a = 08; }", "1:32", number, "'08'"),
-            ("message M { optional int32 a = 1a; }", "1:32", number, "'1a'"),
-            ("message M { optional int32 a = 1.; }", "1:32", number, "'1.'"),
-            ("message M { optional int32 a = 0x; }", "1:32", number, "'0x'"),
+            (
+                "message M { optional int32 a = 08; }",
+                "1:32",
+                number,
+                "'08'",
+            ),
+            (
+                "message M { optional int32 a = 1a; }",
+                "1:32",
+                number,
+                "'1a'",
+            ),
+            (
+                "message M { optional int32 a = 1.; }",
+                "1:32",
+                number,
+                "'1.'",
+            ),
+            (
+                "message M { optional int32 a = 0x; }",
+                "1:32",
+                number,
+                "'0x'",
+            ),
             ("import 'a\\400';", "1:10", "a valid escape", "'\\'"),
-            ("import import '\\q", "1:8", "an import name in quotes", "'import'"),
+            (
+                "import import '\\q",
+                "1:8",
+                "an import name in quotes",
+                "'import'",
+            ),
         ],
     )
 }

@@ -28,11 +28,18 @@ returns-in-Ok-record-clause-found c =
     let tokens = tokens_of c.in-Ok.tokens.items in
     let read = c.in-Ok-read_file.ensures in
     let same : tokens_of c.as_slice.result.now ≡ tokens = ap tokens_of c.as_slice.ensures.value in
-    (tokens, c.in-Ok.ensures.found, file_of c.in-Ok-read_file.file, sym same ∙ read.found, read.fits,
-      c.in-Ok-record.ensures ∙ ap (λ ts. record_of c.args.name.now ts (file_of c.in-Ok-read_file.file)) same)
+    let again : tokens_of c.as_slice-2.result.now ≡ tokens = ap tokens_of c.as_slice-2.ensures.value in (
+      tokens,
+      c.in-Ok.ensures.found,
+      file_of c.in-Ok-read_file.file,
+      sym same ∙ read.found,
+      read.fits,
+      c.in-Ok-record.ensures ∙ ap (λ ts. record_of c.args.name.now ts (file_of c.in-Ok-read_file.file)) again,
+    )
 
 pub returns-in-Ok-record-clause-only : goal.returns-in-Ok-record-clause-only
 returns-in-Ok-record-clause-only c = λ f r.
     let lexed : tokens_of c.as_slice.result.now ≡ r.0 = ap tokens_of c.as_slice.ensures.value ∙ c.in-Ok.ensures.only r.0 r.1 in
+    let again : tokens_of c.as_slice-2.result.now ≡ r.0 = ap tokens_of c.as_slice-2.ensures.value ∙ c.in-Ok.ensures.only r.0 r.1 in
     let tree = c.in-Ok-read_file.ensures.only r.2 r.4 (lexed ∙ r.3) in
-    c.in-Ok-record.ensures ∙ ap (λ ts. record_of c.args.name.now ts (file_of c.in-Ok-read_file.file)) lexed ∙ ap (record_of c.args.name.now r.0) tree ∙ sym r.5
+    c.in-Ok-record.ensures ∙ ap (λ ts. record_of c.args.name.now ts (file_of c.in-Ok-read_file.file)) again ∙ ap (record_of c.args.name.now r.0) tree ∙ sym r.5
