@@ -21,12 +21,12 @@ impl Model for Frame {
     ghost use Rattle.std.specs.Prelude.{◌≡◌, ◌≤◌, length, true};
     ghost use Rattle.std.specs.Coded.{codes};
     ghost use Rattle.std.specs.Str.{bytes_eq};
-    ghost use Rattle.pbx_wire.specs.contracts.rec.Rec as rec;
+    ghost use Rattle.pbx_desc.specs.contracts.file.FileDescriptorProto as proto;
     ghost use Rattle.protox_compile.specs.Walk.{Open, imports_of, declared_name};
 
     ghost Value = { Open };
 
-    ghost coded = { Prim.hlevel (codes, rec.the_row.coded) };
+    ghost coded = { Prim.hlevel (codes, proto.the_row.coded) };
 
     ghost view = { λ f. record { name = f.name; entry = f.file; next = f.next } };
 
