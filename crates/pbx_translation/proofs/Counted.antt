@@ -1,14 +1,11 @@
 -- What is counted on the way through a list.
-use Rattle.std.proofs.Common.{◌≡◌, ℕ, ◌+◌, ◌<◌, ◌≤◌, List, [], ◌∷◌, ◌++◌, length, map, drop, get_or, Bool, true, false, Option, Some, None, refl, sym, ap, ◌∙◌, append_assoc, append-nil, add-one, drop-cons, if◌then◌else◌, pos}
-use Rattle.std.specs.List.{flat_map}
+use Rattle.std.proofs.Common.{◌≡◌, ℕ, ◌+◌, ◌<◌, ◌≤◌, List, [], ◌∷◌, ◌++◌, length, map, drop, get_or, refl, sym, ap, ◌∙◌, add-one, drop-cons, if◌then◌else◌, pos}
 use Rattle.std.proofs.Math.ListN.{drop_of_length-le}
-use Rattle.pbx_desc.specs.declared.field.FieldDescriptorProto.{FieldDescriptorProto}
 use Rattle.pbx_desc.specs.declared.message.DescriptorProto.{DescriptorProto}
 use Rattle.pbx_tree.specs.declared.tree.Version.{Version}
 use Rattle.pbx_tree.specs.declared.tree.Modifier.{Modifier}
-use Rattle.pbx_tree.specs.declared.tree.Item as code_item
 use Rattle.pbx_tree.specs.Tree.{Import, Body, end}
-use Rattle.pbx_tree.specs.View.{Piece, plain, nested, add, all_before, item_of, body_of}
+use Rattle.pbx_tree.specs.View.{Piece, plain, nested, add}
 use Rattle.pbx_translation.specs.Messages.{oneofs_in, optional_names_in, fields_in, fields_from, entries_in, message_with, nested_types}
 use Rattle.pbx_translation.specs.Translation.{has_modifier, indexes_from}
 

@@ -1,10 +1,10 @@
 -- What items give, one after the other, and what is seen of it.
-use Rattle.std.proofs.Common.{◌≡◌, ℕ, ◌+◌, ◌<◌, ◌≤◌, List, [], ◌∷◌, ◌++◌, length, map, drop, get_or, Option, Some, None, refl, sym, ap, ◌∙◌, append_assoc, append-nil, add-one, drop-cons, arith}
+use Rattle.std.proofs.Common.{◌≡◌, ℕ, ◌+◌, ◌<◌, ◌≤◌, List, [], ◌∷◌, ◌++◌, length, map, drop, get_or, refl, sym, ap, ◌∙◌, append_assoc, append-nil, add-one, drop-cons}
 use Rattle.std.specs.List.{flat_map}
 use Rattle.std.proofs.Math.ListN.{drop_of_length-le}
 use Rattle.pbx_token.specs.declared.token.Span.{Span}
 use Rattle.pbx_tree.specs.declared.tree.Separated.{Separated}
-use Rattle.pbx_tree.specs.Tree.{Body, end, all_of}
+use Rattle.pbx_tree.specs.Tree.{end, all_of}
 use Rattle.pbx_tree.specs.View.{next_of, separated_of, Piece, plain, nested, all_before}
 use Rattle.pbx_translation.specs.Passes.{listed}
 use Rattle.pbx_translation.specs.Messages.{pieces}

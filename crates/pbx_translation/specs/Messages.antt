@@ -12,7 +12,7 @@ use Rattle.pbx_token.specs.declared.token.Span.{Span}
 use Rattle.pbx_tree.specs.declared.tree.Version.{Version}
 use Rattle.pbx_tree.specs.declared.options.OptionPlace.TheVariants as places
 use Rattle.pbx_tree.specs.Conditions.{body_settings}
-use Rattle.pbx_tree.specs.Tree.{Count, all_of, RangeEnd, range_number, range_max, Range, Reserved, reserved_ranges, reserved_names, Field, Member, empty_member, member, Extension, empty_extension, extension, EnumItem, enum_value, Item, item_field, item_map, item_oneof, item_enum, item_extend, item_extensions, item_reserved, Body, end, item, message}
+use Rattle.pbx_tree.specs.Tree.{Count, all_of, RangeEnd, range_number, range_max, Range, Reserved, reserved_ranges, reserved_names, Member, empty_member, member, Extension, empty_extension, extension, EnumItem, enum_value, Item, item_field, item_map, item_oneof, item_enum, item_extend, item_extensions, item_reserved, Body, end, item, message}
 use Rattle.pbx_tree.specs.View.{Piece, plain, nested}
 use Rattle.pbx_translation.specs.Texts.{entry_name}
 use Rattle.pbx_translation.specs.Settings.{options_of}

@@ -1,4 +1,4 @@
-use Rattle.std.proofs.Common.{◌≡◌, [], map, ap, ◌∙◌}
+use Rattle.std.proofs.Common.{◌≡◌, map, ap, ◌∙◌}
 use Rattle.std.specs.List.{flat_map, filter_map}
 use Rattle.pbx_tree.specs.declared.tree.Modifier.TheVariants as modifiers
 use Rattle.pbx_tree.specs.declared.options.OptionPlace.TheVariants as places

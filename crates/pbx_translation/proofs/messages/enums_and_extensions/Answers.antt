@@ -1,7 +1,4 @@
-use Rattle.std.proofs.Common.{◌≡◌, List, ◌∙◌}
-use Rattle.std.specs.List.{flat_map}
-use Rattle.pbx_tree.specs.View.{body_of}
-use Rattle.pbx_translation.specs.Messages.{pieces, enums_in, extensions_in}
+use Rattle.pbx_translation.specs.Messages.{enums_in, extensions_in}
 use Rattle.pbx_translation.proofs.Whole.{gathered}
 use Rattle.pbx_translation.proofs.messages.enums_and_extensions.Goals as goal
 

@@ -1,7 +1,4 @@
-use Rattle.std.proofs.Common.{◌≡◌, List, ◌∙◌}
-use Rattle.std.specs.List.{flat_map}
-use Rattle.pbx_tree.specs.View.{body_of}
-use Rattle.pbx_translation.specs.Messages.{pieces, reserved_ranges_in, reserved_names_in}
+use Rattle.pbx_translation.specs.Messages.{reserved_ranges_in, reserved_names_in}
 use Rattle.pbx_translation.proofs.Whole.{gathered}
 use Rattle.pbx_translation.proofs.messages.ranges_and_names.Goals as goal
 
