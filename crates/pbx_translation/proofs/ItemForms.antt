@@ -62,11 +62,8 @@ module _ (v : Version) (x : Item) (before after : List DescriptorProto) where
       ∙ sym (append-nil before)
       ∙ ap (λ (ys : List DescriptorProto). before ++ ys) (sym (ap (types_in v) (layer_of x) ∙ no_type_in v (out-Item x) (λ h is close e. p h is close (sym (roll-out-Item x) ∙ e)) (λ m e. q m (sym (roll-out-Item x) ∙ e))))
 
-  pub adds_entry : (m : code_map.MapField) (r : DescriptorProto) → x ≡ items.Map m → r ≡ entry_record (map_of m) → after ≡ before ++ r ∷ [] → after ≡ before ++ types_in v (item_of x)
-  adds_entry m r e made added =
-      added
-      ∙ ap (λ (y : DescriptorProto). before ++ y ∷ []) made
-      ∙ ap (λ (p : Piece). before ++ types_in v p) (sym (ap item_of e ∙ piece_of_map m))
+  pub adds_entry : (m : code_map.MapField) → x ≡ items.Map m → after ≡ before ++ entry_record (map_of m) ∷ [] → after ≡ before ++ types_in v (item_of x)
+  adds_entry m e added = added ∙ ap (λ (p : Piece). before ++ types_in v p) (sym (ap item_of e ∙ piece_of_map m))
 
   pub adds_message : (h : code_head.Head) (is : Vec Item Global) (close : Span) (inner : List Item) (types : List DescriptorProto) (r : DescriptorProto) → x ≡ items.Message h is close
       → inner ≡ is.items → types ≡ nested_types v (body_of is.items) → r ≡ message_with v h.name.text.now (body_of inner) types → after ≡ before ++ r ∷ [] → after ≡ before ++ types_in v (item_of x)

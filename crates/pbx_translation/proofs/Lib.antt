@@ -7,4 +7,4 @@ pub mod Strings
 pub mod ItemForms
 pub mod Steps
 pub mod Whole
-pub mod Tops
+pub mod WholeFile

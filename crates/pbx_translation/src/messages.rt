@@ -1,11 +1,12 @@
 //! Records of messages.
 
-ghost use Rattle.std.specs.Prelude.{◌≡◌, ◌+◌, ◌++◌, pos, length, map, IfOk, OnOk};
+ghost use Rattle.std.specs.Prelude.{◌≡◌, ◌+◌, ◌++◌, ◌∷◌, [], pos, length, map, IfOk, OnOk};
 ghost use Rattle.std.specs.List.{flat_map};
 ghost use Rattle.pbx_tree.specs.declared.options.OptionPlace.TheVariants as places;
 ghost use Rattle.pbx_tree.specs.Conditions.{body_settings};
-ghost use Rattle.pbx_tree.specs.View.{range_of, range_number_of, reserved_of, item_of, body_of};
+ghost use Rattle.pbx_tree.specs.View.{range_of, range_number_of, reserved_of, map_of, item_of, body_of};
 ghost use Rattle.pbx_translation.specs.Settings.{options_of};
+ghost use Rattle.pbx_translation.specs.Fields.{entry_record as entry_record_of};
 ghost use Rattle.pbx_translation.specs.Enums.{names_reserved};
 ghost use Rattle.pbx_translation.specs.Messages.{last_number as last_number_of, reserved_range, extension_range, ranges_reserved, reserved_ranges_in, reserved_names_in, extension_ranges_in, enums_in, extensions_in, oneofs_in as oneofs_in_of, optional_names_in, fields_in, fields_from, fields_of, oneof_records, pieces, message_with as message_with_of, nested_types as nested_types_of};
 
@@ -21,7 +22,7 @@ use pbx_desc::{
     OneofDescriptorProto, Options, ReservedRange,
 };
 use pbx_tree::{
-    Item, OptionPlace, Range, RangeEnd, RangeNumber, Reserved, Version, message_settings,
+    Item, MapField, OptionPlace, Range, RangeEnd, RangeNumber, Reserved, Version, message_settings,
 };
 use pbx_wire::{List, NoMemory, Recs, Text, Texts};
 use std::alloc::Global;
@@ -332,6 +333,17 @@ pub(crate) fn message_with(
     })
 }
 
+/// Adds the entry of a map field.
+fn add_entry(
+    alloc: Global,
+    map: &MapField<'_>,
+    records: &mut List<DescriptorProto>,
+) -> Result<(), NoMemory>
+    ensures { OnOk result (records.new ≡ records.old ++ entry_record_of (map_of map.now) ∷ []) }
+{
+    records.add(entry_record(alloc, map)?)
+}
+
 /// The messages and the entries of maps among the items of a message.
 pub(crate) fn nested_types(
     items: &Vec<Item<'_>>,
@@ -347,7 +359,7 @@ pub(crate) fn nested_types(
                 let types = nested_types(inner, alloc, version)?;
                 records.add(message_with(alloc, version, head.name.text, inner, types)?)?;
             }
-            Item::Map(map) => records.add(entry_record(alloc, map)?)?,
+            Item::Map(map) => add_entry(alloc, map, &mut records)?,
             _ => {}
         }
     }

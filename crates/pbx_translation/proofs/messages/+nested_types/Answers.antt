@@ -4,7 +4,7 @@ use Rattle.pbx_translation.specs.Messages.{nested_types}
 use Rattle.pbx_translation.proofs.ItemForms.{adds_no_type, adds_entry, adds_message}
 use Rattle.pbx_translation.proofs.Steps.{types_go_on, types_end}
 use Rattle.pbx_translation.proofs.messages.+nested_types.Goals as goal
-use Rattle.pbx_translation.proofs.messages.+nested_types.Goals.{in-Message+in_ok-types-in-Message+in_ok-message_with-in-Message+in_ok-add-in-Message, in-Map+in_ok-entry_record-in-Map+in_ok-add-in-Map, in_default}
+use Rattle.pbx_translation.proofs.messages.+nested_types.Goals.{in-Message+in_ok-types-in-Message+in_ok-message_with-in-Message+in_ok-add-in-Message, in-Map+in_ok-add_entry-in-Map, in_default}
 
 pub each-preserved : goal.each-preserved
 each-preserved t c =
@@ -16,8 +16,7 @@ each-preserved t c =
     (elim c.match-item.branch [
       | in-Message+in_ok-types-in-Message+in_ok-message_with-in-Message+in_ok-add-in-Message w ↦
           adds_message v x before all w.in-Message.head w.in-Message.inner w.in-Message.field-2 w.deref.result.now w.in_ok-types-in-Message.types w.in_ok-message_with-in-Message.field-0 w.in-Message.is w.deref.ensures.value w.in_ok-types-in-Message.ensures w.in_ok-message_with-in-Message.ensures (w.records-is ∙ w.in_ok-add-in-Message.ensures.ok)
-      | in-Map+in_ok-entry_record-in-Map+in_ok-add-in-Map w ↦
-          adds_entry v x before all w.in-Map.map w.in_ok-entry_record-in-Map.field-0 w.in-Map.is w.in_ok-entry_record-in-Map.ensures (w.records-is ∙ w.in_ok-add-in-Map.ensures.ok)
+      | in-Map+in_ok-add_entry-in-Map w ↦ adds_entry v x before all w.in-Map.map w.in-Map.is (w.records-is ∙ w.in_ok-add_entry-in-Map.ensures)
       | in_default w ↦ adds_no_type v x before all w.in_default.not-Message w.in_default.not-Map w.records-is
     ])
 
