@@ -1,5 +1,6 @@
 -- The place of an import in its source (Protocol Buffers, descriptor.proto: SourceCodeInfo.Location).
-use Rattle.std.specs.Prelude.{ℕ, ◌+◌, ◌==◌, ◌&&◌, ℤ, pos, List, [], ◌∷◌, Bool, false, if◌then◌else◌, Option, Some, None, option_and_then, option_or}
+use Rattle.std.specs.Prelude.{ℕ, ◌+◌, ◌==◌, ◌&&◌, ℤ, pos, List, [], ◌∷◌, Bool, false, if◌then◌else◌, Option, Some, None, option_and_then}
+use Rattle.std.specs.Option.{option_or}
 use Rattle.pbx_desc.specs.declared.source.Location.{Location}
 use Rattle.pbx_desc.specs.declared.source.SourceCodeInfo.{SourceCodeInfo}
 use Rattle.protox_file.specs.Told.{Entry}
