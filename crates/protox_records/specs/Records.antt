@@ -52,6 +52,13 @@ framed bytes = decimal (length bytes) ++ codes "\n" ++ bytes
 abbrev pub BeginsRecord : (List Component → Held) → List ℕ → List ℕ → Type 0
 BeginsRecord holds name added = (bytes : List ℕ) × HasRecord holds name bytes × Begins added (framed bytes)
 
+-- the output failed, or memory
+abbrev pub IsOfOutput : Stop → Type 0
+IsOfOutput (Refused line) = ⊥
+IsOfOutput (Unread line) = ⊥
+IsOfOutput Output = Unit {0}
+IsOfOutput NoMemory = Unit {0}
+
 -- what was written at the file that ended the run
 abbrev pub EndsAt : (List Component → Held) → List ℕ → List ℕ → Stop → Type 0
 EndsAt holds name added (Refused line) = (added ≡ []) × HasNone holds name line

@@ -1,5 +1,5 @@
 -- How a run ends: its status, and the line on err.
-use Rattle.std.specs.Prelude.{◌≡◌, ◌∷◌, ◌++◌, [], ◌⊎◌, ℕ, List, Result, Ok, Err, Bool, IsTrue, codes}
+use Rattle.std.specs.Prelude.{◌≡◌, ◌++◌, [], ◌⊎◌, ℕ, List, Result, Ok, Err, Bool, IsTrue, codes}
 use Rattle.protox_io.specs.Disk.{Held}
 use Rattle.protox_io.specs.Paths.{Component}
 use Rattle.protox_io.specs.Sink.{Appends, Begins}
@@ -29,9 +29,13 @@ Caused disk out (Unread line) = disk
 Caused disk out Output = out
 Caused disk out NoMemory = Unit {0}
 
+-- a sink refused a write
+abbrev pub SinkRefuses : Type 0 → Bool → Type 0
+SinkRefuses rose short = rose ⊎ IsTrue short
+
 -- what a sink that tells holds after it was told these bytes: all, or the first of them where it refused
-abbrev pub Says : Bool → List ℕ → List ℕ → List ℕ → Type 0
-Says tells old new whole = IsTrue tells → Appends old new (λ said. Begins said whole)
+abbrev pub Says : Bool → Type 0 → List ℕ → List ℕ → List ℕ → Type 0
+Says tells refused old new whole = IsTrue tells → Appends old new (λ said. Begins said whole × ((said ≡ whole) ⊎ refused))
 
 -- Some end of the run, of this status, wrote this of the files, and its line is this.
 abbrev pub Ends : (List Component → Held) → List (List ℕ) → ℕ → List ℕ → List ℕ → Type 0

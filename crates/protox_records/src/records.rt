@@ -5,7 +5,7 @@ ghost use Rattle.pbx_desc_shape.specs.Shape.{descriptor_shape};
 ghost use Rattle.pbx_desc.specs.Content.{file_content};
 ghost use Rattle.protox_io.specs.Count.{Rose};
 ghost use Rattle.protox_io.specs.Sink.{Appends, Prints};
-ghost use Rattle.protox_records.specs.Records.{HasRecord, IsReason, IsOf, WritesOne, Writes, framed};
+ghost use Rattle.protox_records.specs.Records.{HasRecord, IsReason, IsOf, IsOfOutput, WritesOne, Writes, framed};
 ghost use Rattle.protox_records.specs.Stops.{Caused};
 
 use crate::stop::Stop;
@@ -62,16 +62,17 @@ fn record<D: Disk>(alloc: Global, name: &str, disk: &mut D) -> Result<Vec<u8>, S
     }
 }
 
-/// Writes the length of a record, a line feed, and the record.
-fn write_record<K: Sink>(out: &mut K, record: &[u8]) -> Result<(), Stop>
-    ensures told { IsTrue (K.tells out.old) → Appends (K.held out.old) (K.held out.new) (Prints (framed record.now) result) }
+/// Writes the length of a record's bytes, a line feed, and the bytes.
+fn write_record<K: Sink>(out: &mut K, bytes: &[u8]) -> Result<(), Stop>
+    ensures told { IsTrue (K.tells out.old) → Appends (K.held out.old) (K.held out.new) (Prints (framed bytes.now) result) }
+    ensures stop { IfErr result IsOfOutput }
     ensures cause { IfErr result (Caused ⊥ (Rose (K.faults out.old) (K.faults out.new) (K.at_end out.new))) }
     ensures later { K.faults out.old ≤ K.faults out.new }
     ensures keeps_tells { K.tells out.new ≡ K.tells out.old }
 {
     let mut buffer = Buffer::new();
-    let length = buffer.format(record.len());
-    match write_pieces(out, &[length.as_bytes(), b"\n", record]) {
+    let length = buffer.format(bytes.len());
+    match write_pieces(out, &[length.as_bytes(), b"\n", bytes]) {
         Ok(()) => Ok(()),
         Err(SinkError::Failed) => Err(Stop::Output),
         Err(SinkError::NoMemory) => Err(Stop::NoMemory),

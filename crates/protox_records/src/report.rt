@@ -1,13 +1,14 @@
 ghost use Rattle.std.specs.Prelude.{◌≡◌};
 ghost use Rattle.std.specs.List.{flat_map};
-ghost use Rattle.protox_records.specs.Stops.{status_of, line_of, Says};
+ghost use Rattle.protox_io.specs.Count.{Rose};
+ghost use Rattle.protox_records.specs.Stops.{status_of, line_of, Says, SinkRefuses};
 
 use crate::stop::Stop;
 use protox_io::{Sink, write_pieces};
 
 /// Writes the pieces in a row; a refused write ends it.
 fn say<E: Sink>(err: &mut E, pieces: &[&[u8]])
-    ensures { Says (E.tells err.old) (E.held err.old) (E.held err.new) (flat_map (λ p. p.now) pieces.now) }
+    ensures { Says (E.tells err.old) (SinkRefuses (Rose (E.faults err.old) (E.faults err.new) (E.at_end err.new)) (E.short err.new)) (E.held err.old) (E.held err.new) (flat_map (λ p. p.now) pieces.now) }
 {
     let _ = write_pieces(err, pieces);
 }
@@ -25,7 +26,7 @@ fn status(ended: &Result<(), Stop>) -> u8
 }
 
 fn say_end<E: Sink>(err: &mut E, ended: &Result<(), Stop>)
-    ensures { Says (E.tells err.old) (E.held err.old) (E.held err.new) (line_of ended.now) }
+    ensures { Says (E.tells err.old) (SinkRefuses (Rose (E.faults err.old) (E.faults err.new) (E.at_end err.new)) (E.short err.new)) (E.held err.old) (E.held err.new) (line_of ended.now) }
 {
     match ended {
         Ok(()) => {}
@@ -39,7 +40,7 @@ fn say_end<E: Sink>(err: &mut E, ended: &Result<(), Stop>)
 /// Says on err why the run ended, and gives its status.
 pub(crate) fn report<E: Sink>(err: &mut E, ended: &Result<(), Stop>) -> u8
     ensures status { result ≡ status_of ended.now }
-    ensures said { Says (E.tells err.old) (E.held err.old) (E.held err.new) (line_of ended.now) }
+    ensures said { Says (E.tells err.old) (SinkRefuses (Rose (E.faults err.old) (E.faults err.new) (E.at_end err.new)) (E.short err.new)) (E.held err.old) (E.held err.new) (line_of ended.now) }
 {
     say_end(err, ended);
     status(ended)

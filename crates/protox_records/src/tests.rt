@@ -46,7 +46,10 @@ fn ends_at_the_first_file_without_a_record(rt: HostRuntime) -> Result<(), Fail> 
     let alloc = rt.alloc();
     for (name, line) in [
         ("none.proto", "error: file 'none.proto' not found\n"),
-        ("bytes.proto", "error: file 'bytes.proto' is not valid utf-8\n"),
+        (
+            "bytes.proto",
+            "error: file 'bytes.proto' is not valid utf-8\n",
+        ),
         (
             "bad.proto",
             "error: bad.proto:1:18: expected ';', but found end of file\n",

@@ -1,7 +1,7 @@
 ghost use Rattle.std.specs.Prelude.{◌≡◌, ◌≤◌, ◌⊎◌, IsTrue, List, ℕ};
 ghost use Rattle.protox_io.specs.Count.{Rose};
 ghost use Rattle.protox_io.specs.Sink.{Appends};
-ghost use Rattle.protox_records.specs.Stops.{Ends, Says};
+ghost use Rattle.protox_records.specs.Stops.{Ends, Says, SinkRefuses};
 
 use crate::records::write_records;
 use crate::report::report;
@@ -23,7 +23,7 @@ pub fn run<D: Disk, K: Sink, E: Sink>(
     ensures told { IsTrue (D.tells disk.old) → IsTrue (K.tells out.old) →
         (line : List ℕ)
         × Appends (K.held out.old) (K.held out.new) (λ added. Ends (D.holds disk.old) names.now result added line)
-        × Says (E.tells err.old) (E.held err.old) (E.held err.new) line }
+        × Says (E.tells err.old) (SinkRefuses (Rose (E.faults err.old) (E.faults err.new) (E.at_end err.new)) (E.short err.new)) (E.held err.old) (E.held err.new) line }
     ensures fault { result ≡ 3 → Rose (D.faults disk.old) (D.faults disk.new) (D.at_end disk.new) ⊎ Rose (K.faults out.old) (K.faults out.new) (K.at_end out.new) }
     ensures status { result ≤ 4 }
 {

@@ -190,19 +190,31 @@ pub(super) fn source_code_info(alloc: Global) -> Result<SourceCodeInfo, NoMemory
     Ok(source_code_info)
 }
 
-pub(super) fn file(alloc: Global) -> Result<FileDescriptorProto, NoMemory> {
-    let mut file = FileDescriptorProto::new(alloc);
+/// Gives the file its name, its package, its syntax and its imports.
+fn add_names(alloc: Global, file: &mut FileDescriptorProto) -> Result<(), NoMemory> {
     file.name = text(alloc, "a.proto")?;
     file.package = text(alloc, "p")?;
     file.dependency = texts(alloc, &["b", "c"])?;
+    file.public_dependency = numbers(alloc, &[0])?;
+    file.weak_dependency = numbers(alloc, &[1])?;
+    file.syntax = text(alloc, "proto3")?;
+    Ok(())
+}
+
+/// Gives the file one declaration of each sort.
+fn add_declarations(alloc: Global, file: &mut FileDescriptorProto) -> Result<(), NoMemory> {
     file.message_type.add(message(alloc)?)?;
     file.enum_type.add(named_enumeration(alloc, "F")?)?;
     file.service.add(service(alloc)?)?;
     file.extension.add(named_field(alloc, "z")?)?;
+    Ok(())
+}
+
+pub(super) fn file(alloc: Global) -> Result<FileDescriptorProto, NoMemory> {
+    let mut file = FileDescriptorProto::new(alloc);
+    add_names(alloc, &mut file)?;
+    add_declarations(alloc, &mut file)?;
     file.options = Some(options(alloc)?);
     file.source_code_info = Some(source_code_info(alloc)?);
-    file.public_dependency = numbers(alloc, &[0])?;
-    file.weak_dependency = numbers(alloc, &[1])?;
-    file.syntax = text(alloc, "proto3")?;
     Ok(file)
 }
