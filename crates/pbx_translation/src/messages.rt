@@ -239,15 +239,15 @@ fn fields(
 ) -> Result<List<FieldDescriptorProto>, NoMemory>
     ensures { IfOk result (λ records. records ≡ fields_from version 0 oneofs (map item_of items.now)) }
 {
-    let mut records = List::new(alloc);
+    let mut all = List::new(alloc);
     let mut written = 0;
     let mut made = oneofs;
     'each: for item in items {
-        add_fields(alloc, version, written, made, item, &mut records)?;
+        add_fields(alloc, version, written, made, item, &mut all)?;
         written = counted(written, oneofs_in(item))?;
         made = counted(made, optionals_in(version, item))?;
     }
-    Ok(records)
+    Ok(all)
 }
 
 /// So many more.

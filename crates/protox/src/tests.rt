@@ -238,11 +238,7 @@ fn refuses(rt: HostRuntime) -> Result<(), Fail> {
             "{}",
             "1||error: m.proto:1:42: expected a field number, but found '2147483648'\n|-",
         ),
-        case(
-            "",
-            "{}",
-            "1||error: m.proto: record not built yet\n|-",
-        ),
+        case("", "{}", "1||error: m.proto: record not built yet\n|-"),
         case(
             "\u{feff}syntax = \"proto3\";",
             "{}",
