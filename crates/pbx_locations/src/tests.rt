@@ -47,13 +47,8 @@ fn name(span: Span) -> Name<'static> {
     Name { text: "a", span }
 }
 
-#[tactic(auto, unfolding(pbx_token::specs::Escapes::unescaped_after))]
 fn literal(span: Span) -> Literal<'static> {
-    Literal {
-        text: "",
-        span,
-        is_text: true,
-    }
+    Literal::new("", span)
 }
 
 fn full(alloc: Global, first: Span, others: &[Span]) -> Result<Separated<Name<'static>>, Fail> {
