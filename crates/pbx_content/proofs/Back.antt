@@ -17,11 +17,11 @@ use Rattle.pbx_content.specs.declared.shape.FieldShape.{FieldShape}
 use Rattle.pbx_content.specs.Content.{Content, Val, number, truth, text, message, many, Vals, no_vals, val, vals_of}
 use Rattle.pbx_content.specs.Records.{each, flat, varints_in}
 use Rattle.pbx_content.specs.Meaning.{Inner, numeric, unzigzag, spread, shown, singular, repeated, value}
-use Rattle.pbx_content.specs.Encoding.{numeral, varint_value, zigzag, number_rec, field_recs, vals_recs, val_rec, packed_text, encoded}
+use Rattle.pbx_content.specs.Encoding.{type_of, numeral, varint_value, zigzag, number_rec, field_recs, vals_recs, val_rec, packed_text, encoded}
 use Rattle.pbx_content.specs.Shape.{is_float, is_numeric}
 use Rattle.pbx_wire.specs.Spelling.{IsVarint}
 use Rattle.pbx_content.specs.Sound.{IsNumber, IsShown, IsSound, IsSoundAt, AreElements, IsElement, depth, val_depth, vals_depth}
-use Rattle.pbx_content.specs.Same.{settled, settled_val, settled_vals}
+use Rattle.pbx_content.proofs.Reread.{reread, reread_val, reread_vals}
 
 -- ---- numbers
 
@@ -54,7 +54,7 @@ truth_back false = refl
 
 -- the payload of a content that nests in fewer levels is read back
 pub record Reads (shape : Shape) (inner : Inner) (levels : ℕ) : Type 0 where
-  pub reads : (t : ℕ) (c : Content) → IsSound shape t c → length (encoded shape t c) < 2 ^ 64 → depth c < levels → inner t (encoded shape t c ∷ []) ≡ Some (settled c)
+  pub reads : (t : ℕ) (c : Content) → IsSound shape t c → length (encoded shape t c) < 2 ^ 64 → depth c < levels → inner t (encoded shape t c ∷ []) ≡ Some (reread shape t c)
 
 shown_is : (f : FieldShape) (v : Val) → IsShown f v → shown f.presence (Some v) ≡ Some v
 shown_is f v (inl e) = rw e refl
@@ -78,7 +78,7 @@ number_alone inner kind.Float n z h = absurd h
 number_alone inner (kind.Message t) n z h = absurd h
 
 element_back : (shape : Shape) (inner : Inner) (levels : ℕ) → Reads shape inner levels → (f : FieldShape) (v : Val) → IsElement shape f v → val_depth v ≤ levels
-    → spread inner f.kind (val_rec shape f v) ≡ Some (settled_val v ∷ [])
+    → spread inner f.kind (val_rec shape f v) ≡ Some (reread_val shape (type_of f.kind) v ∷ [])
 element_back shape inner levels r f (number z) h d = number_alone inner f.kind f.number z h
 element_back shape inner levels r f (truth b) h d = rw h (ap single (truth_back b))
 element_back shape inner levels r f (text s) h d = rw (h.0, h.1) refl
@@ -96,7 +96,7 @@ flat_singles no_vals = refl
 flat_singles (val v vs) = ap (val v) (flat_singles vs)
 
 elements_back : (shape : Shape) (inner : Inner) (levels : ℕ) → Reads shape inner levels → (f : FieldShape) (vs : Vals) → AreElements shape f vs → vals_depth vs ≤ levels
-    → each (spread inner f.kind) (vals_recs shape f vs) ≡ Some (singles (settled_vals vs))
+    → each (spread inner f.kind) (vals_recs shape f vs) ≡ Some (singles (reread_vals shape (type_of f.kind) vs))
 elements_back shape inner levels r f no_vals h d = refl
 elements_back shape inner levels r f (val v vs) h d =
     rw (element_back shape inner levels r f v h.0 (omega (arith, d)), elements_back shape inner levels r f vs h.1 (omega (arith, d))) refl
@@ -122,7 +122,7 @@ numerals k (val v vs) = numeral k v ∷ numerals k vs
 
 abbrev AreNumerals : Kind → Vals → Type 0
 AreNumerals k no_vals = Unit {0}
-AreNumerals k (val v vs) = (numeral k v < 2 ^ 64) × (numeric k (numeral k v) ≡ v) × (settled_val v ≡ v) × AreNumerals k vs
+AreNumerals k (val v vs) = (numeral k v < 2 ^ 64) × (numeric k (numeral k v) ≡ v) × AreNumerals k vs
 
 varints_back : (k : Kind) (vs : Vals) (turns : ℕ) → AreNumerals k vs → length (packed_text k vs) ≤ turns → varints_in turns (packed_text k vs) ≡ Some (numerals k vs)
 varints_back k no_vals zero h le = no_varints 0
@@ -131,16 +131,12 @@ varints_back k (val v vs) zero h le =
     absurd (omega (arith, varint_has (varint (numeral k v)) (numeral k v) (varint_spelled (numeral k v) h.0), length-append (varint (numeral k v)) (packed_text k vs)))
 varints_back k (val v vs) (suc turns) h le =
     let is = varint_spelled (numeral k v) h.0 in
-    let rest = varints_back k vs turns h.3 (omega (arith, varint_has (varint (numeral k v)) (numeral k v) is, length-append (varint (numeral k v)) (packed_text k vs))) in
+    let rest = varints_back k vs turns h.2 (omega (arith, varint_has (varint (numeral k v)) (numeral k v) is, length-append (varint (numeral k v)) (packed_text k vs))) in
     rw (varints_step turns (numeral k v) (varint (numeral k v)) (packed_text k vs) is, rest) refl
 
 values_back : (k : Kind) (vs : Vals) → AreNumerals k vs → vals_of (map (numeric k) (numerals k vs) ++ []) ≡ vs
 values_back k no_vals h = refl
-values_back k (val v vs) h = rw (h.1, values_back k vs h.3) refl
-
-settled_same : (k : Kind) (vs : Vals) → AreNumerals k vs → settled_vals vs ≡ vs
-settled_same k no_vals h = refl
-settled_same k (val v vs) h = rw (h.2, settled_same k vs h.3) refl
+values_back k (val v vs) h = rw (h.1, values_back k vs h.2) refl
 
 pub fits_numeral : (k : Kind) (z : ℤ) → IsNumber k z → varint_value k z < 2 ^ 64
 fits_numeral kind.Int32 (pos n) h = omega (arith, h.sfits)
@@ -156,12 +152,20 @@ fits_numeral (kind.Message t) z h = absurd h
 
 are_numerals : (shape : Shape) (f : FieldShape) (vs : Vals) → is_numeric f.kind ≡ true → AreElements shape f vs → AreNumerals f.kind vs
 are_numerals shape f no_vals e h = tt
-are_numerals shape f (val (number z) vs) e h = (fits_numeral f.kind z h.0, number_back f.kind z h.0, refl, are_numerals shape f vs e h.1)
-are_numerals shape f (val (truth true) vs) e h = (omega arith, rw h.0 refl, refl, are_numerals shape f vs e h.1)
-are_numerals shape f (val (truth false) vs) e h = (omega arith, rw h.0 refl, refl, are_numerals shape f vs e h.1)
+are_numerals shape f (val (number z) vs) e h = (fits_numeral f.kind z h.0, number_back f.kind z h.0, are_numerals shape f vs e h.1)
+are_numerals shape f (val (truth true) vs) e h = (omega arith, rw h.0 refl, are_numerals shape f vs e h.1)
+are_numerals shape f (val (truth false) vs) e h = (omega arith, rw h.0 refl, are_numerals shape f vs e h.1)
 are_numerals shape f (val (text s) vs) e h = absurd (let bad : false ≡ true = rw h.0.0 at e in cc)
 are_numerals shape f (val (message c) vs) e h = absurd (let bad : false ≡ true = rw h.0.1 at e in cc)
 are_numerals shape f (val (many ws) vs) e h = absurd h.0
+
+reread_same : (shape : Shape) (f : FieldShape) (vs : Vals) → is_numeric f.kind ≡ true → AreElements shape f vs → reread_vals shape (type_of f.kind) vs ≡ vs
+reread_same shape f no_vals e h = refl
+reread_same shape f (val (number z) vs) e h = ap (val (number z)) (reread_same shape f vs e h.1)
+reread_same shape f (val (truth b) vs) e h = ap (val (truth b)) (reread_same shape f vs e h.1)
+reread_same shape f (val (text s) vs) e h = ap (val (text s)) (reread_same shape f vs e h.1)
+reread_same shape f (val (message c) vs) e h = absurd (let bad : false ≡ true = rw h.0.1 at e in cc)
+reread_same shape f (val (many ws) vs) e h = absurd h.0
 
 -- ---- a field
 
@@ -195,23 +199,23 @@ element_no_float shape f (message c) h = rw h.1 refl
 element_no_float shape f (many vs) h = absurd h
 
 unpacked_back : (shape : Shape) (inner : Inner) (levels : ℕ) → Reads shape inner levels → (f : FieldShape) (v : Val) (vs : Vals) → AreElements shape f (val v vs) → vals_depth (val v vs) ≤ levels
-    → repeated inner f.kind (vals_recs shape f (val v vs)) ≡ Some (Some (many (settled_vals (val v vs))))
+    → repeated inner f.kind (vals_recs shape f (val v vs)) ≡ Some (Some (many (reread_vals shape (type_of f.kind) (val v vs))))
 unpacked_back shape inner levels r f v vs h d =
-    let same = flat_singles (settled_vals (val v vs)) in
-    rw (elements_back shape inner levels r f (val v vs) h d, flat_singles (settled_vals vs)) refl
+    let same = flat_singles (reread_vals shape (type_of f.kind) (val v vs)) in
+    rw (elements_back shape inner levels r f (val v vs) h d, flat_singles (reread_vals shape (type_of f.kind) vs)) refl
 
 packed_back : (shape : Shape) (inner : Inner) (f : FieldShape) (v : Val) (vs : Vals) → is_numeric f.kind ≡ true → AreElements shape f (val v vs)
-    → repeated inner f.kind (rec.Bytes f.number (packed_text f.kind (val v vs)) ∷ []) ≡ Some (Some (many (settled_vals (val v vs))))
+    → repeated inner f.kind (rec.Bytes f.number (packed_text f.kind (val v vs)) ∷ []) ≡ Some (Some (many (reread_vals shape (type_of f.kind) (val v vs))))
 packed_back shape inner f v vs e h =
     let are = are_numerals shape f (val v vs) e h in
     let back = varints_back f.kind (val v vs) (length (packed_text f.kind (val v vs))) are (omega arith) in
-    rw (e, back, values_back f.kind (val v vs) are, settled_same f.kind (val v vs) are) refl
+    rw (e, back, values_back f.kind (val v vs) are, reread_same shape f (val v vs) e h) refl
 
 is_repeated : (inner : Inner) (f : FieldShape) (rs : List Rec) → f.cardinality ≡ Repeated → is_float f.kind ≡ false → value inner f rs ≡ repeated inner f.kind rs
 is_repeated inner f rs h e = rw (h, e) refl
 
 pub field_back : (shape : Shape) (inner : Inner) (levels : ℕ) → Reads shape inner levels → (f : FieldShape) (v : Val) → IsSoundAt shape (Some f) v → val_depth v ≤ levels
-    → value inner f (field_recs shape (Some f) v) ≡ Some (Some (settled_val v))
+    → value inner f (field_recs shape (Some f) v) ≡ Some (Some (reread_val shape (type_of f.kind) v))
 field_back shape inner levels r f (number z) h d = rw h.0 (single_number inner f.presence f.kind f.number z h.2 (shown_is f (number z) h.1))
 field_back shape inner levels r f (truth b) h d = rw (h.0, h.2) (ap (told f.presence) (truth_back b) ∙ rw (shown_is f (truth b) h.1) refl)
 field_back shape inner levels r f (text s) h d = rw (h.0, h.2.0, h.2.1, shown_is f (text s) h.1) refl
@@ -221,7 +225,7 @@ field_back shape inner levels r f (many (val v vs)) h d =
     is_repeated inner f (field_recs shape (Some f) (many (val v vs))) h.0 (element_no_float shape f v h.2.0) ∙ at f.packed (is_numeric f.kind) refl
   where
     at : (a b : Bool) → is_numeric f.kind ≡ b
-        → repeated inner f.kind (if a && b then rec.Bytes f.number (packed_text f.kind (val v vs)) ∷ [] else vals_recs shape f (val v vs)) ≡ Some (Some (many (settled_vals (val v vs))))
+        → repeated inner f.kind (if a && b then rec.Bytes f.number (packed_text f.kind (val v vs)) ∷ [] else vals_recs shape f (val v vs)) ≡ Some (Some (many (reread_vals shape (type_of f.kind) (val v vs))))
     at true true e = packed_back shape inner f v vs e h.2
     at true false e = unpacked_back shape inner levels r f v vs h.2 d
     at false b e = unpacked_back shape inner levels r f v vs h.2 d

@@ -1,7 +1,6 @@
 -- What is encoded decodes to the content.
 use Rattle.std.proofs.Common.{◌≡◌, ℕ, zero, suc, ◌^◌, ◌<◌, ◌≤◌, max, Bool, true, false, ◌&&◌, if◌then◌else◌, nat_lt, List, [], ◌∷◌, ◌++◌, length, map, Option, Some, None, refl, sym, ap, ◌∙◌, arith, append-nil, rules}
 use Rattle.std.specs.Prelude.{◌==◌, option_and_then}
-use Rattle.std.proofs.lemmas.Bool.Decides.{nat_tests}
 use Rattle.std.proofs.lemmas.Bool.{lt-ltb}
 use Rattle.std.proofs.lemmas.List.{map-append}
 use Rattle.pbx_wire.specs.Text.{text_of, is_number, is_numbered, all_true, are_numbered, is_fit, are_fit, depth as rec_depth, depth_of}
@@ -13,14 +12,13 @@ use Rattle.pbx_wire.specs.declared.rec.Rec.TheVariants as rec
 use Rattle.pbx_content.specs.declared.shape.Shape.{Shape}
 use Rattle.pbx_content.specs.declared.shape.FieldShape.{FieldShape}
 use Rattle.pbx_content.specs.Content.{Content, content, Fields, no_fields, field, Val, number, truth, text, message, many, Vals, no_vals, val}
-use Rattle.pbx_content.specs.Records.{number_of, insert, sorted, records_in}
-use Rattle.pbx_content.specs.Shape.{fields_of, field_of}
+use Rattle.pbx_content.specs.Records.{insert, sorted, records_in}
+use Rattle.pbx_content.specs.Shape.{fields_of, keeps_order_of, field_of}
 use Rattle.pbx_content.specs.Meaning.{records_of, meaning}
-use Rattle.pbx_content.specs.Encoding.{content_recs, fields_recs, field_recs, vals_recs, payload, type_of, packed_text, is_packed, encoded}
+use Rattle.pbx_content.specs.Encoding.{with_kept, content_recs, fields_recs, field_recs, vals_recs, payload, type_of, packed_text, is_packed, encoded}
 use Rattle.pbx_content.specs.Sound.{AreAbove, IsProper, IsSound, AreSound, IsSoundAt, AreElements, depth}
-use Rattle.pbx_content.specs.Same.{settled, settled_fields, settled_val, settled_vals, Decodes}
-use Rattle.pbx_content.specs.Placing.{IsLow}
-use Rattle.pbx_content.proofs.Lists.{IsSorted, sorted_ascends}
+use Rattle.pbx_content.specs.Same.{Decodes}
+use Rattle.pbx_content.proofs.Reread.{reread, settled_reread}
 use Rattle.pbx_content.proofs.Back.{fits_numeral}
 use Rattle.pbx_content.specs.declared.shape.Kind.TheVariants as kind
 use Rattle.pbx_content.proofs.Law.{layer_back}
@@ -69,6 +67,14 @@ depth-append (x ∷ xs) ys = let ih = depth-append xs ys in omega (arith, ih)
 
 tests-append : (p : Rec → Bool) (xs ys : List Rec) → all_true (map p xs) ≡ true → all_true (map p ys) ≡ true → all_true (map p (xs ++ ys)) ≡ true
 tests-append p xs ys h k = rw map-append (all_true-append (map p xs) (map p ys) h k)
+
+tests-with_kept : (p : Rec → Bool) (b : Bool) (rs kept : List Rec) → all_true (map p rs) ≡ true → all_true (map p kept) ≡ true → all_true (map p (with_kept b rs kept)) ≡ true
+tests-with_kept p true rs kept h k = tests-append p (sorted rs) kept (tests-sorted p rs ∙ h) k
+tests-with_kept p false rs kept h k = tests-sorted p (rs ++ kept) ∙ tests-append p rs kept h k
+
+depth-with_kept : (b : Bool) (rs kept : List Rec) → depth_of (with_kept b rs kept) ≡ max (depth_of rs) (depth_of kept)
+depth-with_kept true rs kept = depth-append (sorted rs) kept ∙ ap (λ d. max d (depth_of kept)) (depth-sorted rs)
+depth-with_kept false rs kept = depth-sorted (rs ++ kept) ∙ depth-append rs kept
 
 nothing_writable : Writable []
 nothing_writable = record { numbered = refl; fit = refl; shallow = refl }
@@ -126,15 +132,16 @@ content_spelled : (shape : Shape) (t levels : ℕ) (c : Content) → IsProper sh
 content_spelled shape t levels (content fs kept) proper h d =
     let gs = fields_of shape t in
     let w = fields_writable shape gs fs (proper t) h.1 in
-    let rs = fields_recs shape gs fs ++ kept in
-    let numbered : are_numbered (sorted rs) ≡ true = tests-sorted is_numbered rs ∙ tests-append is_numbered (fields_recs shape gs fs) kept w.numbered h.2.numbered in
-    let fit : are_fit (sorted rs) ≡ true = tests-sorted is_fit rs ∙ tests-append is_fit (fields_recs shape gs fs) kept w.fit h.2.fit in
-    let deep : depth_of (sorted rs) ≤ levels = omega (arith, depth-sorted rs, depth-append (fields_recs shape gs fs) kept, w.shallow, d) in
-    rw (all_again levels (text_of (sorted rs)) (sorted rs) (written_spelled levels (sorted rs) numbered fit deep)) refl
+    let keeps = keeps_order_of shape t in
+    let rs = content_recs shape t (content fs kept) in
+    let numbered : are_numbered rs ≡ true = tests-with_kept is_numbered keeps (fields_recs shape gs fs) kept w.numbered h.2.numbered in
+    let fit : are_fit rs ≡ true = tests-with_kept is_fit keeps (fields_recs shape gs fs) kept w.fit h.2.fit in
+    let deep : depth_of rs ≤ levels = omega (arith, depth-with_kept keeps (fields_recs shape gs fs) kept, w.shallow, d) in
+    rw (all_again levels (text_of rs) rs (written_spelled levels rs numbered fit deep)) refl
 
 -- ---- the law
 
-pub meaning_back : (shape : Shape) (levels t : ℕ) (c : Content) → IsProper shape → IsSound shape t c → depth c ≤ levels → meaning shape levels t (content_recs shape t c) ≡ Some (settled c)
+pub meaning_back : (shape : Shape) (levels t : ℕ) (c : Content) → IsProper shape → IsSound shape t c → depth c ≤ levels → meaning shape levels t (content_recs shape t c) ≡ Some (reread shape t c)
 unfolding meaning
 meaning_back shape zero t c proper h d =
     layer_back shape t 0 (λ u bs. None) (record { reads = λ u c h long lt. absurd (omega (arith, lt)) }) (proper t) c h d
@@ -146,34 +153,7 @@ meaning_back shape (suc levels) t c proper h d =
         → option_and_then (meaning shape levels u) (records_of levels (encoded shape u b ∷ [])) ≡ meaning shape levels u (content_recs shape u b)
     one_payload shape levels u b e = rw (e, append-nil) refl
 
-pub sorted_same : (rs : List Rec) → IsSorted rs → sorted rs ≡ rs
-sorted_same [] h = refl
-sorted_same (r ∷ rs) h = rw (sorted_same rs h.1) (first_here rs h.0)
-  where
-    first_here : (rs : List Rec) → IsLow (number_of r) rs → insert r rs ≡ r ∷ rs
-    first_here [] h = refl
-    first_here (s ∷ ss) h = let stop : nat_lt (number_of s) (number_of r) ≡ false = grind (arith, nat_tests, h.0) in rw stop refl
-
-mutual
-  pub settled_twice : (c : Content) → settled (settled c) ≡ settled c
-  settled_twice (content fs kept) = rw (fields_twice fs, sorted_same (sorted kept) (sorted_ascends kept)) refl
-
-  fields_twice : (fs : Fields) → settled_fields (settled_fields fs) ≡ settled_fields fs
-  fields_twice no_fields = refl
-  fields_twice (field n v fs) = rw (val_twice v, fields_twice fs) refl
-
-  val_twice : (v : Val) → settled_val (settled_val v) ≡ settled_val v
-  val_twice (number z) = refl
-  val_twice (truth b) = refl
-  val_twice (text s) = refl
-  val_twice (message c) = ap message (settled_twice c)
-  val_twice (many vs) = ap many (vals_twice vs)
-
-  vals_twice : (vs : Vals) → settled_vals (settled_vals vs) ≡ settled_vals vs
-  vals_twice no_vals = refl
-  vals_twice (val v vs) = rw (val_twice v, vals_twice vs) refl
-
 -- What is encoded decodes to the content.
 pub decodes_encoded : (shape : Shape) (t : ℕ) (c : Content) → IsProper shape → IsSound shape t c → depth c ≤ 100 → Decodes shape t (encoded shape t c) c
 decodes_encoded shape t c proper h d =
-    (settled c, rw (content_spelled shape t 100 c proper h d) (meaning_back shape 100 t c proper h d), settled_twice c)
+    (reread shape t c, rw (content_spelled shape t 100 c proper h d) (meaning_back shape 100 t c proper h d), settled_reread shape t c)

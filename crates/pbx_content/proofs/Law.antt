@@ -15,13 +15,13 @@ use Rattle.pbx_content.specs.declared.shape.Cardinality.TheVariants.{Singular, R
 use Rattle.pbx_content.specs.declared.shape.Shape.{Shape}
 use Rattle.pbx_content.specs.declared.shape.FieldShape.{FieldShape}
 use Rattle.pbx_content.specs.Content.{Content, content, Fields, no_fields, field, Val, number, truth, text, message, many, Vals, no_vals, val, get, IsAbove, IsAscending}
-use Rattle.pbx_content.specs.Records.{number_of, is_of, those_of, sorted, any, after_last}
-use Rattle.pbx_content.specs.Shape.{fields_of, field_of, same_oneof, is_float, is_read_as, is_kept, is_rival}
+use Rattle.pbx_content.specs.Records.{number_of, is_of, those_of, any, after_last}
+use Rattle.pbx_content.specs.Shape.{fields_of, keeps_order_of, field_of, same_oneof, is_float, is_read_as, is_kept, is_rival}
 use Rattle.pbx_content.specs.Meaning.{Inner, singular, by_cardinality, value, value_among, with_field, values, layer}
-use Rattle.pbx_content.specs.Encoding.{content_recs, fields_recs, field_recs, vals_recs, packed_text, is_packed}
+use Rattle.pbx_content.specs.Encoding.{type_of, with_kept, content_recs, fields_recs, field_recs, vals_recs, packed_text, is_packed}
 use Rattle.pbx_content.specs.Sound.{AreAbove, IsSound, AreSound, IsSoundAt, depth, fields_depth, val_depth}
-use Rattle.pbx_content.specs.Same.{settled, settled_fields, settled_val}
-use Rattle.pbx_content.proofs.Lists.{those_of-sorted, filter-sorted, any-sorted, any-append, after_last_none, none_after}
+use Rattle.pbx_content.proofs.Lists.{those_of-with_kept, filter-with_kept, any-with_kept, after_last_none, none_after}
+use Rattle.pbx_content.proofs.Reread.{inner_type, reread, reread_fields, reread_val}
 use Rattle.pbx_content.proofs.Back.{Reads, element_no_float, float_no_number, field_back}
 
 -- ---- fields by number
@@ -238,28 +238,26 @@ absent inner gs f rs none = at (is_float f.kind) refl
         among_is inner gs f rs None (rw (none e) nothing) (rw (none_after f.number (is_rival gs f) rs (none e)) nothing)
 
 per_field : (shape : Shape) (t levels : ℕ) (inner : Inner) → Reads shape inner levels → (fs : Fields) (kept : List Rec) → IsSound shape t (content fs kept) → fields_depth fs ≤ levels
-    → (f : FieldShape) → field_of f.number (fields_of shape t) ≡ Some f → value_among inner (fields_of shape t) f (content_recs shape t (content fs kept)) ≡ Some (option_map settled_val (get f.number fs))
+    → (f : FieldShape) → field_of f.number (fields_of shape t) ≡ Some f → value_among inner (fields_of shape t) f (content_recs shape t (content fs kept)) ≡ Some (option_map (reread_val shape (type_of f.kind)) (get f.number fs))
 per_field shape t levels inner r fs kept h d f listed = at (get f.number fs) refl
   where
-    of_rs : is_float f.kind ≡ false → those_of f.number (sorted (fields_recs shape (fields_of shape t) fs ++ kept)) ≡ own shape (fields_of shape t) f.number (get f.number fs)
+    of_rs : is_float f.kind ≡ false → those_of f.number (content_recs shape t (content fs kept)) ≡ own shape (fields_of shape t) f.number (get f.number fs)
     of_rs plain =
-        those_of-sorted f.number (fields_recs shape (fields_of shape t) fs ++ kept)
-        ∙ filter-append (is_of f.number) (fields_recs shape (fields_of shape t) fs) kept
+        those_of-with_kept f.number (keeps_order_of shape t) (fields_recs shape (fields_of shape t) fs) kept
         ∙ rw (no_kept_of (fields_of shape t) f kept listed plain h.2.unread, append-nil) (those_own shape (fields_of shape t) f.number fs h.0)
 
-    at : (o : Option Val) → get f.number fs ≡ o → value_among inner (fields_of shape t) f (sorted (fields_recs shape (fields_of shape t) fs ++ kept)) ≡ Some (option_map settled_val o)
-    at None e = absent inner (fields_of shape t) f (sorted (fields_recs shape (fields_of shape t) fs ++ kept)) (λ plain. of_rs plain ∙ rw e refl)
+    at : (o : Option Val) → get f.number fs ≡ o → value_among inner (fields_of shape t) f (content_recs shape t (content fs kept)) ≡ Some (option_map (reread_val shape (type_of f.kind)) o)
+    at None e = absent inner (fields_of shape t) f (content_recs shape t (content fs kept)) (λ plain. of_rs plain ∙ rw e refl)
     at (Some v) e =
         let s = sound_at shape (fields_of shape t) f.number fs v h.1 e in
         let sound : IsSoundAt shape (Some f) v = let P : Option FieldShape → Type 0 = λ o. IsSoundAt shape o v in subst P listed s.0 in
         let plain = sound_no_float shape f v sound in
-        let these : those_of f.number (sorted (fields_recs shape (fields_of shape t) fs ++ kept)) ≡ field_recs shape (Some f) v = of_rs plain ∙ rw (e, listed) refl in
-        let alone : any (is_rival (fields_of shape t) f) (sorted (fields_recs shape (fields_of shape t) fs ++ kept)) ≡ false =
-        any-sorted (is_rival (fields_of shape t) f) (fields_recs shape (fields_of shape t) fs ++ kept)
-        ∙ any-append (is_rival (fields_of shape t) f) (fields_recs shape (fields_of shape t) fs) kept (h.3 f v e) (no_rival_kept (fields_of shape t) f kept h.2.unread) in
+        let these : those_of f.number (content_recs shape t (content fs kept)) ≡ field_recs shape (Some f) v = of_rs plain ∙ rw (e, listed) refl in
+        let alone : any (is_rival (fields_of shape t) f) (content_recs shape t (content fs kept)) ≡ false =
+        any-with_kept (is_rival (fields_of shape t) f) (keeps_order_of shape t) (fields_recs shape (fields_of shape t) fs) kept (h.3 f v e) (no_rival_kept (fields_of shape t) f kept h.2.unread) in
         let back = field_back shape inner levels r f v sound (omega (arith, s.1, d)) in
-        among_is inner (fields_of shape t) f (sorted (fields_recs shape (fields_of shape t) fs ++ kept)) (Some (settled_val v))
-        (rw these back) (rw (after_last_none (is_rival (fields_of shape t) f) (sorted (fields_recs shape (fields_of shape t) fs ++ kept)) alone, these) back)
+        among_is inner (fields_of shape t) f (content_recs shape t (content fs kept)) (Some (reread_val shape (type_of f.kind) v))
+        (rw these back) (rw (after_last_none (is_rival (fields_of shape t) f) (content_recs shape t (content fs kept)) alone, these) back)
 
 -- ---- all fields of the type
 
@@ -350,37 +348,39 @@ gathered_again n (g ∷ gs) (field m v fs) a h known =
           | inr le ↦ absurd (later (known_above g.number m gs a.2 (omega arith)))
         ]
 
-get-settled : (n : ℕ) (fs : Fields) → get n (settled_fields fs) ≡ option_map settled_val (get n fs)
-get-settled n no_fields = refl
-get-settled n (field m v fs) = at (n == m) (get-settled n fs)
+get-reread : (shape : Shape) (gs : List FieldShape) (n : ℕ) (fs : Fields) → get n (reread_fields shape gs fs) ≡ option_map (reread_val shape (inner_type (field_of n gs))) (get n fs)
+get-reread shape gs n no_fields = refl
+get-reread shape gs n (field m v fs) = at (n == m) refl (get-reread shape gs n fs)
   where
-    at : (b : Bool) → get n (settled_fields fs) ≡ option_map settled_val (get n fs) → (if b then Some (settled_val v) else get n (settled_fields fs)) ≡ option_map settled_val (if b then Some v else get n fs)
-    at true ih = refl
-    at false ih = ih
+    at : (b : Bool) → (n == m) ≡ b → get n (reread_fields shape gs fs) ≡ option_map (reread_val shape (inner_type (field_of n gs))) (get n fs)
+        → (if b then Some (reread_val shape (inner_type (field_of m gs)) v) else get n (reread_fields shape gs fs)) ≡ option_map (reread_val shape (inner_type (field_of n gs))) (if b then Some v else get n fs)
+    at true e ih = let same : m ≡ n = grind (arith, nat_tests) in ap (λ k. Some (reread_val shape (inner_type (field_of k gs)) v)) same
+    at false e ih = ih
 
-above-settled : (n : ℕ) (fs : Fields) → IsAbove n fs → IsAbove n (settled_fields fs)
-above-settled n no_fields h = tt
-above-settled n (field m v fs) h = (h.0, above-settled m fs h.1)
+above-reread : (shape : Shape) (gs : List FieldShape) (n : ℕ) (fs : Fields) → IsAbove n fs → IsAbove n (reread_fields shape gs fs)
+above-reread shape gs n no_fields h = tt
+above-reread shape gs n (field m v fs) h = (h.0, above-reread shape gs m fs h.1)
 
-ascending-settled : (fs : Fields) → IsAscending fs → IsAscending (settled_fields fs)
-ascending-settled no_fields h = tt
-ascending-settled (field m v fs) h = above-settled m fs h
+ascending-reread : (shape : Shape) (gs : List FieldShape) (fs : Fields) → IsAscending fs → IsAscending (reread_fields shape gs fs)
+ascending-reread shape gs no_fields h = tt
+ascending-reread shape gs (field m v fs) h = above-reread shape gs m fs h
 
-known-settled : (shape : Shape) (gs : List FieldShape) (fs : Fields) → AreSound shape gs fs → AreKnown gs (settled_fields fs)
-known-settled shape gs no_fields h = tt
-known-settled shape gs (field n v fs) h =
-    (λ none. let P : Option FieldShape → Type 0 = λ o. IsSoundAt shape o v in subst P none h.0, known-settled shape gs fs h.1)
+known-reread : (shape : Shape) (gs : List FieldShape) (fs : Fields) → AreSound shape gs fs → AreKnown gs (reread_fields shape gs fs)
+known-reread shape gs no_fields h = tt
+known-reread shape gs (field n v fs) h =
+    (λ none. let P : Option FieldShape → Type 0 = λ o. IsSoundAt shape o v in subst P none h.0, known-reread shape gs fs h.1)
 
 pub layer_back : (shape : Shape) (t levels : ℕ) (inner : Inner) → Reads shape inner levels → AreAbove 0 (fields_of shape t) → (c : Content) → IsSound shape t c → depth c ≤ levels
-    → layer inner (fields_of shape t) (content_recs shape t c) ≡ Some (settled c)
+    → layer inner (fields_of shape t) (content_recs shape t c) ≡ Some (reread shape t c)
 layer_back shape t levels inner r proper (content fs kept) h d =
     let gs = fields_of shape t in
     let rs = content_recs shape t (content fs kept) in
-    let all = values_gathered inner gs rs (λ k. get k (settled_fields fs))
-    (λ f listed. per_field shape t levels inner r fs kept h (omega (arith, d)) f listed ∙ ap (λ (o : Option Val). Some o) (sym (get-settled f.number fs)))
+    let look : (f : FieldShape) → field_of f.number gs ≡ Some f → option_map (reread_val shape (type_of f.kind)) (get f.number fs) ≡ get f.number (reread_fields shape gs fs) =
+    λ f listed. sym (get-reread shape gs f.number fs ∙ ap (λ (o : Option FieldShape). option_map (reread_val shape (inner_type o)) (get f.number fs)) listed) in
+    let all = values_gathered inner gs rs (λ k. get k (reread_fields shape gs fs))
+    (λ f listed. per_field shape t levels inner r fs kept h (omega (arith, d)) f listed ∙ ap (λ (o : Option Val). Some o) (look f listed))
     gs (all_listed 0 gs proper) in
-    let again = gathered_again 0 gs (settled_fields fs) proper (ascending-settled fs h.0) (known-settled shape gs fs h.1) in
-    let rest : filter (is_kept gs) (fields_recs shape gs fs) ++ filter (is_kept gs) kept ≡ kept = rw (none_own shape gs fs h.1) (all_kept (is_kept gs) kept h.2.unread) in
-    let keeps : filter (is_kept gs) rs ≡ sorted kept =
-    filter-sorted (is_kept gs) (fields_recs shape gs fs ++ kept) ∙ ap sorted (filter-append (is_kept gs) (fields_recs shape gs fs) kept ∙ rest) in
+    let again = gathered_again 0 gs (reread_fields shape gs fs) proper (ascending-reread shape gs fs h.0) (known-reread shape gs fs h.1) in
+    let keeps : filter (is_kept gs) rs ≡ with_kept (keeps_order_of shape t) [] kept =
+    filter-with_kept (is_kept gs) (keeps_order_of shape t) (fields_recs shape gs fs) kept ∙ rw (none_own shape gs fs h.1, all_kept (is_kept gs) kept h.2.unread) refl in
     rw (all, again, keeps) refl

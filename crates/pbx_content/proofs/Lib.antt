@@ -1,4 +1,5 @@
 pub mod Lists
+pub mod Reread
 pub mod Back
 pub mod Law
 pub mod Decoded

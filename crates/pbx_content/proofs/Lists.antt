@@ -2,7 +2,9 @@
 use Rattle.std.proofs.Common.{◌≡◌, ℕ, ◌≤◌, Bool, true, false, cond, if◌then◌else◌, nat_lt, List, [], ◌∷◌, ◌++◌, refl, ap, ◌∙◌, arith}
 use Rattle.std.specs.List.{filter}
 use Rattle.std.proofs.lemmas.Bool.Decides.{nat_tests}
+use Rattle.std.proofs.lemmas.List.Elements.{filter-append}
 use Rattle.pbx_wire.specs.declared.rec.Rec.{Rec}
+use Rattle.pbx_content.specs.Encoding.{with_kept}
 use Rattle.pbx_content.specs.Placing.{IsLow}
 use Rattle.pbx_content.specs.Records.{number_of, is_of, those_of, insert, insert_after, sorted, any, after_last}
 
@@ -96,6 +98,20 @@ any-append p (x ∷ xs) ys e f = let ih = any-append p xs ys in grind (arith, ih
 pub after_last_none : (p : Rec → Bool) (rs : List Rec) → any p rs ≡ false → after_last p rs ≡ rs
 after_last_none p [] e = refl
 after_last_none p (r ∷ rs) e = grind (arith)
+
+-- ---- kept records behind others, or among them
+
+pub filter-with_kept : (p : Rec → Bool) (b : Bool) (rs kept : List Rec) → filter p (with_kept b rs kept) ≡ with_kept b (filter p rs) (filter p kept)
+filter-with_kept p true rs kept = filter-append p (sorted rs) kept ∙ ap (λ xs. xs ++ filter p kept) (filter-sorted p rs)
+filter-with_kept p false rs kept = filter-sorted p (rs ++ kept) ∙ ap sorted (filter-append p rs kept)
+
+pub those_of-with_kept : (n : ℕ) (b : Bool) (rs kept : List Rec) → those_of n (with_kept b rs kept) ≡ those_of n rs ++ those_of n kept
+those_of-with_kept n true rs kept = filter-append (is_of n) (sorted rs) kept ∙ ap (λ xs. xs ++ those_of n kept) (those_of-sorted n rs)
+those_of-with_kept n false rs kept = those_of-sorted n (rs ++ kept) ∙ filter-append (is_of n) rs kept
+
+pub any-with_kept : (p : Rec → Bool) (b : Bool) (rs kept : List Rec) → any p rs ≡ false → any p kept ≡ false → any p (with_kept b rs kept) ≡ false
+any-with_kept p true rs kept e f = any-append p (sorted rs) kept (any-sorted p rs ∙ e) f
+any-with_kept p false rs kept e f = any-sorted p (rs ++ kept) ∙ any-append p rs kept e f
 
 -- what no record has, the last ones have not
 pub none_after : (n : ℕ) (p : Rec → Bool) (rs : List Rec) → those_of n rs ≡ [] → those_of n (after_last p rs) ≡ []

@@ -1,5 +1,5 @@
 -- The records that are written for a tree, one value at a time.
-use Rattle.std.proofs.Common.{◌≡◌, ℕ, ◌+◌, ◌<◌, List, [], ◌∷◌, ◌++◌, length, map, take, get_or, Option, subst, refl, sym, ap, ◌∙◌, append_assoc, append-nil}
+use Rattle.std.proofs.Common.{◌≡◌, ℕ, ◌+◌, ◌<◌, true, false, List, [], ◌∷◌, ◌++◌, length, map, take, get_or, Option, subst, refl, sym, ap, ◌∙◌, append_assoc, append-nil}
 use Rattle.std.specs.List.{concat}
 use Rattle.std.proofs.lemmas.List.{take_more, map-append}
 use Rattle.pbx_wire.specs.Varint.{varint}
@@ -11,8 +11,8 @@ use Rattle.pbx_content.specs.declared.contents.Held.{Held}
 use Rattle.pbx_content.specs.declared.contents.Field.{Field}
 use Rattle.pbx_content.specs.declared.contents.Contents.{Contents, out-Contents}
 use Rattle.pbx_content.specs.Content.{Val, vals_of}
-use Rattle.pbx_content.specs.Shape.{fields_of, field_of}
-use Rattle.pbx_content.specs.Encoding.{numeral, packed_text, content_recs, fields_recs, field_recs, vals_recs, val_rec}
+use Rattle.pbx_content.specs.Shape.{fields_of, keeps_order_of, field_of}
+use Rattle.pbx_content.specs.Encoding.{numeral, packed_text, with_kept, content_recs, fields_recs, field_recs, vals_recs, val_rec}
 use Rattle.pbx_content.specs.Placing.{Adds}
 use Rattle.pbx_content.specs.View.{val_of, content_of, entry_of, fields_in}
 use Rattle.pbx_content.proofs.Placed.{adds_both}
@@ -77,7 +77,18 @@ fields_next shape gs o old mid new xs i x lt is e a b =
 -- ---- the whole content
 
 pub all_recs : (shape : Shape) (t : ℕ) (c : Contents) (mid new : List Rec) → Adds [] mid (fields_recs shape (fields_of shape t) (fields_in (map entry_of (out-Contents c).fields)))
-    → Adds mid new (out-Contents c).kept → new ≡ content_recs shape t (content_of c)
-all_recs shape t c mid new a b =
-    adds_both [] mid new (fields_recs shape (fields_of shape t) (fields_in (map entry_of (out-Contents c).fields))) (out-Contents c).kept a b [] refl
+    → keeps_order_of shape t ≡ false → Adds mid new (out-Contents c).kept → new ≡ content_recs shape t (content_of c)
+all_recs shape t c mid new a e b =
+    let rs = fields_recs shape (fields_of shape t) (fields_in (map entry_of (out-Contents c).fields)) in
+    adds_both [] mid new rs (out-Contents c).kept a b [] refl
+    ∙ ap (λ keeps. with_kept keeps rs (out-Contents c).kept) (sym e)
+    ∙ ap (content_recs shape t) (sym (content_of_lem c))
+
+pub all_recs_in_order : (shape : Shape) (t : ℕ) (c : Contents) (mid new : List Rec) → Adds [] mid (fields_recs shape (fields_of shape t) (fields_in (map entry_of (out-Contents c).fields)))
+    → keeps_order_of shape t ≡ true → new ≡ mid ++ (out-Contents c).kept → new ≡ content_recs shape t (content_of c)
+all_recs_in_order shape t c mid new a e b =
+    let rs = fields_recs shape (fields_of shape t) (fields_in (map entry_of (out-Contents c).fields)) in
+    b
+    ∙ ap (λ front. front ++ (out-Contents c).kept) (a [] refl)
+    ∙ ap (λ keeps. with_kept keeps rs (out-Contents c).kept) (sym e)
     ∙ ap (content_recs shape t) (sym (content_of_lem c))

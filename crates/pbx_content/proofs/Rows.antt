@@ -26,7 +26,7 @@ abbrev numbers : FieldShape
 numbers = record { number = 6; name = []; json_name = []; kind = kind.Int32; cardinality = Repeated; presence = false; oneof = None; packed = true; default = None }
 
 abbrev row : MessageShape
-row = record { full_name = []; fields = single 1 kind.Int32 ∷ single 2 kind.String ∷ single 3 (kind.Message 0) ∷ single 4 kind.Sint32 ∷ single 5 kind.Bool ∷ numbers ∷ [] }
+row = record { full_name = []; fields = single 1 kind.Int32 ∷ single 2 kind.String ∷ single 3 (kind.Message 0) ∷ single 4 kind.Sint32 ∷ single 5 kind.Bool ∷ numbers ∷ []; keeps_order = false }
 
 abbrev shape : Shape
 shape = record { messages = row ∷ [] }
@@ -73,6 +73,14 @@ packed_written = rw bytes_text refl
 kept_written : encoded shape 0 (content (field 1 (number (pos 1)) (field 5 (truth true) no_fields)) (rec.Varint 7 1 ∷ rec.Varint 3 2 ∷ [])) ≡ 8 ∷ 1 ∷ 24 ∷ 2 ∷ 40 ∷ 1 ∷ 56 ∷ 1 ∷ []
 unfolding varint_within
 kept_written = simp varint_text refl
+
+-- the same type, with its kept records in order of arrival
+abbrev ordered : Shape
+ordered = record { messages = record row { keeps_order = true } ∷ [] }
+
+kept_in_order : encoded ordered 0 (content (field 1 (number (pos 1)) (field 5 (truth true) no_fields)) (rec.Varint 7 1 ∷ rec.Varint 3 2 ∷ rec.Varint 7 3 ∷ [])) ≡ 8 ∷ 1 ∷ 40 ∷ 1 ∷ 56 ∷ 1 ∷ 24 ∷ 2 ∷ 56 ∷ 3 ∷ []
+unfolding varint_within
+kept_in_order = simp varint_text refl
 
 -- ---- what is read
 

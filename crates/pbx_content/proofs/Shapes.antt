@@ -1,12 +1,12 @@
 -- Types by their places.
-use Rattle.std.proofs.Common.{◌≡◌, ℕ, zero, suc, ◌+◌, ◌<◌, ◌≤◌, true, List, [], ◌∷◌, length, drop, get_or, inl, inr, subst, refl, sym, ap, ◌∙◌, arith, drop-cons, add-one}
+use Rattle.std.proofs.Common.{◌≡◌, ℕ, zero, suc, ◌+◌, ◌<◌, ◌≤◌, true, false, List, [], ◌∷◌, length, drop, get_or, inl, inr, subst, refl, sym, ap, ◌∙◌, arith, drop-cons, add-one}
 use Rattle.std.proofs.lemmas.Bool.{cases_lt}
 use Rattle.std.proofs.Math.ListN.{drop_of_length-le}
 use Rattle.pbx_wire.specs.Text.{is_number}
 use Rattle.pbx_content.specs.declared.shape.FieldShape.{FieldShape}
 use Rattle.pbx_content.specs.Sound.{AreAbove}
 use Rattle.pbx_content.specs.declared.shape.MessageShape.{MessageShape}
-use Rattle.pbx_content.specs.Shape.{fields_at}
+use Rattle.pbx_content.specs.Shape.{fields_at, keeps_order_at}
 
 pub fields_here : (ms : List MessageShape) (t : ℕ) (d : MessageShape) → t < length ms → fields_at ms t ≡ (get_or ms t d).fields
 fields_here [] t d h = absurd (omega arith)
@@ -17,6 +17,16 @@ pub no_fields_there : (ms : List MessageShape) (t : ℕ) → length ms ≤ t →
 no_fields_there [] t h = refl
 no_fields_there (m ∷ ms) zero h = absurd (omega arith)
 no_fields_there (m ∷ ms) (suc t) h = no_fields_there ms t (omega arith)
+
+pub order_here : (ms : List MessageShape) (t : ℕ) (d : MessageShape) → t < length ms → keeps_order_at ms t ≡ (get_or ms t d).keeps_order
+order_here [] t d h = absurd (omega arith)
+order_here (m ∷ ms) zero d h = refl
+order_here (m ∷ ms) (suc t) d h = order_here ms t d (omega arith)
+
+pub no_order_there : (ms : List MessageShape) (t : ℕ) → length ms ≤ t → keeps_order_at ms t ≡ false
+no_order_there [] t h = refl
+no_order_there (m ∷ ms) zero h = absurd (omega arith)
+no_order_there (m ∷ ms) (suc t) h = no_order_there ms t (omega arith)
 
 -- ---- ascending numbers
 

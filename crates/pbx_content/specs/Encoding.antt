@@ -11,7 +11,7 @@ use Rattle.pbx_content.specs.declared.shape.Shape.{Shape}
 use Rattle.pbx_content.specs.declared.shape.FieldShape.{FieldShape}
 use Rattle.pbx_content.specs.Content.{Content, content, Fields, no_fields, field, Val, number, truth, text, message, many, Vals, no_vals, val}
 use Rattle.pbx_content.specs.Records.{sorted}
-use Rattle.pbx_content.specs.Shape.{fields_of, field_of, is_numeric}
+use Rattle.pbx_content.specs.Shape.{fields_of, keeps_order_of, field_of, is_numeric}
 
 -- Protocol Buffers "Encoding": Signed Integers
 abbrev pub zigzag : ℤ → ℕ
@@ -55,10 +55,15 @@ truth_rec n b = rec.Varint n (if b then 1 else 0)
 abbrev pub payload : ℕ → List Rec → Rec
 payload n rs = rec.Bytes n (text_of rs)
 
+-- The records of the fields by ascending number, and the kept ones in order of arrival: behind them all, or each at its number after the field's own
+-- (Protocol Buffers "Encoding": Field Order leaves this to the writer).
+abbrev pub with_kept : Bool → List Rec → List Rec → List Rec
+with_kept keeps_order rs kept = if keeps_order then sorted rs ++ kept else sorted (rs ++ kept)
+
 abbrev mutual
-  -- the records of a content: by ascending number, the kept ones after the field's own
+  -- the records of a content: those of the fields, with the kept ones as the type has them
   pub content_recs : Shape → ℕ → Content → List Rec
-  content_recs shape t (content fs kept) = sorted (fields_recs shape (fields_of shape t) fs ++ kept)
+  content_recs shape t (content fs kept) = with_kept (keeps_order_of shape t) (fields_recs shape (fields_of shape t) fs) kept
 
   -- the records of the fields, field by field
   pub fields_recs : Shape → List FieldShape → Fields → List Rec

@@ -18,6 +18,16 @@ fields_at (m ∷ ms) (suc t) = fields_at ms t
 abbrev pub fields_of : Shape → ℕ → List FieldShape
 fields_of shape t = fields_at shape.messages t
 
+-- whether the type at the place has its kept records written in order of arrival, as options have
+abbrev pub keeps_order_at : List MessageShape → ℕ → Bool
+keeps_order_at [] t = false
+keeps_order_at (m ∷ ms) zero = m.keeps_order
+keeps_order_at (m ∷ ms) (suc t) = keeps_order_at ms t
+
+-- the same of a type; a place outside the shape has not
+abbrev pub keeps_order_of : Shape → ℕ → Bool
+keeps_order_of shape t = keeps_order_at shape.messages t
+
 -- the field of a number
 abbrev pub field_of : ℕ → List FieldShape → Option FieldShape
 field_of n [] = None

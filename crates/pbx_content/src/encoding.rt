@@ -5,7 +5,7 @@ ghost use Rattle.pbx_content.specs.Placing.{Adds};
 ghost use Rattle.pbx_content.specs.View.{val_of, content_of};
 
 use crate::contents::{Contents, Held};
-use crate::placing::{place, place_copies};
+use crate::placing::{add_copies, place, place_copies};
 use crate::shape::{FieldShape, Kind, Shape, field_in};
 use pbx_wire::{Blob, List, NoMemory, Rec, Recs, recs_text, varints_text};
 use std::alloc::Global;
@@ -141,8 +141,9 @@ fn place_held(
     }
 }
 
-/// The records of a content of the type at `type_at`: by ascending number, the kept ones after the
-/// field's own, in order of arrival. Of a number of no field nothing is written.
+/// The records of a content of the type at `type_at`: by ascending number, the kept ones in order
+/// of arrival, after the field's own, or behind all where the type keeps their order. Of a number of
+/// no field nothing is written.
 #[cycle(encode)]
 pub fn content_records(
     alloc: Global,
@@ -159,7 +160,11 @@ pub fn content_records(
             place_held(&field.held, alloc, shape, found, &mut recs)?;
         }
     }
-    place_copies(&mut recs, &contents.kept, alloc)?;
+    if shape.keeps_order(type_at) {
+        add_copies(&mut recs, &contents.kept, alloc)?;
+    } else {
+        place_copies(&mut recs, &contents.kept, alloc)?;
+    }
     Ok(recs)
 }
 

@@ -1,4 +1,4 @@
-ghost use Rattle.std.specs.Prelude.{◌≡◌, ◌≤◌, [], ◌∷◌, length, OnOk};
+ghost use Rattle.std.specs.Prelude.{◌≡◌, ◌≤◌, [], ◌∷◌, ◌++◌, length, OnOk};
 ghost use Rattle.pbx_content.specs.Records.{number_of};
 ghost use Rattle.pbx_content.specs.Placing.{IsPlace, Adds};
 
@@ -35,6 +35,16 @@ pub(crate) fn place(recs: &mut Recs, rec: Rec) -> Result<(), NoMemory>
 {
     let at = place_after(recs.as_slice(), number(&rec));
     recs.insert(at, rec)?;
+    Ok(())
+}
+
+/// Adds copies of the records at the end.
+pub(crate) fn add_copies(recs: &mut Recs, more: &Recs, alloc: Global) -> Result<(), NoMemory>
+    ensures { OnOk result (recs.new ≡ recs.old ++ more.now) }
+{
+    for rec in more.as_slice() {
+        recs.add(rec.copy(alloc)?)?;
+    }
     Ok(())
 }
 

@@ -1,5 +1,5 @@
 ghost use Rattle.std.specs.Prelude.{◌≡◌, ◌↔◌, IsTrue, option_map};
-ghost use Rattle.pbx_content.specs.Shape.{fields_of as fields_of_type, field_of};
+ghost use Rattle.pbx_content.specs.Shape.{fields_of as fields_of_type, keeps_order_of, field_of};
 ghost use Rattle.pbx_content.specs.Sound.{AreAbove, IsProper};
 
 use pbx_wire::{List, Text};
@@ -63,6 +63,9 @@ pub struct MessageShape {
     pub full_name: Text,
     /// The fields, by ascending number.
     pub fields: List<FieldShape>,
+    /// Whether kept records are written in order of arrival, as those of options are, and not at
+    /// their number.
+    pub keeps_order: bool,
 }
 
 /// Message types, which name one another by their places.
@@ -83,6 +86,15 @@ impl Shape {
         } else {
             &[]
         }
+    }
+
+    /// Whether the type at a place has its kept records written in order of arrival; one outside the
+    /// shape has not.
+    pub fn keeps_order(&self, type_at: usize) -> bool
+        ensures { result ≡ keeps_order_of self.now type_at }
+    {
+        let messages = self.messages.as_slice();
+        type_at < messages.len() && messages[type_at].keeps_order
     }
 
     /// Whether each type's fields have ascending numbers from 1 to 536,870,911.

@@ -56,7 +56,11 @@ fn shape(alloc: Global) -> Result<Shape, NoMemory> {
     }
     let full_name = Text::from_str(alloc, "row.Row")?;
     let mut messages = List::new(alloc);
-    messages.add(MessageShape { full_name, fields })?;
+    messages.add(MessageShape {
+        full_name,
+        fields,
+        keeps_order: false,
+    })?;
     Ok(Shape { messages })
 }
 
@@ -138,6 +142,36 @@ fn kept_records_stand_at_their_numbers(rt: HostRuntime) -> Result<(), NoMemory> 
     let recs = content_records(alloc, &shape, 0, &contents)?;
     assert_eq!(rt; recs.len(), 5);
     Ok(())
+}
+
+/// That kept records of the numbers 5, 3 and 5 are written so.
+fn expect_kept(
+    rt: &impl Abort,
+    alloc: Global,
+    keeps_order: bool,
+    want: &[u8],
+) -> Result<(), NoMemory> {
+    let full_name = Text::from_str(alloc, "row.Options")?;
+    let mut messages = List::new(alloc);
+    messages.add(MessageShape {
+        full_name,
+        fields: List::new(alloc),
+        keeps_order,
+    })?;
+    let mut contents = Contents::new(alloc);
+    for (number, value) in [(5, 1), (3, 2), (5, 4)] {
+        contents.kept.add(Rec::Varint(number, value))?;
+    }
+    let bytes = encode(alloc, &Shape { messages }, 0, &contents)?;
+    assert_eq!(rt; bytes.as_slice(), want);
+    Ok(())
+}
+
+#[test]
+fn kept_records_stand_at_their_numbers_or_in_order(rt: HostRuntime) -> Result<(), NoMemory> {
+    let alloc = rt.alloc();
+    expect_kept(&rt, alloc, false, &[24, 2, 40, 1, 40, 4])?;
+    expect_kept(&rt, alloc, true, &[40, 1, 24, 2, 40, 4])
 }
 
 /// That the bytes are decoded, and written so.

@@ -8,7 +8,7 @@ use Rattle.pbx_content.specs.declared.shape.Shape.{Shape}
 use Rattle.pbx_content.specs.declared.shape.FieldShape.{FieldShape}
 use Rattle.pbx_content.specs.Content.{Val, number, truth, text, message, many, Vals, no_vals, val}
 use Rattle.pbx_content.specs.Records.{number_of, insert, sorted}
-use Rattle.pbx_content.specs.Encoding.{numeral, packed_text, val_rec, vals_recs}
+use Rattle.pbx_content.specs.Encoding.{numeral, packed_text, with_kept, val_rec, vals_recs}
 
 -- ---- records
 
@@ -39,6 +39,11 @@ length-insert r (s ∷ ss) = at (nat_lt (number_of s) (number_of r)) (length-ins
 pub length-sorted : (rs : List Rec) → length (text_of (sorted rs)) ≡ length (text_of rs)
 length-sorted [] = refl
 length-sorted (r ∷ rs) = omega (arith, length-insert r (sorted rs), length-sorted rs, length_first r (sorted rs), length_first r rs)
+
+-- the kept records stand among the others, or behind them
+pub length-with_kept : (keeps_order : Bool) (rs kept : List Rec) → length (text_of (with_kept keeps_order rs kept)) ≡ length (text_of rs) + length (text_of kept)
+length-with_kept true rs kept = omega (arith, length_parts (sorted rs) kept, length-sorted rs)
+length-with_kept false rs kept = omega (arith, length-sorted (rs ++ kept), length_parts rs kept)
 
 -- a payload is no longer than its record
 pub payload_within : (n : ℕ) (b : List ℕ) → length b ≤ length (text_of_rec (rec.Bytes n b))

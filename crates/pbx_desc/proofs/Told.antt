@@ -1,6 +1,6 @@
 -- Trees that are made field by field, and lists of values.
 use Rattle.std.proofs.Common.{◌≡◌, ℕ, ◌+◌, ◌<◌, List, [], ◌∷◌, ◌++◌, length, take, get_or, map, true, sym, ap, ◌∙◌, rules}
-use Rattle.std.specs.Prelude.{Result, Ok, Err, OnOk, IfOk}
+use Rattle.std.specs.Prelude.{ℤ, Bool, Result, Ok, Err, OnOk, IfOk}
 use Rattle.std.specs.Str.{IsUtf8, is_utf8}
 use Rattle.std.proofs.lemmas.Str.{is_utf8-from_IsUtf8}
 use Rattle.std.proofs.lemmas.List.{take_more, map-append}
@@ -13,16 +13,16 @@ use Rattle.pbx_content.specs.declared.contents.Held as held
 use Rattle.pbx_content.specs.declared.contents.Field.{Field}
 use Rattle.pbx_content.specs.declared.contents.Held.TheViews.{roll-Contents}
 use Rattle.pbx_content.specs.declared.contents.Contents.{Contents, the_lemmas}
-use Rattle.pbx_content.specs.Content.{Content, content, text, message, many, Val, vals_of}
+use Rattle.pbx_content.specs.Content.{Content, content, number, truth, text, message, many, Val, vals_of}
 use Rattle.pbx_content.specs.View.{content_of, val_of}
-use Rattle.pbx_desc.specs.Content.{entries}
+use Rattle.pbx_desc.specs.Building.{entries}
 use Rattle.pbx_desc.specs.Sound.{IsOf, AreOf}
-
-pub rolled : (fs : List Field) (ks : List Rec) → content_of (roll-Contents (record { fields = fs; kept = ks })) ≡ content (entries fs) ks
-rolled fs ks = search (rules, the_lemmas)
 
 pub val_of-Text : (t : Text) → val_of (held.Text t) ≡ text t
 val_of-Text t = search (rules, the_lemmas)
+
+pub val_of-Bool : (b : Bool) → val_of (held.Bool b) ≡ truth b
+val_of-Bool b = search (rules, the_lemmas)
 
 pub val_of-Message : (c : Contents) → val_of (held.Message c) ≡ message (content_of c)
 val_of-Message c = search (rules, the_lemmas)
@@ -52,10 +52,6 @@ are_more shape k g xs i x lt is before here = rw (mapped_more g xs i x lt is) (a
 
 pub same_utf8 : (s t : List ℕ) → s ≡ t → IsUtf8 s → is_utf8 t ≡ true
 same_utf8 s t e h = rw (← e) (is_utf8-from_IsUtf8 s h)
-
-pub in_any_case : {X E : Type 0} (r : Result X E) (P : Type 0) → P → OnOk r P
-in_any_case (Ok x) P h = h
-in_any_case (Err e) P h = tt
 
 pub if_ok : {X E : Type 0} (P Q : X → Type 0) (r : Result X E) → ((x : X) → P x → Q x) → IfOk r P → IfOk r Q
 if_ok P Q (Ok x) f h = f x h

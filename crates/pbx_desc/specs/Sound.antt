@@ -3,12 +3,15 @@ use Rattle.std.specs.Prelude.{◌≡◌, ℕ, ◌^◌, ◌<◌, List, [], ◌∷
 use Rattle.std.specs.Int.{w32}
 use Rattle.std.specs.Int.RustNames.{FitsSigned}
 use Rattle.std.specs.Str.{is_utf8}
+use Rattle.pbx_content.specs.declared.shape.Cardinality.{Cardinality}
+use Rattle.pbx_content.specs.declared.shape.Cardinality.TheVariants.{Singular, Repeated}
 use Rattle.pbx_content.specs.declared.shape.Kind.{Kind}
 use Rattle.pbx_content.specs.declared.shape.Kind.TheVariants as kind
 use Rattle.pbx_content.specs.declared.shape.Shape.{Shape}
-use Rattle.pbx_content.specs.Content.{Content, Val, number, text, message}
+use Rattle.pbx_content.specs.Content.{Content, Val, number, truth, text, message}
 use Rattle.pbx_content.specs.Encoding.{encoded}
 use Rattle.pbx_content.specs.Sound.{IsSound}
+use Rattle.pbx_desc.specs.Content.{listed}
 
 -- Where the content's text has a length below 2^64, as each text in memory has, a message of the type may have it.
 abbrev pub IsSoundIfShort : Shape → ℕ → Content → Type 0
@@ -17,6 +20,7 @@ IsSoundIfShort shape t c = length (encoded shape t c) < 2 ^ 64 → IsSound shape
 -- a value of the kind, as far as its parts tell
 abbrev pub IsOf : Shape → Kind → Val → Type 0
 IsOf shape kind.Int32 (number z) = FitsSigned w32 z
+IsOf shape kind.Bool (truth b) = Unit {0}
 IsOf shape kind.String (text s) = is_utf8 s ≡ true
 IsOf shape (kind.Message t) (message c) = IsSoundIfShort shape t c
 IsOf shape _ _ = ⊥
@@ -30,3 +34,8 @@ MayBeOf shape k (Some v) = IsOf shape k v
 abbrev pub AreOf : Shape → Kind → List Val → Type 0
 AreOf shape k [] = Unit {0}
 AreOf shape k (v ∷ vs) = IsOf shape k v × AreOf shape k vs
+
+-- no value, or one that a field of this cardinality and kind may have
+abbrev pub MayBe : Shape → Cardinality → Kind → Option Val → Type 0
+MayBe shape Singular k v = MayBeOf shape k v
+MayBe shape Repeated k v = (vs : List Val) × (v ≡ listed vs) × AreOf shape k vs

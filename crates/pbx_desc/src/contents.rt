@@ -1,65 +1,184 @@
-ghost use Rattle.std.specs.Prelude.{◌≡◌, map, None, option_map, IfOk, OnOk};
+ghost use Rattle.std.specs.Prelude.{◌≡◌, ℕ, [], true, filter, map, IfOk, OnOk};
+ghost use Rattle.std.specs.Int.{w32};
+ghost use Rattle.std.specs.Int.RustNames.{FitsSigned};
+ghost use Rattle.pbx_wire.specs.Text.{are_fit};
+ghost use Rattle.pbx_content.specs.declared.shape.Cardinality.TheVariants.{Singular, Repeated};
+ghost use Rattle.pbx_content.specs.declared.shape.Kind.{Kind};
 ghost use Rattle.pbx_content.specs.declared.shape.Kind.TheVariants as kind;
-ghost use Rattle.pbx_content.specs.Content.{number as number_val, text as text_val};
-ghost use Rattle.pbx_content.specs.Meaning.{with_field};
+ghost use Rattle.pbx_content.specs.Content.{Content, content as content_from, message, number as number_val, text as text_val};
+ghost use Rattle.pbx_content.specs.Shape.{fields_of};
 ghost use Rattle.pbx_content.specs.View.{content_of, val_of};
-ghost use Rattle.pbx_desc.specs.Shape.{descriptor_shape};
-ghost use Rattle.pbx_desc.specs.Content.{listed, entries, field_content, field_value, message_content, message_value, file_content, set_content};
-ghost use Rattle.pbx_desc.specs.Sound.{IsSoundIfShort, MayBeOf, AreOf};
+ghost use Rattle.pbx_desc_shape.specs.Shape.{descriptor_shape};
+ghost use Rattle.pbx_desc.specs.Building.{entries, Puts, Holds};
+ghost use Rattle.pbx_desc.specs.Content.{of_text, of_number, of_truth, of_texts, of_numbers, of_record, of_records, of_options, listed};
+ghost use Rattle.pbx_desc.specs.Sound.{AreOf};
+ghost use Rattle.pbx_desc.specs.Unknown.{is_writable_beside};
 
-use crate::field::FieldDescriptorProto;
-use crate::file::FileDescriptorProto;
-use crate::message::DescriptorProto;
+use crate::options::Options;
 use crate::unknown::writable;
 use pbx_content::{Contents, Field, Held};
 use pbx_wire::{List, NoMemory, Recs, Text, Texts};
 use std::alloc::Global;
 
-/// The fields with a value first, whose number is below theirs.
-fn with_value(number: u32, held: Held, rest: List<Field>) -> Result<List<Field>, NoMemory>
-    ensures { IfOk result (λ fields. entries fields ≡ with_field number (Some (val_of held)) (entries rest)) }
-{
-    let mut fields = rest;
-    fields.insert(0, Field { number, held })?;
-    Ok(fields)
+/// A record that has a content as a message of one of the types of the descriptor records.
+pub(crate) trait HasContents {
+    /// The place of the type.
+    ghost TYPE_AT: { ℕ };
+
+    /// What the record holds.
+    ghost content: { Self → Content };
+
+    const TYPE_AT: usize;
+
+    /// The content as a tree. The only error is want of memory.
+    fn to_contents(&self, alloc: Global) -> Result<Contents, NoMemory>
+        ensures { IfOk result (Holds TYPE_AT (content self.now)) };
 }
 
-fn with_text(
+/// Fields with their values, which are put in by ascending number. An absent value puts nothing in.
+#[derive(Drop)]
+pub(crate) struct FieldList {
     alloc: Global,
-    number: u32,
-    text: &Option<Text>,
-    rest: List<Field>,
-) -> Result<List<Field>, NoMemory>
-    ensures fields { IfOk result (λ fields. entries fields ≡ with_field number (option_map text_val text.now) (entries rest)) }
-    ensures sound { OnOk result (MayBeOf descriptor_shape kind.String (option_map text_val text.now)) }
-{
-    match text {
-        Some(text) => {
-            let copy = Text::from_str(alloc, text.as_str())?;
-            with_value(number, Held::Text(copy), rest)
+    list: List<Field>,
+}
+
+impl FieldList {
+    pub(crate) fn new(alloc: Global) -> FieldList
+        ensures { result.list ≡ [] }
+    {
+        FieldList {
+            alloc,
+            list: List::new(alloc),
         }
-        None => Ok(rest),
+    }
+
+    pub(crate) fn text(&mut self, number: u32, text: &Option<Text>) -> Result<(), NoMemory>
+        ensures { OnOk result (Puts Singular kind.String number (of_text text.now) self.old.list self.new.list) }
+    {
+        if let Some(text) = text {
+            let copy = Text::from_str(self.alloc, text.as_str())?;
+            self.list.add(Field {
+                number,
+                held: Held::Text(copy),
+            })?;
+        }
+        Ok(())
+    }
+
+    pub(crate) fn number(&mut self, number: u32, value: Option<i32>) -> Result<(), NoMemory>
+        ensures { OnOk result (Puts Singular kind.Int32 number (of_number value) self.old.list self.new.list) }
+    {
+        if let Some(value) = value {
+            self.list.add(Field {
+                number,
+                held: number_value(value),
+            })?;
+        }
+        Ok(())
+    }
+
+    pub(crate) fn truth(&mut self, number: u32, value: Option<bool>) -> Result<(), NoMemory>
+        ensures { OnOk result (Puts Singular kind.Bool number (of_truth value) self.old.list self.new.list) }
+    {
+        if let Some(value) = value {
+            self.list.add(Field {
+                number,
+                held: Held::Bool(value),
+            })?;
+        }
+        Ok(())
+    }
+
+    pub(crate) fn record<R: HasContents>(
+        &mut self,
+        number: u32,
+        record: &Option<R>,
+    ) -> Result<(), NoMemory>
+        ensures { OnOk result
+            (Puts Singular (kind.Message R.TYPE_AT) number (of_record R.content «record».now) self.old.list self.new.list) }
+    {
+        if let Some(record) = record {
+            let contents = record.to_contents(self.alloc)?;
+            self.list.add(Field {
+                number,
+                held: Held::Message(contents),
+            })?;
+        }
+        Ok(())
+    }
+
+    /// Options are of whatever type has no field.
+    pub(crate) fn options(&mut self, number: u32, options: &Option<Options>) -> Result<(), NoMemory>
+        ensures { OnOk result ((type_at : ℕ) → fields_of descriptor_shape type_at ≡ []
+            → Puts Singular (kind.Message type_at) number (of_options options.now) self.old.list self.new.list) }
+    {
+        if let Some(options) = options {
+            let contents = FieldList::new(self.alloc).with_unknown(&options.recs, &[])?;
+            self.list.add(Field {
+                number,
+                held: Held::Message(contents),
+            })?;
+        }
+        Ok(())
+    }
+
+    /// An empty list puts nothing in.
+    pub(crate) fn list(&mut self, number: u32, values: List<Held>) -> Result<(), NoMemory>
+        ensures { OnOk result ((k : Kind) → AreOf descriptor_shape k (map val_of values)
+            → Puts Repeated k number (listed (map val_of values)) self.old.list self.new.list) }
+    {
+        if !values.is_empty() {
+            self.list.add(Field {
+                number,
+                held: Held::Many(values),
+            })?;
+        }
+        Ok(())
+    }
+
+    pub(crate) fn texts(&mut self, number: u32, texts: &Texts) -> Result<(), NoMemory>
+        ensures { OnOk result (Puts Repeated kind.String number (of_texts texts.now) self.old.list self.new.list) }
+    {
+        self.list(number, text_values(self.alloc, texts)?)
+    }
+
+    pub(crate) fn numbers(&mut self, number: u32, numbers: &List<i32>) -> Result<(), NoMemory>
+        ensures { OnOk result (Puts Repeated kind.Int32 number (of_numbers numbers.now) self.old.list self.new.list) }
+    {
+        self.list(number, number_values(self.alloc, numbers)?)
+    }
+
+    pub(crate) fn records<R: HasContents>(
+        &mut self,
+        number: u32,
+        records: &List<R>,
+    ) -> Result<(), NoMemory>
+        ensures { OnOk result
+            (Puts Repeated (kind.Message R.TYPE_AT) number (of_records R.content records.now) self.old.list self.new.list) }
+    {
+        self.list(number, record_values(self.alloc, records)?)
+    }
+
+    /// The fields, with those of the unknown records that may be written and have no known number.
+    pub(crate) fn with_unknown(self, unknown: &Recs, known: &[u32]) -> Result<Contents, NoMemory>
+        ensures content { IfOk result (λ contents.
+            content_of contents ≡ content_from (entries self.list) (filter (is_writable_beside known.now) unknown.now)) }
+        ensures fit { OnOk result (are_fit (filter (is_writable_beside known.now) unknown.now) ≡ true) }
+    {
+        let kept = writable(self.alloc, unknown, known)?;
+        Ok(Contents {
+            fields: self.list,
+            kept,
+        })
     }
 }
 
-fn with_number(number: u32, value: Option<i32>, rest: List<Field>) -> Result<List<Field>, NoMemory>
-    ensures fields { IfOk result (λ fields. entries fields ≡ with_field number (option_map number_val value) (entries rest)) }
-    ensures sound { OnOk result (MayBeOf descriptor_shape kind.Int32 (option_map number_val value)) }
+/// The value of a field, which fits its kind.
+fn number_value(value: i32) -> Held
+    ensures value { val_of result ≡ number_val value }
+    ensures fits { FitsSigned w32 value }
 {
-    match value {
-        Some(value) => with_value(number, Held::I32(value), rest),
-        None => Ok(rest),
-    }
-}
-
-fn with_list(number: u32, values: List<Held>, rest: List<Field>) -> Result<List<Field>, NoMemory>
-    ensures { IfOk result (λ fields. entries fields ≡ with_field number (listed (map val_of values)) (entries rest)) }
-{
-    if values.is_empty() {
-        Ok(rest)
-    } else {
-        with_value(number, Held::Many(values), rest)
-    }
+    Held::I32(value)
 }
 
 fn text_values(alloc: Global, texts: &Texts) -> Result<List<Held>, NoMemory>
@@ -74,77 +193,26 @@ fn text_values(alloc: Global, texts: &Texts) -> Result<List<Held>, NoMemory>
     Ok(values)
 }
 
-fn field_values(alloc: Global, fields: &List<FieldDescriptorProto>) -> Result<List<Held>, NoMemory>
-    ensures values { IfOk result (λ values. map val_of values ≡ map field_value fields.now) }
-    ensures sound { OnOk result (AreOf descriptor_shape (kind.Message 3) (map field_value fields.now)) }
+fn number_values(alloc: Global, numbers: &List<i32>) -> Result<List<Held>, NoMemory>
+    ensures values { IfOk result (λ values. map val_of values ≡ map number_val numbers.now) }
+    ensures sound { OnOk result (AreOf descriptor_shape kind.Int32 (map number_val numbers.now)) }
 {
     let mut values = List::new(alloc);
-    for field in fields.as_slice() {
-        let contents = field_contents(alloc, field)?;
-        values.add(Held::Message(contents))?;
+    for number in numbers.as_slice() {
+        values.add(number_value(*number))?;
     }
     Ok(values)
 }
 
-fn message_values(alloc: Global, messages: &List<DescriptorProto>) -> Result<List<Held>, NoMemory>
-    ensures values { IfOk result (λ values. map val_of values ≡ map message_value messages.now) }
-    ensures sound { OnOk result (AreOf descriptor_shape (kind.Message 2) (map message_value messages.now)) }
+fn record_values<R: HasContents>(alloc: Global, records: &List<R>) -> Result<List<Held>, NoMemory>
+    ensures values { IfOk result (λ values. map val_of values ≡ map (λ r. message (R.content r)) records.now) }
+    ensures sound { OnOk result
+        (AreOf descriptor_shape (kind.Message R.TYPE_AT) (map (λ r. message (R.content r)) records.now)) }
 {
     let mut values = List::new(alloc);
-    for message in messages.as_slice() {
-        let contents = message_contents(alloc, message)?;
+    for record in records.as_slice() {
+        let contents = record.to_contents(alloc)?;
         values.add(Held::Message(contents))?;
     }
     Ok(values)
-}
-
-fn field_contents(alloc: Global, field: &FieldDescriptorProto) -> Result<Contents, NoMemory>
-    ensures content { IfOk result (λ contents. content_of contents ≡ field_content field.now) }
-    ensures sound { OnOk result (IsSoundIfShort descriptor_shape 3 (field_content field.now)) }
-{
-    let fields = List::new(alloc);
-    let json_name = with_text(alloc, 10, &field.json_name, fields)?;
-    let kind = with_number(5, field.kind, json_name)?;
-    let label = with_number(4, field.label, kind)?;
-    let number = with_number(3, field.number, label)?;
-    let name = with_text(alloc, 1, &field.name, number)?;
-    let kept = writable(alloc, &field.unknown, &[1, 3, 4, 5, 10])?;
-    Ok(Contents { fields: name, kept })
-}
-
-fn message_contents(alloc: Global, message: &DescriptorProto) -> Result<Contents, NoMemory>
-    ensures content { IfOk result (λ contents. content_of contents ≡ message_content message.now) }
-    ensures sound { OnOk result (IsSoundIfShort descriptor_shape 2 (message_content message.now)) }
-{
-    let fields = List::new(alloc);
-    let values = field_values(alloc, &message.field)?;
-    let field = with_list(2, values, fields)?;
-    let name = with_text(alloc, 1, &message.name, field)?;
-    let kept = writable(alloc, &message.unknown, &[1, 2])?;
-    Ok(Contents { fields: name, kept })
-}
-
-/// The file's content.
-pub(crate) fn file_contents(alloc: Global, file: &FileDescriptorProto) -> Result<Contents, NoMemory>
-    ensures content { IfOk result (λ contents. content_of contents ≡ file_content file.now) }
-    ensures sound { OnOk result (IsSoundIfShort descriptor_shape 1 (file_content file.now)) }
-{
-    let fields = List::new(alloc);
-    let syntax = with_text(alloc, 12, &file.syntax, fields)?;
-    let messages = message_values(alloc, &file.message_type)?;
-    let message_type = with_list(4, messages, syntax)?;
-    let texts = text_values(alloc, &file.dependency)?;
-    let dependency = with_list(3, texts, message_type)?;
-    let name = with_text(alloc, 1, &file.name, dependency)?;
-    let kept = writable(alloc, &file.unknown, &[1, 3, 4, 12])?;
-    Ok(Contents { fields: name, kept })
-}
-
-/// The content of a set of files.
-pub(crate) fn set_contents(alloc: Global, files: List<Held>) -> Result<Contents, NoMemory>
-    ensures { IfOk result (λ contents. content_of contents ≡ set_content (map val_of files)) }
-{
-    let fields = with_list(1, files, List::new(alloc))?;
-    let kept = Recs::new(alloc);
-    Ok(Contents { fields, kept })
 }

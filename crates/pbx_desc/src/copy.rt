@@ -1,7 +1,12 @@
 ghost use Rattle.std.specs.Prelude.{◌≡◌, IfOk};
 
-use crate::field::FieldDescriptorProto;
-use crate::message::DescriptorProto;
+use crate::enumeration::{EnumDescriptorProto, EnumReservedRange, EnumValueDescriptorProto};
+use crate::field::{FieldDescriptorProto, OneofDescriptorProto};
+use crate::file::FileDescriptorProto;
+use crate::message::{DescriptorProto, ExtensionRange, ReservedRange};
+use crate::options::Options;
+use crate::service::{MethodDescriptorProto, ServiceDescriptorProto};
+use crate::source::{Location, SourceCodeInfo};
 use pbx_wire::{List, NoMemory, Text};
 use std::alloc::Global;
 
@@ -11,8 +16,44 @@ pub(crate) trait Duplicate: Drop + Sized {
         ensures { IfOk result (λ copy. copy ≡ self.now) };
 }
 
+impl Duplicate for i32 {
+    fn duplicate(&self, _alloc: Global) -> Result<i32, NoMemory> {
+        Ok(*self)
+    }
+}
+
 impl Duplicate for Text {
     fn duplicate(&self, alloc: Global) -> Result<Text, NoMemory> {
+        self.copy(alloc)
+    }
+}
+
+impl Duplicate for Options {
+    fn duplicate(&self, alloc: Global) -> Result<Options, NoMemory> {
+        self.copy(alloc)
+    }
+}
+
+impl Duplicate for FileDescriptorProto {
+    fn duplicate(&self, alloc: Global) -> Result<FileDescriptorProto, NoMemory> {
+        self.copy(alloc)
+    }
+}
+
+impl Duplicate for DescriptorProto {
+    fn duplicate(&self, alloc: Global) -> Result<DescriptorProto, NoMemory> {
+        self.copy(alloc)
+    }
+}
+
+impl Duplicate for ExtensionRange {
+    fn duplicate(&self, alloc: Global) -> Result<ExtensionRange, NoMemory> {
+        self.copy(alloc)
+    }
+}
+
+impl Duplicate for ReservedRange {
+    fn duplicate(&self, alloc: Global) -> Result<ReservedRange, NoMemory> {
         self.copy(alloc)
     }
 }
@@ -23,8 +64,50 @@ impl Duplicate for FieldDescriptorProto {
     }
 }
 
-impl Duplicate for DescriptorProto {
-    fn duplicate(&self, alloc: Global) -> Result<DescriptorProto, NoMemory> {
+impl Duplicate for OneofDescriptorProto {
+    fn duplicate(&self, alloc: Global) -> Result<OneofDescriptorProto, NoMemory> {
+        self.copy(alloc)
+    }
+}
+
+impl Duplicate for EnumDescriptorProto {
+    fn duplicate(&self, alloc: Global) -> Result<EnumDescriptorProto, NoMemory> {
+        self.copy(alloc)
+    }
+}
+
+impl Duplicate for EnumReservedRange {
+    fn duplicate(&self, alloc: Global) -> Result<EnumReservedRange, NoMemory> {
+        self.copy(alloc)
+    }
+}
+
+impl Duplicate for EnumValueDescriptorProto {
+    fn duplicate(&self, alloc: Global) -> Result<EnumValueDescriptorProto, NoMemory> {
+        self.copy(alloc)
+    }
+}
+
+impl Duplicate for ServiceDescriptorProto {
+    fn duplicate(&self, alloc: Global) -> Result<ServiceDescriptorProto, NoMemory> {
+        self.copy(alloc)
+    }
+}
+
+impl Duplicate for MethodDescriptorProto {
+    fn duplicate(&self, alloc: Global) -> Result<MethodDescriptorProto, NoMemory> {
+        self.copy(alloc)
+    }
+}
+
+impl Duplicate for SourceCodeInfo {
+    fn duplicate(&self, alloc: Global) -> Result<SourceCodeInfo, NoMemory> {
+        self.copy(alloc)
+    }
+}
+
+impl Duplicate for Location {
+    fn duplicate(&self, alloc: Global) -> Result<Location, NoMemory> {
         self.copy(alloc)
     }
 }

@@ -1,15 +1,46 @@
-ghost use Rattle.std.specs.Prelude.{◌≡◌, ◌≤◌, IfOk};
+ghost use Rattle.std.specs.Prelude.{◌≡◌, ◌≤◌, ℕ, IfOk};
+ghost use Rattle.pbx_content.specs.Content.{Content};
+ghost use Rattle.pbx_content.specs.declared.shape.Shape.{Shape};
 ghost use Rattle.pbx_content.specs.Encoding.{encoded};
 ghost use Rattle.pbx_content.specs.Same.{Decodes};
 ghost use Rattle.pbx_content.specs.Sound.{depth};
 ghost use Rattle.pbx_content.specs.View.{content_of};
-ghost use Rattle.pbx_desc.specs.Shape.{descriptor_shape as descriptor_shape_of};
+ghost use Rattle.pbx_desc_shape.specs.Shape.{descriptor_shape as descriptor_shape_of};
 ghost use Rattle.pbx_desc.specs.Sound.{IsSoundIfShort};
 
-use crate::shape::descriptor_shape;
+use crate::contents::HasContents;
 use pbx_content::{Contents, encode, encoding_decodes};
+use pbx_desc_shape::descriptor_shape;
 use pbx_wire::NoMemory;
 use std::alloc::Global;
+
+/// A value that is written as a message.
+pub trait Message {
+    /// The types among which the message's type stands.
+    ghost shape: { Self → Shape };
+
+    /// The place of the message's type.
+    ghost type_at: { Self → ℕ };
+
+    /// What the message holds.
+    ghost content: { Self → Content };
+
+    /// The canonical encoding. The only error is want of memory.
+    fn encode_to_vec(&self, alloc: Global) -> Result<Vec<u8>, NoMemory>
+        ensures bytes { IfOk result (λ v. v.items ≡ encoded (shape self.now) (type_at self.now) (content self.now)) }
+        ensures decodes { IfOk result (λ v. depth (content self.now) ≤ 100
+            → Decodes (shape self.now) (type_at self.now) v.items (content self.now)) };
+}
+
+/// The canonical encoding of a record.
+pub(crate) fn record_bytes<R: HasContents>(alloc: Global, record: &R) -> Result<Vec<u8>, NoMemory>
+    ensures bytes { IfOk result (λ v. v.items ≡ encoded descriptor_shape_of R.TYPE_AT (R.content «record».now)) }
+    ensures decodes { IfOk result (λ v. depth (R.content «record».now) ≤ 100
+        → Decodes descriptor_shape_of R.TYPE_AT v.items (R.content «record».now)) }
+{
+    let contents = record.to_contents(alloc)?;
+    to_bytes(alloc, R::TYPE_AT, &contents)
+}
 
 /// The canonical encoding of a content of a type of the descriptor records.
 pub(crate) fn to_bytes(

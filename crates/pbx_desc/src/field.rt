@@ -1,22 +1,41 @@
 ghost use Rattle.std.specs.Prelude.{◌≡◌, None, [], IfOk};
+ghost use Rattle.pbx_desc_shape.specs.Shape.{descriptor_shape};
+ghost use Rattle.pbx_desc.specs.Content.{field_content, oneof_content};
 
+use crate::contents::{FieldList, HasContents};
 use crate::copy::Duplicate;
+use crate::encoding::{Message, record_bytes};
+use crate::options::Options;
+use pbx_content::Contents;
+use pbx_desc_shape::place;
 use pbx_wire::{NoMemory, Recs, Text, copy_recs};
 use std::alloc::Global;
 
-/// A field of a message, `google.protobuf.FieldDescriptorProto`.
+/// A field of a message, or an extension, `google.protobuf.FieldDescriptorProto`.
 #[derive(Drop)]
 pub struct FieldDescriptorProto {
     /// The field's own name, without that of its message.
     pub name: Option<Text>,
+    /// The name of the message that an extension extends; absent in a field.
+    pub extendee: Option<Text>,
     /// The number that stands before the field's values on the wire.
     pub number: Option<i32>,
     /// 1 optional, 2 required, 3 repeated, as `FieldDescriptorProto.Label` numbers them.
     pub label: Option<i32>,
     /// The number of `FieldDescriptorProto.Type`, as 5 for `int32` and 9 for `string`.
     pub kind: Option<i32>,
+    /// The name of the message or enum that is the type; a full name has a leading dot.
+    pub type_name: Option<Text>,
+    /// The default in the words of the source.
+    pub default_value: Option<Text>,
+    /// The records of `google.protobuf.FieldOptions`.
+    pub options: Option<Options>,
+    /// The place in `oneof_decl` of the oneof that the field is a member of.
+    pub oneof_index: Option<i32>,
     /// The field's key in canonical JSON.
     pub json_name: Option<Text>,
+    /// Whether the field has the label `optional` in a file of `proto3`.
+    pub proto3_optional: Option<bool>,
     /// The records of numbers that are no field of this one, in order of arrival.
     pub unknown: Recs,
 }
@@ -24,14 +43,33 @@ pub struct FieldDescriptorProto {
 impl FieldDescriptorProto {
     /// The record with each field absent; takes no memory.
     pub fn new(alloc: Global) -> FieldDescriptorProto
-        ensures { result ≡ record { name = None; number = None; label = None; kind = None; json_name = None; unknown = [] } }
+        ensures { result ≡ record {
+          name = None;
+          extendee = None;
+          number = None;
+          label = None;
+          kind = None;
+          type_name = None;
+          default_value = None;
+          options = None;
+          oneof_index = None;
+          json_name = None;
+          proto3_optional = None;
+          unknown = [];
+        } }
     {
         FieldDescriptorProto {
             name: None,
+            extendee: None,
             number: None,
             label: None,
             kind: None,
+            type_name: None,
+            default_value: None,
+            options: None,
+            oneof_index: None,
             json_name: None,
+            proto3_optional: None,
             unknown: Recs::new(alloc),
         }
     }
@@ -42,11 +80,115 @@ impl FieldDescriptorProto {
     {
         Ok(FieldDescriptorProto {
             name: self.name.duplicate(alloc)?,
+            extendee: self.extendee.duplicate(alloc)?,
             number: self.number,
             label: self.label,
             kind: self.kind,
+            type_name: self.type_name.duplicate(alloc)?,
+            default_value: self.default_value.duplicate(alloc)?,
+            options: self.options.duplicate(alloc)?,
+            oneof_index: self.oneof_index,
             json_name: self.json_name.duplicate(alloc)?,
+            proto3_optional: self.proto3_optional,
             unknown: copy_recs(&self.unknown, alloc)?,
         })
+    }
+}
+
+impl HasContents for FieldDescriptorProto {
+    ghost TYPE_AT = { 3 };
+
+    ghost content = { field_content };
+
+    const TYPE_AT: usize = place::FIELD;
+
+    fn to_contents(&self, alloc: Global) -> Result<Contents, NoMemory> {
+        let mut fields = FieldList::new(alloc);
+        fields.text(1, &self.name)?;
+        fields.text(2, &self.extendee)?;
+        fields.number(3, self.number)?;
+        fields.number(4, self.label)?;
+        fields.number(5, self.kind)?;
+        fields.text(6, &self.type_name)?;
+        fields.text(7, &self.default_value)?;
+        fields.options(8, &self.options)?;
+        fields.number(9, self.oneof_index)?;
+        fields.text(10, &self.json_name)?;
+        fields.truth(17, self.proto3_optional)?;
+        fields.with_unknown(&self.unknown, &[1, 2, 3, 4, 5, 6, 7, 8, 9, 10, 17])
+    }
+}
+
+impl Message for FieldDescriptorProto {
+    ghost shape = { λ _. descriptor_shape };
+
+    ghost type_at = { λ _. 3 };
+
+    ghost content = { field_content };
+
+    fn encode_to_vec(&self, alloc: Global) -> Result<Vec<u8>, NoMemory> {
+        record_bytes(alloc, self)
+    }
+}
+
+/// A oneof of a message, `google.protobuf.OneofDescriptorProto`.
+#[derive(Drop)]
+pub struct OneofDescriptorProto {
+    /// The oneof's own name.
+    pub name: Option<Text>,
+    /// The records of `google.protobuf.OneofOptions`.
+    pub options: Option<Options>,
+    /// The records of numbers that are no field of this one, in order of arrival.
+    pub unknown: Recs,
+}
+
+impl OneofDescriptorProto {
+    /// The record with each field absent; takes no memory.
+    pub fn new(alloc: Global) -> OneofDescriptorProto
+        ensures { result ≡ record { name = None; options = None; unknown = [] } }
+    {
+        OneofDescriptorProto {
+            name: None,
+            options: None,
+            unknown: Recs::new(alloc),
+        }
+    }
+
+    /// An equal record. The only error is want of memory.
+    pub fn copy(&self, alloc: Global) -> Result<OneofDescriptorProto, NoMemory>
+        ensures { IfOk result (λ copy. copy ≡ self.now) }
+    {
+        Ok(OneofDescriptorProto {
+            name: self.name.duplicate(alloc)?,
+            options: self.options.duplicate(alloc)?,
+            unknown: copy_recs(&self.unknown, alloc)?,
+        })
+    }
+}
+
+impl HasContents for OneofDescriptorProto {
+    ghost TYPE_AT = { 6 };
+
+    ghost content = { oneof_content };
+
+    const TYPE_AT: usize = place::ONEOF;
+
+    fn to_contents(&self, alloc: Global) -> Result<Contents, NoMemory> {
+        let mut fields = FieldList::new(alloc);
+        fields.text(1, &self.name)?;
+        fields.options(2, &self.options)?;
+        fields.with_unknown(&self.unknown, &[1, 2])
+    }
+}
+
+impl Message for OneofDescriptorProto {
+    ghost shape = { λ _. descriptor_shape };
+
+    ghost type_at = { λ _. 6 };
+
+    ghost content = { oneof_content };
+
+    fn encode_to_vec(&self, alloc: Global) -> Result<Vec<u8>, NoMemory> {
+        record_bytes(alloc, self)
     }
 }

@@ -1,29 +1,105 @@
-ghost use Rattle.std.specs.Prelude.{◌≡◌, ◌≤◌, None, [], IfOk, OnOk};
-ghost use Rattle.pbx_content.specs.Encoding.{encoded};
-ghost use Rattle.pbx_content.specs.Same.{Decodes};
-ghost use Rattle.pbx_content.specs.Sound.{depth};
+ghost use Rattle.std.specs.Prelude.{◌≡◌, None, [], IfOk, OnOk};
 ghost use Rattle.pbx_content.specs.View.{content_of};
-ghost use Rattle.pbx_desc.specs.Shape.{descriptor_shape};
-ghost use Rattle.pbx_desc.specs.Content.{file_content};
+ghost use Rattle.pbx_desc_shape.specs.Shape.{descriptor_shape};
+ghost use Rattle.pbx_desc.specs.Content.{file_set_content, file_content};
 ghost use Rattle.pbx_desc.specs.Sound.{IsSoundIfShort};
 
-use crate::contents::file_contents;
+use crate::contents::{FieldList, HasContents};
 use crate::copy::Duplicate;
-use crate::encoding::to_bytes;
+use crate::encoding::{Message, record_bytes};
+use crate::enumeration::EnumDescriptorProto;
+use crate::field::FieldDescriptorProto;
 use crate::message::DescriptorProto;
+use crate::options::Options;
+use crate::service::ServiceDescriptorProto;
+use crate::source::SourceCodeInfo;
 use pbx_content::Contents;
+use pbx_desc_shape::place;
 use pbx_wire::{List, NoMemory, Recs, Text, Texts, copy_recs};
 use std::alloc::Global;
+
+/// Files, `google.protobuf.FileDescriptorSet`.
+#[derive(Drop)]
+pub struct FileDescriptorSet {
+    /// The files, in their order.
+    pub file: List<FileDescriptorProto>,
+    /// The records of numbers that are no field of this one, in order of arrival.
+    pub unknown: Recs,
+}
+
+impl FileDescriptorSet {
+    /// The record with each field absent; takes no memory.
+    pub fn new(alloc: Global) -> FileDescriptorSet
+        ensures { result ≡ record { file = []; unknown = [] } }
+    {
+        FileDescriptorSet {
+            file: List::new(alloc),
+            unknown: Recs::new(alloc),
+        }
+    }
+
+    /// An equal record. The only error is want of memory.
+    pub fn copy(&self, alloc: Global) -> Result<FileDescriptorSet, NoMemory>
+        ensures { IfOk result (λ copy. copy ≡ self.now) }
+    {
+        Ok(FileDescriptorSet {
+            file: self.file.duplicate(alloc)?,
+            unknown: copy_recs(&self.unknown, alloc)?,
+        })
+    }
+}
+
+impl HasContents for FileDescriptorSet {
+    ghost TYPE_AT = { 0 };
+
+    ghost content = { file_set_content };
+
+    const TYPE_AT: usize = place::FILE_SET;
+
+    fn to_contents(&self, alloc: Global) -> Result<Contents, NoMemory> {
+        let mut fields = FieldList::new(alloc);
+        fields.records(1, &self.file)?;
+        fields.with_unknown(&self.unknown, &[1])
+    }
+}
+
+impl Message for FileDescriptorSet {
+    ghost shape = { λ _. descriptor_shape };
+
+    ghost type_at = { λ _. 0 };
+
+    ghost content = { file_set_content };
+
+    fn encode_to_vec(&self, alloc: Global) -> Result<Vec<u8>, NoMemory> {
+        record_bytes(alloc, self)
+    }
+}
 
 /// A source file, `google.protobuf.FileDescriptorProto`.
 #[derive(Drop)]
 pub struct FileDescriptorProto {
     /// The name under which the file is imported.
     pub name: Option<Text>,
+    /// The package of its names, without dots at its ends.
+    pub package: Option<Text>,
     /// The names of the files that it imports, in the order of the source.
     pub dependency: Texts,
     /// The messages at the top of the file, in the order of the source.
     pub message_type: List<DescriptorProto>,
+    /// The enums at the top of the file, in the order of the source.
+    pub enum_type: List<EnumDescriptorProto>,
+    /// The services, in the order of the source.
+    pub service: List<ServiceDescriptorProto>,
+    /// The extensions at the top of the file, in the order of the source.
+    pub extension: List<FieldDescriptorProto>,
+    /// The records of `google.protobuf.FileOptions`.
+    pub options: Option<Options>,
+    /// Where its parts stand in the source.
+    pub source_code_info: Option<SourceCodeInfo>,
+    /// The places in `dependency` of those that are imported publicly.
+    pub public_dependency: List<i32>,
+    /// The places in `dependency` of those that are imported weakly.
+    pub weak_dependency: List<i32>,
     /// `proto3`, or absent in a file of `proto2`.
     pub syntax: Option<Text>,
     /// The records of numbers that are no field of this one, in order of arrival.
@@ -33,12 +109,34 @@ pub struct FileDescriptorProto {
 impl FileDescriptorProto {
     /// The record with each field absent; takes no memory.
     pub fn new(alloc: Global) -> FileDescriptorProto
-        ensures { result ≡ record { name = None; dependency = []; message_type = []; syntax = None; unknown = [] } }
+        ensures { result ≡ record {
+          name = None;
+          «package» = None;
+          dependency = [];
+          message_type = [];
+          enum_type = [];
+          service = [];
+          extension = [];
+          options = None;
+          source_code_info = None;
+          public_dependency = [];
+          weak_dependency = [];
+          syntax = None;
+          unknown = [];
+        } }
     {
         FileDescriptorProto {
             name: None,
+            package: None,
             dependency: Texts::new(alloc),
             message_type: List::new(alloc),
+            enum_type: List::new(alloc),
+            service: List::new(alloc),
+            extension: List::new(alloc),
+            options: None,
+            source_code_info: None,
+            public_dependency: List::new(alloc),
+            weak_dependency: List::new(alloc),
             syntax: None,
             unknown: Recs::new(alloc),
         }
@@ -50,28 +148,63 @@ impl FileDescriptorProto {
     {
         Ok(FileDescriptorProto {
             name: self.name.duplicate(alloc)?,
+            package: self.package.duplicate(alloc)?,
             dependency: self.dependency.duplicate(alloc)?,
             message_type: self.message_type.duplicate(alloc)?,
+            enum_type: self.enum_type.duplicate(alloc)?,
+            service: self.service.duplicate(alloc)?,
+            extension: self.extension.duplicate(alloc)?,
+            options: self.options.duplicate(alloc)?,
+            source_code_info: self.source_code_info.duplicate(alloc)?,
+            public_dependency: self.public_dependency.duplicate(alloc)?,
+            weak_dependency: self.weak_dependency.duplicate(alloc)?,
             syntax: self.syntax.duplicate(alloc)?,
             unknown: copy_recs(&self.unknown, alloc)?,
         })
     }
 
-    /// What the file holds as a message of type 1 of the shape of the descriptor records. The only error is
-    /// want of memory.
+    /// What the file holds as a message of its type. The only error is want of memory.
     pub fn contents(&self, alloc: Global) -> Result<Contents, NoMemory>
         ensures content { IfOk result (λ contents. content_of contents ≡ file_content self.now) }
         ensures sound { OnOk result (IsSoundIfShort descriptor_shape 1 (file_content self.now)) }
     {
-        file_contents(alloc, self)
+        self.to_contents(alloc)
     }
+}
 
-    /// The canonical encoding of the file. The only error is want of memory.
-    pub fn encode_to_vec(&self, alloc: Global) -> Result<Vec<u8>, NoMemory>
-        ensures bytes { IfOk result (λ v. v.items ≡ encoded descriptor_shape 1 (file_content self.now)) }
-        ensures decodes { IfOk result (λ v. depth (file_content self.now) ≤ 100 → Decodes descriptor_shape 1 v.items (file_content self.now)) }
-    {
-        let contents = self.contents(alloc)?;
-        to_bytes(alloc, 1, &contents)
+impl HasContents for FileDescriptorProto {
+    ghost TYPE_AT = { 1 };
+
+    ghost content = { file_content };
+
+    const TYPE_AT: usize = place::FILE;
+
+    fn to_contents(&self, alloc: Global) -> Result<Contents, NoMemory> {
+        let mut fields = FieldList::new(alloc);
+        fields.text(1, &self.name)?;
+        fields.text(2, &self.package)?;
+        fields.texts(3, &self.dependency)?;
+        fields.records(4, &self.message_type)?;
+        fields.records(5, &self.enum_type)?;
+        fields.records(6, &self.service)?;
+        fields.records(7, &self.extension)?;
+        fields.options(8, &self.options)?;
+        fields.record(9, &self.source_code_info)?;
+        fields.numbers(10, &self.public_dependency)?;
+        fields.numbers(11, &self.weak_dependency)?;
+        fields.text(12, &self.syntax)?;
+        fields.with_unknown(&self.unknown, &[1, 2, 3, 4, 5, 6, 7, 8, 9, 10, 11, 12])
+    }
+}
+
+impl Message for FileDescriptorProto {
+    ghost shape = { λ _. descriptor_shape };
+
+    ghost type_at = { λ _. 1 };
+
+    ghost content = { file_content };
+
+    fn encode_to_vec(&self, alloc: Global) -> Result<Vec<u8>, NoMemory> {
+        record_bytes(alloc, self)
     }
 }

@@ -1,8 +1,10 @@
-ghost use Rattle.pbx_desc.specs.Laws.{DepthOfFile, DepthOfFiles};
+ghost use Rattle.pbx_desc.specs.Laws.{DepthOfMessage, DepthOfFile, DepthOfSet, DepthOfFiles};
 
-/// How many levels stand below the top of a file's content and of a set's: 2 and 3 where no kept record
-/// is a group.
-pub fn files_are_shallow()
+/// A content has no more levels below its top than `specs/Levels.antt` tells of the record: one for
+/// each nesting of records and of groups among their unknown records.
+pub fn levels_bound_depth()
+    ensures message { DepthOfMessage }
     ensures file { DepthOfFile }
+    ensures set { DepthOfSet }
     ensures files { DepthOfFiles }
 {}

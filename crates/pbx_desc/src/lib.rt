@@ -1,25 +1,34 @@
 //! Descriptor records: the schema of a file as plain values.
 //!
-//! The records are those of `google/protobuf/descriptor.proto`, fields named as there, save that the
-//! field `type` is called `kind`. So far they have the fields that the thin source language fills.
+//! The records are those of `google/protobuf/descriptor.proto`, fields by ascending number and named as
+//! there, save that the field `type` is called `kind`. An enum is its number, and a message of options
+//! the list of its records.
 #![tactic(auto)]
 
 mod contents;
 mod copy;
 mod encoding;
+mod enumeration;
 mod field;
 mod file;
 mod laws;
 mod message;
+mod options;
+mod service;
 mod set;
-mod shape;
+mod source;
 #[cfg(test)]
 mod tests;
 mod unknown;
 
-pub use field::FieldDescriptorProto;
-pub use file::FileDescriptorProto;
-pub use laws::files_are_shallow;
-pub use message::DescriptorProto;
+pub use encoding::Message;
+pub use enumeration::{EnumDescriptorProto, EnumReservedRange, EnumValueDescriptorProto};
+pub use field::{FieldDescriptorProto, OneofDescriptorProto};
+pub use file::{FileDescriptorProto, FileDescriptorSet};
+pub use laws::levels_bound_depth;
+pub use message::{DescriptorProto, ExtensionRange, ReservedRange};
+pub use options::Options;
+pub use pbx_desc_shape::descriptor_shape;
+pub use service::{MethodDescriptorProto, ServiceDescriptorProto};
 pub use set::FileSet;
-pub use shape::descriptor_shape;
+pub use source::{Location, SourceCodeInfo};

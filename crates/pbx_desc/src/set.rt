@@ -3,14 +3,15 @@ ghost use Rattle.pbx_content.specs.Encoding.{encoded};
 ghost use Rattle.pbx_content.specs.Same.{Decodes};
 ghost use Rattle.pbx_content.specs.Sound.{depth};
 ghost use Rattle.pbx_content.specs.View.{val_of};
-ghost use Rattle.pbx_desc.specs.Shape.{descriptor_shape};
+ghost use Rattle.pbx_desc_shape.specs.Shape.{descriptor_shape};
 ghost use Rattle.pbx_desc.specs.Content.{file_value, set_content};
 
-use crate::contents::{file_contents, set_contents};
+use crate::contents::{FieldList, HasContents};
 use crate::encoding::to_bytes;
 use crate::file::FileDescriptorProto;
 use pbx_content::Held;
-use pbx_wire::{List, NoMemory};
+use pbx_desc_shape::place;
+use pbx_wire::{List, NoMemory, Recs};
 use std::alloc::Global;
 use std::marker::Model;
 
@@ -27,7 +28,7 @@ impl Model for FileSet {
     ghost use Rattle.pbx_content.specs.declared.contents.Held.{Held};
     ghost use Rattle.pbx_content.specs.declared.shape.Kind.TheVariants.{Message};
     ghost use Rattle.pbx_content.specs.View.{val_of};
-    ghost use Rattle.pbx_desc.specs.Shape.{descriptor_shape};
+    ghost use Rattle.pbx_desc_shape.specs.Shape.{descriptor_shape};
     ghost use Rattle.pbx_desc.specs.Sound.{AreOf};
 
     ghost Value = { ListOf Held };
@@ -54,7 +55,7 @@ impl FileSet {
         ensures ok { OnOk result (map val_of self.new ≡ map val_of self.old ++ file_value file.now ∷ []) }
         ensures err { OnErr result (self.new ≡ self.old) }
     {
-        let contents = file_contents(alloc, file)?;
+        let contents = file.to_contents(alloc)?;
         self.files.add(Held::Message(contents))?;
         Ok(())
     }
@@ -64,7 +65,9 @@ impl FileSet {
         ensures bytes { IfOk result (λ v. v.items ≡ encoded descriptor_shape 0 (set_content (map val_of self))) }
         ensures decodes { IfOk result (λ v. depth (set_content (map val_of self)) ≤ 100 → Decodes descriptor_shape 0 v.items (set_content (map val_of self))) }
     {
-        let contents = set_contents(alloc, self.files)?;
-        to_bytes(alloc, 0, &contents)
+        let mut fields = FieldList::new(alloc);
+        fields.list(1, self.files)?;
+        let contents = fields.with_unknown(&Recs::new(alloc), &[1])?;
+        to_bytes(alloc, place::FILE_SET, &contents)
     }
 }

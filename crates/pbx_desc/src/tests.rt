@@ -1,51 +1,103 @@
-//! That the calls which may want memory succeed with ample memory. The bytes are written by hand after
-//! Protocol Buffers "Encoding" and the numbers of `descriptor.proto`.
+//! That the calls which may want memory succeed with ample memory.
 
-use crate::{
-    DescriptorProto, FieldDescriptorProto, FileDescriptorProto, FileSet, descriptor_shape,
+mod made;
+
+use crate::{FileDescriptorProto, FileDescriptorSet, FileSet, Message, Options, descriptor_shape};
+use made::{
+    FILE, enumeration, enumeration_value, extension_range, field, file, location, message, method,
+    oneof, options, reserved_numbers, reserved_range, service, source_code_info,
 };
 use pbx_content::encode;
-use pbx_wire::{List, NoMemory, Rec, Recs, Text};
+use pbx_wire::{NoMemory, Rec, Recs};
 use std::alloc::Global;
 use std::process::Abort;
 
-fn text(alloc: Global, text: &str) -> Result<Option<Text>, NoMemory> {
-    Ok(Some(Text::from_str(alloc, text)?))
+/// That the message is written so.
+fn expect<M: Message>(
+    rt: &impl Abort,
+    alloc: Global,
+    message: &M,
+    want: &[u8],
+) -> Result<(), NoMemory> {
+    let bytes = message.encode_to_vec(alloc)?;
+    assert_eq!(rt; bytes.as_slice(), want);
+    Ok(())
 }
 
-/// `optional int32 x = 1`, without a key in JSON.
-fn x_field(alloc: Global) -> Result<FieldDescriptorProto, NoMemory> {
-    let mut field = FieldDescriptorProto::new(alloc);
-    field.name = text(alloc, "x")?;
-    field.number = Some(1);
-    field.label = Some(1);
-    field.kind = Some(5);
-    Ok(field)
+#[test]
+fn files_are_written(rt: HostRuntime) -> Result<(), NoMemory> {
+    let alloc = rt.alloc();
+    let file = file(alloc)?;
+    expect(&rt, alloc, &file, &FILE)?;
+    expect(&rt, alloc, &file.copy(alloc)?, &FILE)?;
+    expect(&rt, alloc, &FileDescriptorProto::new(alloc), &[])
 }
 
-/// `repeated string foo_bar = 2`, with a key in JSON, a record of another number and one of a
-/// field's.
-fn foo_field(alloc: Global) -> Result<FieldDescriptorProto, NoMemory> {
-    let mut field = FieldDescriptorProto::new(alloc);
-    field.name = text(alloc, "foo_bar")?;
-    field.number = Some(2);
-    field.label = Some(3);
-    field.kind = Some(9);
-    field.json_name = text(alloc, "fooBar")?;
-    field.unknown.add(Rec::Varint(9, 0))?;
-    field.unknown.add(Rec::Varint(10, 1))?;
-    Ok(field)
+#[test]
+fn contents_are_written_alike(rt: HostRuntime) -> Result<(), NoMemory> {
+    let alloc = rt.alloc();
+    let shape = descriptor_shape(alloc)?;
+    let bytes = encode(alloc, &shape, 1, &file(alloc)?.contents(alloc)?)?;
+    assert_eq!(rt; bytes.as_slice(), FILE.as_slice());
+    Ok(())
 }
 
-/// A message of both fields, with a record of another number and one of a field's.
-fn message(alloc: Global) -> Result<DescriptorProto, NoMemory> {
-    let mut message = DescriptorProto::new(alloc);
-    message.name = text(alloc, "M")?;
-    message.field.add(x_field(alloc)?)?;
-    message.field.add(foo_field(alloc)?)?;
-    message.unknown.add(Rec::Varint(7, 1))?;
-    message.unknown.add(Rec::Varint(2, 1))?;
-    Ok(message)
+#[test]
+fn parts_of_messages_are_written(rt: HostRuntime) -> Result<(), NoMemory> {
+    let alloc = rt.alloc();
+    expect(&rt, alloc, &message(alloc)?, &FILE[21..180])?;
+    expect(&rt, alloc, &field(alloc)?, &FILE[26..62])?;
+    expect(&rt, alloc, &extension_range(alloc)?, &FILE[129..142])?;
+    expect(&rt, alloc, &oneof(alloc)?, &FILE[157..168])?;
+    expect(&rt, alloc, &reserved_range(alloc), &FILE[170..174])
+}
+
+#[test]
+fn parts_of_files_are_written(rt: HostRuntime) -> Result<(), NoMemory> {
+    let alloc = rt.alloc();
+    expect(&rt, alloc, &enumeration(alloc)?, &FILE[74..127])?;
+    expect(&rt, alloc, &enumeration_value(alloc)?, &FILE[79..101])?;
+    expect(&rt, alloc, &reserved_numbers(alloc), &FILE[111..124])?;
+    expect(&rt, alloc, &service(alloc)?, &FILE[187..223])?;
+    expect(&rt, alloc, &method(alloc)?, &FILE[192..215])
+}
+
+#[test]
+fn places_and_options_are_written(rt: HostRuntime) -> Result<(), NoMemory> {
+    let alloc = rt.alloc();
+    expect(&rt, alloc, &source_code_info(alloc)?, &FILE[238..262])?;
+    expect(&rt, alloc, &location(alloc)?, &FILE[240..262])?;
+    expect(&rt, alloc, &options(alloc)?, &FILE[48..54])
+}
+
+/// A set of the file, after Protocol Buffers "Encoding": a key, a length of 274 and the file.
+fn set_bytes(alloc: Global) -> Result<Vec<u8>, NoMemory> {
+    let mut bytes = [0x0a, 0x92, 2].to_vec(alloc)?;
+    bytes.extend_from_slice(&FILE)?;
+    Ok(bytes)
+}
+
+#[test]
+fn sets_are_written(rt: HostRuntime) -> Result<(), NoMemory> {
+    let alloc = rt.alloc();
+    let mut set = FileDescriptorSet::new(alloc);
+    set.file.add(file(alloc)?)?;
+    expect(&rt, alloc, &set.copy(alloc)?, set_bytes(alloc)?.as_slice())
+}
+
+#[test]
+fn sets_are_written_file_by_file(rt: HostRuntime) -> Result<(), NoMemory> {
+    let alloc = rt.alloc();
+    let none = FileSet::new(alloc).encode(alloc)?;
+    assert_eq!(rt; none.as_slice(), [].as_slice());
+    let mut set = FileSet::new(alloc);
+    set.add(alloc, &file(alloc)?)?;
+    set.add(alloc, &FileDescriptorProto::new(alloc))?;
+    let mut want = set_bytes(alloc)?;
+    want.extend_from_slice(&[0x0a, 0])?;
+    let bytes = set.encode(alloc)?;
+    assert_eq!(rt; bytes.as_slice(), want.as_slice());
+    Ok(())
 }
 
 /// A group of number 100 with a record of this number.
@@ -55,124 +107,52 @@ fn group(alloc: Global, number: u32) -> Result<Rec, NoMemory> {
     Ok(Rec::Group(100, recs))
 }
 
-/// A file with two messages, and with records of which those of number 99 and 100 may be written, but
-/// neither one of a field's number nor those in which a number is 0.
-fn a_file(alloc: Global) -> Result<FileDescriptorProto, NoMemory> {
+/// Records of which those with a number 0 may not be written.
+fn records(alloc: Global) -> Result<Recs, NoMemory> {
+    let mut recs = Recs::new(alloc);
+    recs.add(group(alloc, 1)?)?;
+    recs.add(Rec::Varint(1, 5))?;
+    recs.add(Rec::Varint(0, 7))?;
+    recs.add(group(alloc, 0)?)?;
+    recs.add(Rec::Varint(99, 1))?;
+    recs.add(Rec::Varint(14, 3))?;
+    Ok(recs)
+}
+
+/// In a file the record of number 1, a field's, is not written either, and the others by ascending
+/// number: 14, the `edition` of later files, 99 and 100.
+#[test]
+fn unknown_records_are_written(rt: HostRuntime) -> Result<(), NoMemory> {
+    let alloc = rt.alloc();
     let mut file = FileDescriptorProto::new(alloc);
-    file.name = text(alloc, "a.proto")?;
-    file.dependency.add(Text::from_str(alloc, "b.proto")?)?;
-    file.message_type.add(message(alloc)?)?;
-    let mut empty = DescriptorProto::new(alloc);
-    empty.name = text(alloc, "N")?;
-    file.message_type.add(empty)?;
-    file.syntax = text(alloc, "proto3")?;
-    file.unknown.add(group(alloc, 1)?)?;
-    file.unknown.add(Rec::Varint(1, 5))?;
-    file.unknown.add(Rec::Varint(0, 7))?;
-    file.unknown.add(group(alloc, 0)?)?;
-    file.unknown.add(Rec::Varint(99, 1))?;
-    Ok(file)
+    file.unknown = records(alloc)?;
+    let want = [0x70, 3, 0x98, 6, 1, 0xa3, 6, 8, 1, 0xa4, 6];
+    expect(&rt, alloc, &file.copy(alloc)?, &want)
 }
 
-#[rattlefmt::skip]
-const A_FILE: [u8; 85] = [
-    0x0a, 7, b'a', b'.', b'p', b'r', b'o', b't', b'o',
-    0x1a, 7, b'b', b'.', b'p', b'r', b'o', b't', b'o',
-    0x22, 43, 0x0a, 1, b'M',
-    0x12, 9, 0x0a, 1, b'x', 0x18, 1, 0x20, 1, 0x28, 5,
-    0x12, 25, 0x0a, 7, b'f', b'o', b'o', b'_', b'b', b'a', b'r', 0x18, 2, 0x20, 3, 0x28, 9,
-    0x48, 0, 0x52, 6, b'f', b'o', b'o', b'B', b'a', b'r',
-    0x38, 1,
-    0x22, 3, 0x0a, 1, b'N',
-    0x62, 6, b'p', b'r', b'o', b't', b'o', b'3',
-    0x98, 6, 1,
-    0xa3, 6, 8, 1, 0xa4, 6,
-];
-
-fn b_file(alloc: Global) -> Result<FileDescriptorProto, NoMemory> {
-    let mut file = FileDescriptorProto::new(alloc);
-    file.name = text(alloc, "b.proto")?;
-    Ok(file)
-}
-
-const B_FILE: [u8; 9] = [0x0a, 7, b'b', b'.', b'p', b'r', b'o', b't', b'o'];
-
-/// That the file is written so, by itself and as a content of the shape of descriptors.
-fn expect(
-    rt: &impl Abort,
-    alloc: Global,
-    file: &FileDescriptorProto,
-    want: &[u8],
-) -> Result<(), NoMemory> {
-    let bytes = file.encode_to_vec(alloc)?;
-    assert_eq!(rt; bytes.as_slice(), want);
-    let shape = descriptor_shape(alloc)?;
-    let again = encode(alloc, &shape, 1, &file.contents(alloc)?)?;
-    assert_eq!(rt; again.as_slice(), want);
-    Ok(())
-}
-
+/// In options all the others are written, in order of arrival.
 #[test]
-fn files_are_written(rt: HostRuntime) -> Result<(), NoMemory> {
+fn options_keep_their_order(rt: HostRuntime) -> Result<(), NoMemory> {
     let alloc = rt.alloc();
-    let file = a_file(alloc)?;
-    expect(&rt, alloc, &file, &A_FILE)?;
-    expect(&rt, alloc, &b_file(alloc)?, &B_FILE)?;
-    expect(&rt, alloc, &FileDescriptorProto::new(alloc), &[])?;
-    expect(&rt, alloc, &file.copy(alloc)?, &A_FILE)
+    let options = Options {
+        recs: records(alloc)?,
+    };
+    let want = [0xa3, 6, 8, 1, 0xa4, 6, 8, 5, 0x98, 6, 1, 0x70, 3];
+    expect(&rt, alloc, &options.copy(alloc)?, &want)
 }
 
+/// As Python's `google.protobuf` 3.21 reads `weak`, `packed` and `deprecated` of `FieldOptions` from
+/// these records.
 #[test]
-fn sets_are_written(rt: HostRuntime) -> Result<(), NoMemory> {
+fn options_tell_truth_values(rt: HostRuntime) -> Result<(), NoMemory> {
     let alloc = rt.alloc();
-    let none = FileSet::new(alloc).encode(alloc)?;
-    assert_eq!(rt; none.as_slice(), [].as_slice());
-    let mut set = FileSet::new(alloc);
-    set.add(alloc, &a_file(alloc)?)?;
-    set.add(alloc, &b_file(alloc)?)?;
-    set.add(alloc, &FileDescriptorProto::new(alloc))?;
-    let bytes = set.encode(alloc)?;
-    let mut want = [0x0a, 85].to_vec(alloc)?;
-    want.extend_from_slice(&A_FILE)?;
-    want.extend_from_slice(&[0x0a, 9])?;
-    want.extend_from_slice(&B_FILE)?;
-    want.extend_from_slice(&[0x0a, 0])?;
-    assert_eq!(rt; bytes.as_slice(), want.as_slice());
-    Ok(())
-}
-
-#[test]
-fn copies_are_equal(rt: HostRuntime) -> Result<(), NoMemory> {
-    let alloc = rt.alloc();
-    let mut message = message(alloc)?.copy(alloc)?;
-    message.field = List::new(alloc);
-    message.field.add(x_field(alloc)?.copy(alloc)?)?;
-    message.field.add(foo_field(alloc)?.copy(alloc)?)?;
-    let mut file = b_file(alloc)?;
-    file.message_type.add(message.copy(alloc)?)?;
-    let mut want = B_FILE.to_vec(alloc)?;
-    want.extend_from_slice(&A_FILE[18..63])?;
-    expect(&rt, alloc, &file, want.as_slice())
-}
-
-#[test]
-fn types_have_their_fields(rt: HostRuntime) -> Result<(), NoMemory> {
-    let alloc = rt.alloc();
-    let shape = descriptor_shape(alloc)?;
-    let rows: [(usize, u32, &str, &str); 4] = [
-        (0, 1, "file", "file"),
-        (1, 4, "message_type", "messageType"),
-        (2, 2, "field", "field"),
-        (3, 10, "json_name", "jsonName"),
-    ];
-    for (type_at, number, name, json_name) in rows {
-        match shape.field_of(type_at, number) {
-            Some(field) => {
-                assert_eq!(rt; field.name.as_str(), name);
-                assert_eq!(rt; field.json_name.as_str(), json_name);
-            }
-            None => assert!(rt; false),
-        }
+    let mut options = Options::new(alloc);
+    options.recs.add(Rec::Varint(10, 1))?;
+    options.recs.add(Rec::Varint(10, 0))?;
+    options.recs.add(Rec::Varint(2, 5))?;
+    options.recs.add(Rec::Fixed32(3, 1))?;
+    for (number, want) in [(10, Some(false)), (2, Some(true)), (3, None)] {
+        assert_eq!(rt; options.bool_of(number), want);
     }
     Ok(())
 }

@@ -9,8 +9,8 @@ use Rattle.std.proofs.lemmas.Option.{slice_get-get_or}
 use Rattle.pbx_desc.specs.declared.message.DescriptorProto.{DescriptorProto}
 use Rattle.pbx_desc.specs.declared.file.FileDescriptorProto.{FileDescriptorProto}
 use Rattle.pbx_link.specs.Rules.{is_named}
-use Rattle.pbx_link.specs.Shapes.{text_or_empty}
-use Rattle.pbx_link.specs.Descriptors.{MessageDescribed, described_file, described_message, file_of_name, message_at}
+use Rattle.pbx_link.specs.Shapes.{own_name}
+use Rattle.pbx_link.specs.Descriptors.{MessageDescribed, described_file, described_message, file_of_name, empty_message, message_at}
 
 pub find_mapped : {X Y : Type 0} (p : Y → Bool) (g : X → Y) (xs : List X) → find p (map g xs) ≡ option_map g (find (λ x. p (g x)) xs)
 find_mapped p g [] = refl
@@ -96,18 +96,15 @@ abbrev pub messages_left : List FileDescriptorProto → List FileDescriptorProto
 messages_left pool fs = flat_map (λ f. map (described_message pool f) f.message_type) fs
 
 abbrev pub is_message : List ℕ → MessageDescribed → Bool
-is_message name d = bytes_eq (text_or_empty d.message.name) name
+is_message name d = bytes_eq (own_name d.message) name
 
-abbrev empty_message : DescriptorProto
-empty_message = record { name = None; field = []; unknown = [] }
-
-pub message_there : (pool fs : List FileDescriptorProto) (name : List ℕ) (f : FileDescriptorProto) (i : ℕ) → Some i ≡ position (λ m. bytes_eq (text_or_empty m.name) name) f.message_type
+pub message_there : (pool fs : List FileDescriptorProto) (name : List ℕ) (f : FileDescriptorProto) (i : ℕ) → Some i ≡ position (λ m. bytes_eq (own_name m) name) f.message_type
     → find (is_message name) (messages_left pool (f ∷ fs)) ≡ Some (described_message pool f (message_at f i))
 message_there pool fs name f i e = find_there (is_message name) (described_message pool f) (messages_left pool fs) empty_message f.message_type i e
 
-pub message_absent : (pool fs : List FileDescriptorProto) (name : List ℕ) (f : FileDescriptorProto) → None ≡ position (λ m. bytes_eq (text_or_empty m.name) name) f.message_type
+pub message_absent : (pool fs : List FileDescriptorProto) (name : List ℕ) (f : FileDescriptorProto) → None ≡ position (λ m. bytes_eq (own_name m) name) f.message_type
     → find (is_message name) (messages_left pool (f ∷ fs)) ≡ find (is_message name) (messages_left pool fs)
 message_absent pool fs name f e = find_absent (is_message name) (described_message pool f) (messages_left pool fs) empty_message f.message_type e
 
-pub message_within : (name : List ℕ) (f : FileDescriptorProto) (i : ℕ) → Some i ≡ position (λ m. bytes_eq (text_or_empty m.name) name) f.message_type → i < length f.message_type
+pub message_within : (name : List ℕ) (f : FileDescriptorProto) (i : ℕ) → Some i ≡ position (λ m. bytes_eq (own_name m) name) f.message_type → i < length f.message_type
 message_within name f i e = position_within (is_message name) (described_message [] f) [] empty_message f.message_type i e

@@ -11,7 +11,7 @@ use Rattle.pbx_content.specs.declared.shape.FieldShape.{FieldShape}
 use Rattle.pbx_desc.specs.declared.field.FieldDescriptorProto.{FieldDescriptorProto}
 use Rattle.pbx_desc.specs.declared.message.DescriptorProto.{DescriptorProto}
 use Rattle.pbx_desc.specs.declared.file.FileDescriptorProto.{FileDescriptorProto}
-use Rattle.pbx_link.specs.Shapes.{number_or_zero, field_shape, has_up_to, inserted, message_shape, shape_of}
+use Rattle.pbx_link.specs.Shapes.{own_fields, number_or_zero, field_shape, has_up_to, inserted, message_shape, shape_of}
 use Rattle.pbx_link.specs.Rules.{Place, is_field_number, field_numbers, file_twice, missing_imports, bad_names, names_twice, bad_numbers_in, bad_numbers, is_none, keeps_rules}
 use Rattle.pbx_link.specs.Pool.{ArePooled}
 use Rattle.pbx_link.proofs.Searched.{places_from, messages_from}
@@ -115,7 +115,7 @@ sorted_above front (f ∷ fs) done a same new =
     new.2
 
 message_above : (i : ℕ) (m : DescriptorProto) → bad_numbers_in i m ≡ [] → AreAbove 0 (message_shape m).fields
-message_above i m h = sorted_above [] m.field [] tt (λ n. refl) (new_from [] (field_numbers m) _ h)
+message_above i m h = sorted_above [] (own_fields m) [] tt (λ n. refl) (new_from [] (field_numbers m) _ h)
 
 -- ---- the messages of all files
 

@@ -9,7 +9,7 @@ use Rattle.std.proofs.lemmas.List.Folds.{list_any-append}
 use Rattle.pbx_desc.specs.declared.message.DescriptorProto.{DescriptorProto}
 use Rattle.pbx_desc.specs.declared.file.FileDescriptorProto.{FileDescriptorProto}
 use Rattle.pbx_link.specs.Rules.{Place, among, message_names, pool_names}
-use Rattle.pbx_link.specs.Shapes.{text_or_empty}
+use Rattle.pbx_link.specs.Shapes.{own_name}
 use Rattle.pbx_link.specs.Found.{IsIndex}
 
 -- the places among the items that are left
@@ -146,12 +146,12 @@ index_mapped p v xs o e = at o (position_is_index (λ x. p (v x)) xs o e)
 
 -- ---- names of messages
 
-pub among_messages : (f : FileDescriptorProto) (name : List ℕ) → among (message_names f) name ≡ list_any (λ m. bytes_eq (text_or_empty m.name) name) f.message_type
+pub among_messages : (f : FileDescriptorProto) (name : List ℕ) → among (message_names f) name ≡ list_any (λ m. bytes_eq (own_name m) name) f.message_type
 among_messages f name = among_map f.message_type
   where
-    among_map : (ms : List DescriptorProto) → list_any (λ other. bytes_eq other name) (map (λ m. text_or_empty m.name) ms) ≡ list_any (λ m. bytes_eq (text_or_empty m.name) name) ms
+    among_map : (ms : List DescriptorProto) → list_any (λ other. bytes_eq other name) (map own_name ms) ≡ list_any (λ m. bytes_eq (own_name m) name) ms
     among_map [] = refl
-    among_map (m ∷ ms) = ap (λ b. bytes_eq (text_or_empty m.name) name || b) (among_map ms)
+    among_map (m ∷ ms) = ap (λ b. bytes_eq (own_name m) name || b) (among_map ms)
 
 pub among_pool : (files : List FileDescriptorProto) (name : List ℕ) → among (pool_names files) name ≡ list_any (λ f. among (message_names f) name) files
 among_pool [] name = refl

@@ -5,10 +5,10 @@ use Rattle.std.specs.Str.{bytes_eq}
 use Rattle.std.specs.Coded.{Coded, code_by, coded×, coded_list}
 use Rattle.pbx_desc.specs.contracts.message.DescriptorProto as message_proto
 use Rattle.pbx_desc.specs.contracts.file.FileDescriptorProto as file_proto
-use Rattle.pbx_desc.specs.declared.message.DescriptorProto.{DescriptorProto}
+use Rattle.pbx_desc.specs.declared.message.DescriptorProto.{DescriptorProto, roll-DescriptorProto}
 use Rattle.pbx_desc.specs.declared.file.FileDescriptorProto.{FileDescriptorProto}
 use Rattle.pbx_link.specs.Rules.{is_named}
-use Rattle.pbx_link.specs.Shapes.{text_or_empty}
+use Rattle.pbx_link.specs.Shapes.{own_name}
 
 -- a file of a pool
 pub record FileDescribed : Type 0 where
@@ -45,11 +45,27 @@ file_of_name pool name = find (λ d. is_named d.file.name name) (all_files pool)
 
 -- the message of exactly that full name
 abbrev pub message_of_name : List FileDescriptorProto → List ℕ → Option MessageDescribed
-message_of_name pool name = find (λ d. bytes_eq (text_or_empty d.message.name) name) (all_messages pool)
+message_of_name pool name = find (λ d. bytes_eq (own_name d.message) name) (all_messages pool)
 
--- the message at the index, and one without fields where there is none
+-- a message without a name and without anything in it
+abbrev pub empty_message : DescriptorProto
+empty_message = roll-DescriptorProto (record {
+  name = None;
+  field = [];
+  nested_type = [];
+  enum_type = [];
+  extension_range = [];
+  extension = [];
+  options = None;
+  oneof_decl = [];
+  reserved_range = [];
+  reserved_name = [];
+  unknown = [];
+})
+
+-- the message at the index, and an empty one where there is none
 abbrev pub message_at : FileDescriptorProto → ℕ → DescriptorProto
-message_at f i = unwrap_or (slice_get f.message_type i) (record { name = None; field = []; unknown = [] })
+message_at f i = unwrap_or (slice_get f.message_type i) empty_message
 
 -- the file is one of the pool's, and has a message at the index
 pub record IsPlaced (pool : List FileDescriptorProto) (f : FileDescriptorProto) (i : ℕ) : Type 0 where

@@ -2,9 +2,9 @@
 use Rattle.std.specs.Prelude.{ℕ, ◌==◌, List, [], ◌∷◌, map, Bool, true, false, Option, Some, None, if◌then◌else◌}
 use Rattle.std.specs.Char.{to_ascii_uppercase}
 use Rattle.pbx_desc.specs.declared.field.FieldDescriptorProto.{FieldDescriptorProto}
-use Rattle.pbx_desc.specs.declared.message.DescriptorProto.{DescriptorProto}
+use Rattle.pbx_desc.specs.declared.message.DescriptorProto.{DescriptorProto, out-DescriptorProto, roll-DescriptorProto}
 use Rattle.pbx_desc.specs.declared.file.FileDescriptorProto.{FileDescriptorProto}
-use Rattle.pbx_link.specs.Shapes.{text_or_empty}
+use Rattle.pbx_link.specs.Shapes.{text_or_empty, own_fields}
 
 -- a name without its `_`, what stands behind one in upper case; the flag says whether the next byte stands behind one
 unfoldable pub camel_from : Bool → List ℕ → List ℕ
@@ -24,7 +24,7 @@ abbrev pub linked_field : FieldDescriptorProto → FieldDescriptorProto
 linked_field f = record f { json_name = Some (json_name_or_default f.json_name (text_or_empty f.name)) }
 
 abbrev pub linked_message : DescriptorProto → DescriptorProto
-linked_message m = record m { field = map linked_field m.field }
+linked_message m = roll-DescriptorProto (record (out-DescriptorProto m) { field = map linked_field (own_fields m) })
 
 -- the record of a file in a pool: each field has a JSON name
 abbrev pub linked : FileDescriptorProto → FileDescriptorProto

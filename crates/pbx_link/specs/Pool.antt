@@ -7,7 +7,7 @@ use Rattle.pbx_link.specs.declared.error.DescriptorError.TheVariants.{Rule, Deco
 use Rattle.pbx_link.specs.Shapes.{text_or_empty}
 use Rattle.pbx_link.specs.Linked.{linked}
 use Rattle.pbx_link.specs.Rules.{Place, breaches, keeps_rules}
-use Rattle.pbx_link.specs.Built.{is_built, is_known}
+use Rattle.pbx_link.specs.Built.{is_built, is_plain}
 
 -- the record may be added to the files
 abbrev pub is_linkable : List FileDescriptorProto → FileDescriptorProto → Bool
@@ -18,14 +18,10 @@ unfoldable pub ArePooled : List FileDescriptorProto → List FileDescriptorProto
 ArePooled before [] = Unit {0}
 ArePooled before (f ∷ fs) = (keeps_rules before f ≡ true) × (linked f ≡ f) × ArePooled (before ++ f ∷ []) fs
 
--- no record is unknown in the file, its messages and their fields
-abbrev pub is_all_known : FileDescriptorProto → Bool
-is_all_known f = is_known f.unknown && list_all (λ m. is_known m.unknown && list_all (λ g. is_known g.unknown) m.field) f.message_type
-
--- what a pool keeps: its records are pooled, and so far none in them is unknown
+-- what a pool keeps: its records are pooled, and so far plain
 pub record IsPool (files : List FileDescriptorProto) : Type 0 where
   pub pooled : ArePooled [] files
-  pub known : list_all is_all_known files ≡ true
+  pub plain : list_all is_plain files ≡ true
 
 -- the rule is broken at this place, and no lesser rule is broken
 pub record BreaksFirst (files : List FileDescriptorProto) (f : FileDescriptorProto) (rule : ℕ) (place : Place) : Type 0 where

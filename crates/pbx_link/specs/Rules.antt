@@ -6,7 +6,7 @@ use Rattle.std.specs.List.{list_any, list_all, filter_map, flat_map, enumerate_f
 use Rattle.std.specs.Str.{bytes_eq}
 use Rattle.pbx_desc.specs.declared.message.DescriptorProto.{DescriptorProto}
 use Rattle.pbx_desc.specs.declared.file.FileDescriptorProto.{FileDescriptorProto}
-use Rattle.pbx_link.specs.Shapes.{text_or_empty, number_or_zero}
+use Rattle.pbx_link.specs.Shapes.{text_or_empty, own_name, own_fields, number_or_zero}
 
 abbrev pub Place : Type 0
 Place = List ℤ
@@ -25,13 +25,13 @@ abbrev pub has_file : List FileDescriptorProto → List ℕ → Bool
 has_file files name = list_any (λ f. is_named f.name name) files
 
 abbrev pub field_names : DescriptorProto → List (List ℕ)
-field_names m = map (λ f. text_or_empty f.name) m.field
+field_names m = map (λ f. text_or_empty f.name) (own_fields m)
 
 abbrev pub field_numbers : DescriptorProto → List ℕ
-field_numbers m = map (λ f. number_or_zero f.number) m.field
+field_numbers m = map (λ f. number_or_zero f.number) (own_fields m)
 
 abbrev pub message_names : FileDescriptorProto → List (List ℕ)
-message_names f = map (λ m. text_or_empty m.name) f.message_type
+message_names f = map own_name f.message_type
 
 -- the names of the messages of all files
 abbrev pub pool_names : List FileDescriptorProto → List (List ℕ)
@@ -78,7 +78,7 @@ bad_file_name (Some name) = []
 
 abbrev pub bad_names_in : ℕ → DescriptorProto → List Place
 bad_names_in i m =
-    (if is_ident (text_or_empty m.name) then [] else (pos 4 ∷ pos i ∷ pos 1 ∷ []) ∷ [])
+    (if is_ident (own_name m) then [] else (pos 4 ∷ pos i ∷ pos 1 ∷ []) ∷ [])
     ++ places_where (λ j name. not (is_ident name)) (λ j. pos 4 ∷ pos i ∷ pos 2 ∷ pos j ∷ pos 1 ∷ []) (field_names m)
 
 abbrev pub bad_names : FileDescriptorProto → List Place

@@ -11,13 +11,21 @@ use Rattle.pbx_content.specs.declared.shape.FieldShape.{FieldShape}
 use Rattle.pbx_content.specs.declared.shape.MessageShape.{MessageShape}
 use Rattle.pbx_content.specs.declared.shape.Shape.{Shape}
 use Rattle.pbx_desc.specs.declared.field.FieldDescriptorProto.{FieldDescriptorProto}
-use Rattle.pbx_desc.specs.declared.message.DescriptorProto.{DescriptorProto}
+use Rattle.pbx_desc.specs.declared.message.DescriptorProto.{DescriptorProto, out-DescriptorProto}
 use Rattle.pbx_desc.specs.declared.file.FileDescriptorProto.{FileDescriptorProto}
 
 -- a text, or the empty one where there is none
 abbrev pub text_or_empty : Option (List ℕ) → List ℕ
 text_or_empty None = []
 text_or_empty (Some text) = text
+
+-- the message's own name, or the empty text where it has none
+abbrev pub own_name : DescriptorProto → List ℕ
+own_name m = text_or_empty (out-DescriptorProto m).name
+
+-- the message's own fields
+abbrev pub own_fields : DescriptorProto → List FieldDescriptorProto
+own_fields m = (out-DescriptorProto m).field
 
 -- a field number; one that is absent or negative is 0, which no field has
 abbrev pub number_or_zero : Option ℤ → ℕ
@@ -64,7 +72,7 @@ abbrev pub by_number : List FieldShape → List FieldShape
 by_number fs = fold (λ sorted f. inserted f sorted) [] fs
 
 abbrev pub message_shape : DescriptorProto → MessageShape
-message_shape m = record { full_name = text_or_empty m.name; fields = by_number (map field_shape m.field) }
+message_shape m = record { full_name = own_name m; fields = by_number (map field_shape (own_fields m)); keeps_order = false }
 
 -- the shape of the types of a pool: the messages of its files, file by file
 abbrev pub shape_of : List FileDescriptorProto → Shape

@@ -1,6 +1,6 @@
 // Handles of the files and messages of a pool.
 ghost use Rattle.std.specs.Prelude.{◌≡◌, ◌<◌, length, IfOk, Contains};
-ghost use Rattle.pbx_link.specs.Shapes.{text_or_empty as text_or_empty_of};
+ghost use Rattle.pbx_link.specs.Shapes.{text_or_empty as text_or_empty_of, own_name};
 ghost use Rattle.pbx_link.specs.Descriptors.{described_file, described_message, message_at};
 
 use crate::absent::text_or_empty;
@@ -104,14 +104,14 @@ impl MessageDescriptor {
 
     /// The message's own name.
     pub fn name(&self) -> &str
-        ensures { result.now ≡ text_or_empty_of self.now.message.name }
+        ensures { result.now ≡ own_name self.now.message }
     {
         text_or_empty(&self.message().name)
     }
 
     /// The message's name in its pool, without a leading dot. So far it is its own, since no file has a package.
     pub fn full_name(&self) -> &str
-        ensures { result.now ≡ text_or_empty_of self.now.message.name }
+        ensures { result.now ≡ own_name self.now.message }
     {
         self.name()
     }

@@ -3,11 +3,11 @@ ghost use Rattle.std.specs.Prelude.{◌≡◌, IfOk, map};
 ghost use Rattle.pbx_content.specs.Encoding.{encoded};
 ghost use Rattle.pbx_content.specs.Same.{Decodes};
 ghost use Rattle.pbx_content.specs.View.{val_of};
-ghost use Rattle.pbx_desc.specs.Shape.{descriptor_shape};
+ghost use Rattle.pbx_desc_shape.specs.Shape.{descriptor_shape};
 ghost use Rattle.pbx_desc.specs.Content.{file_value, files_content};
 
 use crate::pool::DescriptorPool;
-use pbx_desc::{FileDescriptorProto, FileSet, files_are_shallow};
+use pbx_desc::{FileDescriptorProto, FileSet, levels_bound_depth};
 use pbx_shared::Shared;
 use pbx_wire::NoMemory;
 use std::alloc::Global;
@@ -28,7 +28,7 @@ impl DescriptorPool {
         ensures bytes { IfOk result (λ v. v.items ≡ encoded descriptor_shape 0 (files_content self.now)) }
         ensures decodes { IfOk result (λ v. Decodes descriptor_shape 0 v.items (files_content self.now)) }
     {
-        files_are_shallow();
+        levels_bound_depth();
         let alloc = self.allocator();
         let set = file_set(alloc, self.records())?;
         set.encode(alloc)

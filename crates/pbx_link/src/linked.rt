@@ -44,22 +44,10 @@ fn linked_field(
 ) -> Result<FieldDescriptorProto, NoMemory>
     ensures { IfOk result (λ linked. linked ≡ linked_field_of field) }
 {
-    let FieldDescriptorProto {
-        name,
-        number,
-        label,
-        kind,
-        json_name,
-        unknown,
-    } = field;
-    let json_name = Some(json_name_or_default(alloc, json_name, &name)?);
+    let json_name = json_name_or_default(alloc, field.json_name, &field.name)?;
     Ok(FieldDescriptorProto {
-        name,
-        number,
-        label,
-        kind,
-        json_name,
-        unknown,
+        json_name: Some(json_name),
+        ..field
     })
 }
 
@@ -79,15 +67,9 @@ fn linked_fields(
 fn linked_message(alloc: Global, message: DescriptorProto) -> Result<DescriptorProto, NoMemory>
     ensures { IfOk result (λ linked. linked ≡ linked_message_of message) }
 {
-    let DescriptorProto {
-        name,
-        field,
-        unknown,
-    } = message;
     Ok(DescriptorProto {
-        name,
-        field: linked_fields(alloc, field)?,
-        unknown,
+        field: linked_fields(alloc, message.field)?,
+        ..message
     })
 }
 
@@ -111,18 +93,8 @@ pub(crate) fn linked(
 ) -> Result<FileDescriptorProto, NoMemory>
     ensures { IfOk result (λ linked. linked ≡ linked_of file) }
 {
-    let FileDescriptorProto {
-        name,
-        dependency,
-        message_type,
-        syntax,
-        unknown,
-    } = file;
     Ok(FileDescriptorProto {
-        name,
-        dependency,
-        message_type: linked_messages(alloc, message_type)?,
-        syntax,
-        unknown,
+        message_type: linked_messages(alloc, file.message_type)?,
+        ..file
     })
 }

@@ -3,7 +3,7 @@ ghost use Rattle.std.specs.Prelude.{◌≡◌, position, find};
 ghost use Rattle.std.specs.Str.{bytes_eq};
 ghost use Rattle.std.specs.Option.{option_copied};
 ghost use Rattle.pbx_link.specs.Rules.{is_named as is_named_of};
-ghost use Rattle.pbx_link.specs.Shapes.{text_or_empty as text_or_empty_of};
+ghost use Rattle.pbx_link.specs.Shapes.{own_name};
 ghost use Rattle.pbx_link.specs.Descriptors.{file_of_name, message_of_name};
 
 use crate::absent::text_or_empty;
@@ -25,7 +25,7 @@ fn file_named<'a>(
 }
 
 fn index_named(messages: &[DescriptorProto], name: &str) -> Option<usize>
-    ensures { result ≡ position (λ m. bytes_eq (text_or_empty_of m.name) name.now) messages.now }
+    ensures { result ≡ position (λ m. bytes_eq (own_name m) name.now) messages.now }
 {
     messages
         .iter()

@@ -2,7 +2,8 @@ ghost use Rattle.std.specs.Prelude.{◌≡◌, ◌↔◌, [], ◌∷◌, ◌++�
 ghost use Rattle.std.specs.List.{list_all};
 ghost use Rattle.std.specs.Option.{option_copied};
 ghost use Rattle.pbx_link.specs.Linked.{linked as linked_of};
-ghost use Rattle.pbx_link.specs.Pool.{is_linkable, is_all_known, ArePooled, IsRefused};
+ghost use Rattle.pbx_link.specs.Built.{is_plain};
+ghost use Rattle.pbx_link.specs.Pool.{is_linkable, ArePooled, IsRefused};
 
 use crate::check::check;
 use crate::error::DescriptorError;
@@ -68,7 +69,7 @@ impl DescriptorPool {
     pub(crate) fn records(&self) -> &[Shared<FileDescriptorProto>]
         ensures records { result.now ≡ self.now }
         ensures pooled { ArePooled [] self.now }
-        ensures known { list_all is_all_known self.now ≡ true }
+        ensures plain { list_all is_plain self.now ≡ true }
     {
         match &self.files {
             Some(files) => files.as_ref().as_slice(),

@@ -3,7 +3,7 @@ ghost use Rattle.std.specs.Prelude.{◌≡◌, ◌||◌, ◌==◌, ◌++◌, ℕ
 ghost use Rattle.std.specs.List.{list_any, list_all};
 ghost use Rattle.pbx_link.specs.Rules.{among, has_file, pool_names, message_names, begins_ident as begins_ident_of, goes_on_ident as goes_on_ident_of, is_ident as is_ident_of, is_field_number as is_field_number_of, file_twice as file_twice_of, missing_imports, bad_names_in, bad_names, in_messages, names_twice_in, names_twice, bad_numbers_in, bad_numbers};
 ghost use Rattle.pbx_link.specs.Found.{IsAmong, IsIndex, IsFirst};
-ghost use Rattle.pbx_link.specs.Shapes.{text_or_empty as text_or_empty_of, number_or_zero as number_or_zero_of};
+ghost use Rattle.pbx_link.specs.Shapes.{text_or_empty as text_or_empty_of, own_name, number_or_zero as number_or_zero_of};
 
 use crate::absent::{number_or_zero, text_or_empty};
 use crate::built::is_named;
@@ -97,7 +97,7 @@ impl Named for FieldDescriptorProto {
 }
 
 impl Named for DescriptorProto {
-    ghost name_of = { λ m. text_or_empty_of m.name };
+    ghost name_of = { own_name };
 
     fn name(&self) -> &str {
         text_or_empty(&self.name)
@@ -151,7 +151,7 @@ fn bad_number(alloc: Global, fields: &[FieldDescriptorProto]) -> Result<Option<u
 
 /// The first message that has the name of one of the files'.
 fn taken(files: &[Shared<FileDescriptorProto>], messages: &[DescriptorProto]) -> Option<usize>
-    ensures { result ≡ position (λ m. among (pool_names files.now) (text_or_empty_of m.name)) messages.now }
+    ensures { result ≡ position (λ m. among (pool_names files.now) (own_name m)) messages.now }
 {
     messages
         .iter()

@@ -81,7 +81,11 @@ fn message_shape(alloc: Global, message: &DescriptorProto) -> Result<MessageShap
     for field in message.field.as_slice() {
         insert(&mut fields, field_shape(alloc, field)?)?;
     }
-    Ok(MessageShape { full_name, fields })
+    Ok(MessageShape {
+        full_name,
+        fields,
+        keeps_order: false,
+    })
 }
 
 fn add_messages(

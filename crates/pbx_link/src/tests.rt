@@ -5,10 +5,12 @@ use crate::{
     DescriptorError, DescriptorPool, find_message, linked_is_linked, pooled_stand_behind, shape_of,
 };
 use pbx_desc::{DescriptorProto, FieldDescriptorProto, FileDescriptorProto};
-use pbx_wire::{NoMemory, Rec, Text};
+use pbx_wire::{NoMemory, Text};
 use std::alloc::Global;
 use std::process::Abort;
 use std::test::Fail;
+
+mod built;
 
 /// A field's name and number.
 type FieldRow<'a> = (&'a str, Option<i32>);
@@ -173,28 +175,6 @@ fn with_field(alloc: Global, one: FieldDescriptorProto) -> Result<FileDescriptor
     message.field.add(one)?;
     file.message_type.add(message)?;
     Ok(file)
-}
-
-// Each of these also breaks rule 1.
-#[test]
-fn what_is_not_built_is_told_first(rt: HostRuntime) -> Result<(), Fail> {
-    let alloc = rt.alloc();
-    let mut old = file(alloc, "a.proto", &[])?;
-    old.syntax = None;
-    expect_not_built(&rt, alloc, old)?;
-    let mut unknown = file(alloc, "a.proto", &[])?;
-    unknown.unknown.add(Rec::Varint(99, 1))?;
-    expect_not_built(&rt, alloc, unknown)?;
-    let mut repeated = field(alloc, ("x", Some(1)))?;
-    repeated.label = Some(3);
-    expect_not_built(&rt, alloc, with_field(alloc, repeated)?)?;
-    let mut float = field(alloc, ("x", Some(1)))?;
-    float.kind = Some(2);
-    expect_not_built(&rt, alloc, with_field(alloc, float)?)?;
-    let mut renamed = field(alloc, ("x_y", Some(1)))?;
-    renamed.json_name = text(alloc, "xY")?;
-    expect_not_built(&rt, alloc, with_field(alloc, renamed)?)?;
-    Ok(())
 }
 
 #[test]

@@ -1,3 +1,2 @@
-pub mod Translation
 pub mod Reads
 pub mod Errors

@@ -2,14 +2,19 @@
 use Rattle.std.specs.Prelude.{◌≡◌, ℕ, List, []}
 use Rattle.pbx_token.specs.Tokens.{Token}
 use Rattle.pbx_token.specs.Pieces.{Lexes}
-use Rattle.pbx_syntax.specs.Tree.{File}
-use Rattle.pbx_syntax.specs.Grammar.{file_then}
-use Rattle.pbx_syntax.specs.Conditions.{Conditions}
+use Rattle.pbx_tree.specs.Tree.{File}
+use Rattle.pbx_tree.specs.Grammar.{file_then}
+use Rattle.pbx_tree.specs.Conditions.{Conditions}
 use Rattle.pbx_desc.specs.declared.file.FileDescriptorProto.{FileDescriptorProto}
-use Rattle.pbx_parse.specs.Translation.{translate}
+use Rattle.pbx_locations.specs.Locations.{locations_of}
+use Rattle.pbx_translation.specs.Translation.{translate_of}
 
--- The source's tokens spell a syntax tree that meets the conditions, and the file is the tree's record:
--- the proto3 language specification, as far as imports and messages of scalar fields go.
+-- the record of a file of this name, with the places of its parts in the source
+abbrev pub record_of : List ℕ → List Token → File → FileDescriptorProto
+record_of name tokens tree = translate_of name tree (locations_of tokens tree)
+
+-- The source's tokens spell a syntax tree that meets the conditions, and the file is the tree's record: the language
+-- specifications of proto2 and proto3.
 abbrev pub Reads : List ℕ → List ℕ → FileDescriptorProto → Type 0
 Reads name source file =
-    (tokens : List Token) × Lexes source tokens × (tree : File) × (tokens ≡ file_then tree []) × Conditions tree × (file ≡ translate name tree)
+    (tokens : List Token) × Lexes source tokens × (tree : File) × (tokens ≡ file_then tree []) × Conditions tree × (file ≡ record_of name tokens tree)

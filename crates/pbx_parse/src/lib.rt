@@ -6,7 +6,6 @@ mod reading;
 mod refusal;
 #[cfg(test)]
 mod tests;
-mod translation;
 
 pub use error::ParseError;
 pub use reading::{at_most_one, parse};

@@ -2,24 +2,41 @@
 
 ghost use Rattle.std.specs.Prelude.{◌≡◌, ◌≤◌, ℕ, List, length, IfOk, IfErr};
 ghost use Rattle.pbx_desc.specs.declared.file.FileDescriptorProto.{FileDescriptorProto as Record};
-ghost use Rattle.pbx_parse.specs.Reads.{Reads};
+ghost use Rattle.pbx_token.specs.View.{tokens_of};
+ghost use Rattle.pbx_tree.specs.View.{file_of};
+ghost use Rattle.pbx_parse.specs.Reads.{record_of, Reads};
 ghost use Rattle.pbx_parse.specs.Errors.{Refuses, GivesUnlessMemory};
 
 use crate::error::ParseError;
 use crate::refusal::{of_lexing, of_reading};
-use crate::translation::file_record;
 use pbx_desc::FileDescriptorProto;
-use pbx_syntax::read_file;
-use pbx_token::lex;
+use pbx_locations::locations;
+use pbx_reader::read_file;
+use pbx_token::{Token, lex};
+use pbx_translation::translate;
+use pbx_tree::File;
+use pbx_wire::NoMemory;
 use std::alloc::Global;
+
+/// The record of a file whose tokens spell the tree.
+fn record(
+    alloc: Global,
+    name: &str,
+    tokens: &[Token<'_>],
+    file: &File<'_>,
+) -> Result<FileDescriptorProto, NoMemory>
+    ensures { IfOk result (λ r. r ≡ record_of name.now (tokens_of tokens.now) (file_of file.now)) }
+{
+    let locations = locations(alloc, tokens, file)?;
+    translate(alloc, name, file, locations)
+}
 
 /// The descriptor record of a source file, which is given the name.
 ///
-/// The source is in the proto3 language of the Protocol Buffers language specification, as far as imports and
-/// messages of `int32` and `string` fields go: a syntax statement, and then imports, neither public nor weak, and
-/// messages of such fields without labels, whose names are lower-case letters and digits and whose numbers are at
-/// most 2,147,483,647. The names of the imports are the record's dependencies, in the order of the source. Whether
-/// a number may be used, whether names are distinct, and whether an imported file is there, is not tested here.
+/// The source is in the proto2 or proto3 language of the Protocol Buffers language specifications, without groups,
+/// custom options, aggregate values and editions. The record is the one before linking: the names of types as they
+/// are written, JSON names where they are written, and the places of its parts in the source. Whether a name is
+/// defined, whether numbers and names are distinct, and whether an imported file is there, is not tested here.
 /// `Syntax` comes exactly where the source is no such file, and `NoMemory` for want of memory.
 pub fn parse(alloc: Global, name: &str, source: &str) -> Result<FileDescriptorProto, ParseError>
     requires { length source.now ≤ 2147483647 }
@@ -38,7 +55,7 @@ pub fn parse(alloc: Global, name: &str, source: &str) -> Result<FileDescriptorPr
         Ok(file) => file,
         Err(error) => return Err(of_reading(alloc, name, source, tokens.as_slice(), error)),
     };
-    match file_record(alloc, name, &file) {
+    match record(alloc, name, tokens.as_slice(), &file) {
         Ok(record) => Ok(record),
         Err(_) => Err(ParseError::NoMemory),
     }
@@ -49,5 +66,5 @@ pub fn at_most_one()
     ensures { (name source : List ℕ) (f g : Record) → Reads name source f → Reads name source g → f ≡ g }
 {
     pbx_token::at_most_one();
-    pbx_syntax::at_most_one();
+    pbx_tree::at_most_one();
 }

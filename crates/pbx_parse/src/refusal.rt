@@ -2,35 +2,15 @@
 
 ghost use Rattle.std.specs.Prelude.{◌≤◌, length, IfOk};
 ghost use Rattle.pbx_token.specs.View.{FailsNot as lexed};
-ghost use Rattle.pbx_syntax.specs.View.{FailsNot as spelled};
+ghost use Rattle.pbx_reader.specs.View.{FailsNot as spelled};
 ghost use Rattle.pbx_parse.specs.Errors.{Refuses};
 
 use crate::error::ParseError;
-use pbx_syntax::{Expected, ReadError, read_file};
+use pbx_reader::{ReadError, read_file};
 use pbx_token::{Fault, LexError, Place, Span, Token, after, lex};
+use pbx_tree::Expected;
 use pbx_wire::{NoMemory, Text};
 use std::alloc::Global;
-
-/// What could stand where a token cannot.
-fn expected_text(alloc: Global, expected: Expected) -> Result<Text, NoMemory> {
-    match expected {
-        Expected::Syntax => Text::from_str(alloc, "'syntax'"),
-        Expected::Proto3 => Text::from_str(alloc, "\"proto3\""),
-        Expected::Top => Text::from_str(alloc, "'import' or 'message'"),
-        Expected::ImportName => Text::from_str(alloc, "an import name in quotes"),
-        Expected::Utf8 => Text::from_str(alloc, "a string of UTF-8"),
-        Expected::Identifier => Text::from_str(alloc, "an identifier"),
-        Expected::Item => Text::from_str(alloc, "'int32', 'string' or '}'"),
-        Expected::FieldName => {
-            Text::from_str(alloc, "an identifier of lower-case letters and digits")
-        }
-        Expected::FieldNumber => Text::from_str(alloc, "a field number"),
-        Expected::Mark(mark) => {
-            let text = format!(in alloc; "'{}'", mark as char)?;
-            Text::from_str(alloc, text.as_str())
-        }
-    }
-}
 
 /// What stands there; only the end has no text.
 fn found_text(alloc: Global, found: &str) -> Result<Text, NoMemory> {
@@ -96,7 +76,7 @@ fn at_span(
         line: span.line,
         column: span.from,
     };
-    let expected = expected_text(alloc, expected)?;
+    let expected = Text::from_str(alloc, expected.words())?;
     refused(alloc, name, place, expected, span_text(source, span))
 }
 
@@ -112,20 +92,21 @@ fn stop(alloc: Global, front: &str) -> Result<(Option<Span>, Expected), NoMemory
         Err(LexError::Fault { .. }) => return Ok((None, Expected::Top)),
     };
     match read_file(alloc, tokens.as_slice()) {
-        // An import or a message could follow a whole file.
+        // A statement could follow a whole file.
         Ok(_) => Ok((None, Expected::Top)),
         Err(ReadError::NoMemory) => Err(NoMemory),
         Err(ReadError::Unexpected { at, expected }) => {
             let token = tokens.as_slice().get(at);
             Ok((token.map(|token| token.span), expected))
         }
+        Err(ReadError::Unfit(unfit)) => Ok((Some(unfit.place), unfit.expected)),
     }
 }
 
 /// What could stand at a fault, where the grammar expects this.
 fn fault_text(alloc: Global, fault: Fault, expected: Expected) -> Result<Text, NoMemory> {
     match fault {
-        Fault::Token | Fault::Integer => expected_text(alloc, expected),
+        Fault::Token | Fault::Integer => Text::from_str(alloc, expected.words()),
         Fault::CommentEnd => Text::from_str(alloc, "'*/'"),
         Fault::Quote(_) => Text::from_str(alloc, "a closing quote"),
         Fault::Escape => Text::from_str(alloc, "a valid escape"),
@@ -193,7 +174,7 @@ fn at_index(
     match token {
         Some(token) => at_span(alloc, name, source, token.span, expected),
         None => {
-            let expected = expected_text(alloc, expected)?;
+            let expected = Text::from_str(alloc, expected.words())?;
             refused(alloc, name, place_at(source, source.len()), expected, "")
         }
     }
@@ -214,6 +195,12 @@ pub fn of_reading(
         ReadError::NoMemory => ParseError::NoMemory,
         ReadError::Unexpected { at, expected } => {
             match at_index(alloc, name, source, tokens.get(at), expected) {
+                Ok(refused) => refused,
+                Err(_) => ParseError::NoMemory,
+            }
+        }
+        ReadError::Unfit(unfit) => {
+            match at_span(alloc, name, source, unfit.place, unfit.expected) {
                 Ok(refused) => refused,
                 Err(_) => ParseError::NoMemory,
             }

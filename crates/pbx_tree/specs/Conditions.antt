@@ -134,7 +134,7 @@ abbrev pub range_end_fits : {A : Type 0} → (A → Bool) → RangeEnd A → Boo
 range_end_fits fits (range_number n) = fits n
 range_end_fits fits (range_max s) = true
 
-abbrev to_fits : {A : Type 0} → (A → Bool) → Option (Span × RangeEnd A) → Bool
+abbrev pub to_fits : {A : Type 0} → (A → Bool) → Option (Span × RangeEnd A) → Bool
 to_fits fits None = true
 to_fits fits (Some t) = range_end_fits fits t.1
 
@@ -221,7 +221,7 @@ enum_fits e = list_all enum_item_fits e.items && all_fit (option_fits places.Enu
 abbrev is_stream : List ℕ → Bool
 is_stream t = bytes_eq t (codes "stream")
 
-abbrev stream_fits : Option Span → TypeName → Bool
+abbrev pub stream_fits : Option Span → TypeName → Bool
 stream_fits None t = not (passes is_stream (bare_word t))
 stream_fits (Some s) t = true
 

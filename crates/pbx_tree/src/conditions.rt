@@ -21,6 +21,14 @@ pub enum Expected {
     Identifier,
     Integer,
     FieldNumber,
+    /// A number in a range of a message.
+    RangeNumber,
+    /// The number of an enum's value, or one in a range of an enum.
+    EnumNumber,
+    /// What a range may end with.
+    RangeEnd,
+    /// What an option may be set to.
+    Constant,
     String,
     /// A string whose bytes are UTF-8.
     Text,
@@ -38,6 +46,22 @@ pub enum Expected {
     UnsetOption,
     /// No package after the first.
     OnePackage,
+    /// The string that names a version of the language.
+    Version,
+    /// A keyword with which what stands there begins.
+    Keyword,
+    /// What stands at the top of a file.
+    Top,
+    /// A message that is not nested too deep.
+    Level,
+    /// What stands in a service.
+    ServiceItem,
+    /// What stands in the block of a method.
+    MethodItem,
+    /// What stands between the types of a method.
+    Returns,
+    /// What a method ends with.
+    MethodEnd,
     /// One of the marks.
     Mark(u8),
 }
@@ -69,6 +93,10 @@ impl Expected {
             Expected::Identifier => "an identifier",
             Expected::Integer => "an integer",
             Expected::FieldNumber => "a field number",
+            Expected::RangeNumber => "a number of at most 536870911",
+            Expected::EnumNumber => "a 32-bit integer",
+            Expected::RangeEnd => "an integer or 'max'",
+            Expected::Constant => "an integer, an identifier or a string",
             Expected::String => "a string",
             Expected::Text => "a string in UTF-8",
             Expected::ImportName => "an import name in quotes",
@@ -80,6 +108,14 @@ impl Expected {
             Expected::KnownOption => "a known option",
             Expected::UnsetOption => "an option that is not set yet",
             Expected::OnePackage => "no second package",
+            Expected::Version => "\"proto2\" or \"proto3\"",
+            Expected::Keyword => "a keyword",
+            Expected::Top => "';' or a keyword that begins a statement",
+            Expected::Level => "a message of at most 31 levels",
+            Expected::ServiceItem => "';', 'rpc', 'option' or '}'",
+            Expected::MethodItem => "';', 'option' or '}'",
+            Expected::Returns => "'returns'",
+            Expected::MethodEnd => "';' or '{'",
             Expected::Mark(mark) => mark_words(mark),
         }
     }

@@ -12,7 +12,7 @@ use Rattle.pbx_desc.specs.declared.file.FileDescriptorProto.{FileDescriptorProto
 use Rattle.pbx_json.specs.Found.{HasNoOneof}
 use Rattle.pbx_json.specs.Named.{IsWellNamed}
 use Rattle.pbx_json.specs.Names.{json_name_is, or_else, name_is}
-use Rattle.pbx_link.specs.Shapes.{field_shape, has_up_to, inserted, message_shape, shape_of}
+use Rattle.pbx_link.specs.Shapes.{own_fields, field_shape, has_up_to, inserted, message_shape, shape_of}
 use Rattle.protox.specs.Parts.{IsBuilt}
 use Rattle.protox.specs.Top.{are_distinct, has_own_names}
 
@@ -40,7 +40,7 @@ sorted_alone (f ∷ fs) done h = sorted_alone fs (inserted (field_shape f) done)
 
 messages_alone : (ms : List DescriptorProto) (t : ℕ) → HasNoOneof (fields_at (map message_shape ms) t)
 messages_alone [] t = tt
-messages_alone (m ∷ ms) zero = sorted_alone m.field [] tt
+messages_alone (m ∷ ms) zero = sorted_alone (own_fields m) [] tt
 messages_alone (m ∷ ms) (suc t) = messages_alone ms t
 
 -- ---- fields of no oneof, and with their own name in JSON

@@ -11,7 +11,7 @@ use Rattle.pbx_content.specs.declared.shape.FieldShape.{FieldShape}
 use Rattle.pbx_content.specs.declared.shape.Shape.{Shape}
 use Rattle.pbx_desc.specs.declared.file.FileDescriptorProto.{FileDescriptorProto}
 use Rattle.pbx_desc.specs.Content.{files_content}
-use Rattle.pbx_desc.specs.Shape.{descriptor_shape}
+use Rattle.pbx_desc_shape.specs.Shape.{descriptor_shape}
 use Rattle.pbx_json.specs.Stands.{Stands}
 use Rattle.pbx_json.specs.Canonical.{canonical}
 use Rattle.pbx_link.specs.Shapes.{shape_of, message_named}

@@ -1,7 +1,7 @@
 //! Why files, a type's name and a tree are refused.
 
 ghost use Rattle.std.specs.Prelude.{◌≡◌, ◌∷◌, [], IfOk, string_bytes, codes};
-ghost use Rattle.std.specs.List.{concat, flat_map};
+ghost use Rattle.std.specs.List.{concat};
 ghost use Rattle.protox.specs.Top.{top_line, is_refusal, is_fault, is_memory, of_error};
 
 use pbx_wire::{NoMemory, Text};
@@ -38,28 +38,10 @@ pub enum TopError {
     NotBuilt,
 }
 
-/// Pieces of a text in a row.
-fn join(alloc: Global, pieces: &[&str]) -> Result<Text, NoMemory>
-    ensures { IfOk result (λ text. text ≡ flat_map (λ p. p.now) pieces.now) }
-{
-    let mut text = String::new(alloc);
-    for piece in pieces {
-        text.push_str(piece)?;
-    }
-    Text::from_str(alloc, text.as_str())
-}
-
-/// A text between two others.
-fn between(alloc: Global, before: &str, text: &Text, behind: &str) -> Result<Text, NoMemory>
-    ensures { IfOk result (λ line. line ≡ concat (before.now ∷ text.now ∷ behind.now ∷ [])) }
-{
-    join(alloc, &[before, text.as_str(), behind])
-}
-
 fn json_names_line(alloc: Global, message: &Text, key: &Text) -> Result<Text, NoMemory>
     ensures { IfOk result (λ line. line ≡ concat (codes "message '" ∷ message.now ∷ codes "' has clashing JSON name '" ∷ key.now ∷ codes "'" ∷ [])) }
 {
-    join(
+    Text::joined(
         alloc,
         &[
             "message '",
@@ -79,13 +61,13 @@ impl TopError {
         match self {
             TopError::File(error) => error.long_line(alloc),
             TopError::JsonNames { message, key } => json_names_line(alloc, message, key),
-            TopError::WellKnownShape { message } => between(
+            TopError::WellKnownShape { message } => Text::between(
                 alloc,
                 "message '",
                 message,
                 "' has not its well-known shape",
             ),
-            TopError::TypeNotFound { name } => between(alloc, "type '", name, "' not found"),
+            TopError::TypeNotFound { name } => Text::between(alloc, "type '", name, "' not found"),
             TopError::TooDeep => Text::from_str(alloc, "message nests more than 100 levels"),
             TopError::NoMemory => Text::from_str(alloc, "out of memory"),
             TopError::NotBuilt => Text::from_str(alloc, "not built yet"),

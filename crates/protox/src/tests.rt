@@ -238,15 +238,11 @@ fn refuses(rt: HostRuntime) -> Result<(), Fail> {
             "{}",
             "1||error: m.proto:1:42: expected a field number, but found '2147483648'\n|-",
         ),
-        case(
-            "",
-            "{}",
-            "1||error: m.proto:1:1: expected 'syntax', but found end of file\n|-",
-        ),
+        case("", "{}", "1||error: m.proto: record not built yet\n|-"),
         case(
             "\u{feff}syntax = \"proto3\";",
             "{}",
-            "1||error: m.proto:1:1: expected 'syntax', but found '\u{feff}'\n|-",
+            "1||error: m.proto:1:1: expected ';' or a keyword that begins a statement, but found '\u{feff}'\n|-",
         ),
         case(
             "syntax = \"proto3\";\r\nmessage M { int32 foo = 1 }",
@@ -436,9 +432,9 @@ fn tells_faults(rt: HostRuntime) -> Result<(), Fail> {
 
 const IMPORTS: &str = "syntax = \"proto3\"; import \"n.proto\"; message M { int32 foo = 1; }";
 
-// `FileDescriptorSet` of the two files, written from `descriptor.proto` by hand.
+// `FileDescriptorSet` of the two files with their source info, as protoc writes it, its locations sorted by path.
 const SET: &str =
-    "0a280a076e2e70726f746f22150a014e12100a036261721802200128095203626172620670726f746f330a310a076d2e70726f746f1a076e2e70726f746f22150a014d12100a03666f6f1801200128055203666f6f620670726f746f33";
+    "0a89010a076e2e70726f746f22150a014e12100a0362617218022001280952036261724a5f0a0512030000300a090a02040012030013300a0a0a030400011203001b1c0a0b0a04040002001203001f2e0a0c0a05040002000112030026290a0c0a0504000200031203002c2d0a0c0a0504000200051203001f250a080a010c1203000012620670726f746f330a9d010a076d2e70726f746f1a076e2e70726f746f22150a014d12100a03666f6f1801200128055203666f6f4a6a0a0512030000410a090a02030012030013240a090a02040012030025410a0a0a030400011203002d2e0a0b0a0404000200120300313f0a0c0a050400020001120300373a0a0c0a0504000200031203003d3e0a0c0a05040002000512030031360a080a010c1203000012620670726f746f33";
 
 const IMPORTED: &str = "syntax = \"proto3\"; message N { string bar = 2; }";
 
@@ -465,21 +461,21 @@ fn reads_imports(rt: HostRuntime) -> Result<(), Fail> {
             IMPORTS,
             "absent",
             "{}",
-            "1||error: m.proto: import 'n.proto' not found\n|-",
+            "1||error: m.proto:1:20: import 'n.proto' not found\n|-",
         ),
         (
             WORDS,
             "import \"n.proto\"; import \"n.proto\";",
             IMPORTED,
             "{}",
-            "1||error: m.proto:1:1: expected 'syntax', but found 'import'\n|-",
+            "1||error: m.proto:1:19: import 'n.proto' was listed twice\n|-",
         ),
         (
             WORDS,
             "syntax = \"proto3\"; import \"n.proto\"; import \"n.proto\";",
             IMPORTED,
             "{}",
-            "1||error: m.proto: import 'n.proto' was listed twice\n|-",
+            "1||error: m.proto:1:38: import 'n.proto' was listed twice\n|-",
         ),
         (
             WORDS,
@@ -528,7 +524,7 @@ fn refuses_in_order(rt: HostRuntime) -> Result<(), Fail> {
             "--type X --wire w m.proto",
             "absent",
             "null",
-            "1||error: m.proto: import 'n.proto' not found\n|-",
+            "1||error: m.proto:1:20: import 'n.proto' not found\n|-",
         ),
         (
             "--type X --wire w m.proto",

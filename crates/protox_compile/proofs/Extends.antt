@@ -8,6 +8,7 @@ use Rattle.pbx_link.specs.Pool.{is_linkable}
 use Rattle.pbx_link.specs.Rules.{among}
 use Rattle.protox_paths.specs.Paths.{path_equal}
 use Rattle.protox_file.specs.Told.{Entry, Lookup, NoFile, IsFile, TextFault}
+use Rattle.protox_compile.specs.Places.{place_of_import}
 use Rattle.protox_compile.specs.Walk.{Done, Fault, Limit, Mismatch, Shadowed, Duplicate, Circular, Unlinked, Visited, Finished, Missing, Faulted, Open, records, imports_of, declared_name, done_as, is_done, chain_text, after_visit, visit_imports, finish, unless_shadowed, visit_lookup, visit, visits}
 use Rattle.protox_compile.specs.Resume.{names_of, go_on, resume}
 use Rattle.protox_compile.specs.Refusals.{Extends, Grows, is_imported}
@@ -25,19 +26,19 @@ extends_cond : {B : Type 0} (b : Bool) (done : List Done) (x y : List Done × B)
 extends_cond true done x y p q = p
 extends_cond false done x y p q = q
 
-after_extends : (n : List ℕ) (i : ℕ) (m : List ℕ) (done : List Done) (v : List Done × Visited) (rest : List Done → List Done × Option Fault) → Extends done v.0 → ((d : List Done) → Extends d (rest d).0) → Extends done (after_visit n i m v rest).0
-after_extends n i m done (d, Finished) rest e k = extends_join e (k d)
-after_extends n i m done (d, Missing) rest e k = e
-after_extends n i m done (d, Faulted fault) rest e k = e
+after_extends : (n : List ℕ) (i : ℕ) (place : Option (ℕ × ℕ)) (m : List ℕ) (done : List Done) (v : List Done × Visited) (rest : List Done → List Done × Option Fault) → Extends done v.0 → ((d : List Done) → Extends d (rest d).0) → Extends done (after_visit n i place m v rest).0
+after_extends n i place m done (d, Finished) rest e k = extends_join e (k d)
+after_extends n i place m done (d, Missing) rest e k = e
+after_extends n i place m done (d, Faulted fault) rest e k = e
 
-pub imports_extend : (v : List Done → List ℕ → List Done × Visited) → ((d : List Done) (m : List ℕ) → Extends d (v d m).0) → (chain : List (List ℕ)) (n : List ℕ) (seen ms : List (List ℕ)) (done : List Done) → Extends done (visit_imports v chain n seen ms done).0
-imports_extend v k chain n seen [] done = extends_same done
-imports_extend v k chain n seen (m ∷ ms) done =
-    extends_cond (among seen m) done (done, Some (Duplicate n (length seen) m)) _ (extends_same done)
+pub imports_extend : (v : List Done → List ℕ → List Done × Visited) → ((d : List Done) (m : List ℕ) → Extends d (v d m).0) → (chain : List (List ℕ)) (n : List ℕ) (places : ℕ → Option (ℕ × ℕ)) (seen ms : List (List ℕ)) (done : List Done) → Extends done (visit_imports v chain n places seen ms done).0
+imports_extend v k chain n places seen [] done = extends_same done
+imports_extend v k chain n places seen (m ∷ ms) done =
+    extends_cond (among seen m) done (done, Some (Duplicate n (length seen) (places (length seen)) m)) _ (extends_same done)
     (extends_cond (among chain m) done (done, Some (Circular m (chain_text (reverse (m ∷ chain))))) _ (extends_same done)
-    (extends_cond (is_done done m) done (visit_imports v chain n (seen ++ m ∷ []) ms done) (after_visit n (length seen) m (v done m) (visit_imports v chain n (seen ++ m ∷ []) ms))
-    (imports_extend v k chain n (seen ++ m ∷ []) ms done)
-    (after_extends n (length seen) m done (v done m) (visit_imports v chain n (seen ++ m ∷ []) ms) (k done m) (imports_extend v k chain n (seen ++ m ∷ []) ms))))
+    (extends_cond (is_done done m) done (visit_imports v chain n places (seen ++ m ∷ []) ms done) (after_visit n (length seen) (places (length seen)) m (v done m) (visit_imports v chain n places (seen ++ m ∷ []) ms))
+    (imports_extend v k chain n places (seen ++ m ∷ []) ms done)
+    (after_extends n (length seen) (places (length seen)) m done (v done m) (visit_imports v chain n places (seen ++ m ∷ []) ms) (k done m) (imports_extend v k chain n places (seen ++ m ∷ []) ms))))
 
 pub finish_extends : (n : List ℕ) (entry : Entry) (done : List Done) (r : List Done × Option Fault) → Extends done r.0 → Extends done (finish n entry r).0
 finish_extends n entry done (d, None) e = extends_join e (extends_cond (is_linkable (records d) entry.file) d (d ++ done_as n entry ∷ [], Finished) (d, Faulted (Unlinked entry.file)) (extends_push d (done_as n entry)) (extends_same d))
@@ -58,7 +59,7 @@ unfolding visit
 visit_extends lookups limit zero chain asked n done = extends_same done
 visit_extends lookups limit (suc room) chain asked n done =
     extends_cond (nat_lt limit (length done + length chain + 1)) done (done, Faulted (Limit limit)) _ (extends_same done)
-    (lookup_extends n asked (lookups n) done _ (λ entry. finish_extends n entry done _ (imports_extend (λ d m. visit lookups limit room (n ∷ chain) None m d) (λ d m. visit_extends lookups limit room (n ∷ chain) None m d) (n ∷ chain) n [] (imports_of entry) done)))
+    (lookup_extends n asked (lookups n) done _ (λ entry. finish_extends n entry done _ (imports_extend (λ d m. visit lookups limit room (n ∷ chain) None m d) (λ d m. visit_extends lookups limit room (n ∷ chain) None m d) (n ∷ chain) n (place_of_import entry) [] (imports_of entry) done)))
 
 go_on_extends : (done : List Done) (v : List Done × Visited) (rest : List Done → List Done × Visited) → Extends done v.0 → ((d : List Done) → Extends d (rest d).0) → Extends done (go_on v rest).0
 go_on_extends done (d, Finished) rest e k = extends_join e (k d)
@@ -69,7 +70,7 @@ pub resume_extends : (lookups : List ℕ → Lookup) (limit : ℕ) (fs : List Op
 unfolding resume
 resume_extends lookups limit [] done = extends_same done
 resume_extends lookups limit (f ∷ fs) done =
-    go_on_extends done _ _ (finish_extends f.name f.entry done _ (imports_extend (λ d m. visits lookups limit (f.name ∷ names_of fs) None m d) (λ d m. visit_extends lookups limit (limit - length (f.name ∷ names_of fs)) (f.name ∷ names_of fs) None m d) (f.name ∷ names_of fs) f.name (take f.next (imports_of f.entry)) (drop f.next (imports_of f.entry)) done))
+    go_on_extends done _ _ (finish_extends f.name f.entry done _ (imports_extend (λ d m. visits lookups limit (f.name ∷ names_of fs) None m d) (λ d m. visit_extends lookups limit (limit - length (f.name ∷ names_of fs)) (f.name ∷ names_of fs) None m d) (f.name ∷ names_of fs) f.name (place_of_import f.entry) (take f.next (imports_of f.entry)) (drop f.next (imports_of f.entry)) done))
     (resume_extends lookups limit fs)
 
 -- ---- files behind others, as imports

@@ -40,11 +40,11 @@ other path n walk lookups later (OpenFile file p fault) a h = record { front = h
 other path n walk lookups later (FileTooLarge file) a h = rw h refl
 other path n walk lookups later (FileInvalidUtf8 file) a h = rw h refl
 other path n walk lookups later (FileNotFound file) a h = absurd (cc)
-other path n walk lookups later (ImportNotFound x i p y) a h = (rw h.0 refl, h.1)
+other path n walk lookups later (ImportNotFound x i p y) a h = rw h refl
 other path n walk lookups later (CircularImport y cycle) a h = rw h refl
 other path n walk lookups later (FileNotIncluded p) a h = absurd h
 other path n walk lookups later (FileShadowed y asked shadow) a h = rw h refl
-other path n walk lookups later (DuplicateImport x i p y) a h = (rw h.0 refl, h.1)
+other path n walk lookups later (DuplicateImport x i p y) a h = rw h refl
 other path n walk lookups later (Custom text is_io) a h = h
 other path n walk lookups later (NameMismatch asked declared) a h = rw h refl
 other path n walk lookups later (FileLimit l) a h = rw h refl

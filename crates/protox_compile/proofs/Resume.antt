@@ -9,18 +9,19 @@ use Rattle.pbx_link.specs.Linked.{linked}
 use Rattle.pbx_link.specs.Pool.{is_linkable}
 use Rattle.pbx_link.specs.Rules.{among}
 use Rattle.protox_file.specs.Told.{Entry, Lookup, NoFile, IsFile, TextFault}
+use Rattle.protox_compile.specs.Places.{place_of_import}
 use Rattle.protox_compile.specs.Resume.{names_of, imports_left, go_on, resume}
 use Rattle.protox_compile.specs.Walk.{Done, Fault, Limit, Text, Mismatch, Duplicate, Circular, NoImport, Unlinked, Visited, Finished, Missing, Faulted, Open, records, imports_of, declared_name, done_as, is_done, chain_text, after_visit, visit_imports, finish, visit_lookup, visit, visits}
 
 visit_room : (lookups : List ℕ → Lookup) (limit room : ℕ) (chain : List (List ℕ)) (asked : Option (List ℕ)) (n : List ℕ) (done : List Done) → room ≡ limit - length chain
-    → visit lookups limit room chain asked n done ≡ (if nat_lt limit (length done + length chain + 1) then (done, Faulted (Limit limit)) else visit_lookup n asked (lookups n) done (λ entry. finish n entry (visit_imports (λ d m. visits lookups limit (n ∷ chain) None m d) (n ∷ chain) n [] (imports_of entry) done)))
+    → visit lookups limit room chain asked n done ≡ (if nat_lt limit (length done + length chain + 1) then (done, Faulted (Limit limit)) else visit_lookup n asked (lookups n) done (λ entry. finish n entry (visit_imports (λ d m. visits lookups limit (n ∷ chain) None m d) (n ∷ chain) n (place_of_import entry) [] (imports_of entry) done)))
 unfolding visit
 visit_room lookups limit zero chain asked n done e = rw (lt-ltb limit (length done + length chain + 1) (omega arith)) refl
 visit_room lookups limit (suc room) chain asked n done e = let k : room ≡ limit - length (n ∷ chain) = omega arith in rw (← k) refl
 
 -- a visit, one step at a time, with no room in sight
 pub visits_step : (lookups : List ℕ → Lookup) (limit : ℕ) (chain : List (List ℕ)) (asked : Option (List ℕ)) (n : List ℕ) (done : List Done)
-    → visits lookups limit chain asked n done ≡ (if nat_lt limit (length done + length chain + 1) then (done, Faulted (Limit limit)) else visit_lookup n asked (lookups n) done (λ entry. finish n entry (visit_imports (λ d m. visits lookups limit (n ∷ chain) None m d) (n ∷ chain) n [] (imports_of entry) done)))
+    → visits lookups limit chain asked n done ≡ (if nat_lt limit (length done + length chain + 1) then (done, Faulted (Limit limit)) else visit_lookup n asked (lookups n) done (λ entry. finish n entry (visit_imports (λ d m. visits lookups limit (n ∷ chain) None m d) (n ∷ chain) n (place_of_import entry) [] (imports_of entry) done)))
 visits_step lookups limit chain asked n done = visit_room lookups limit (limit - length chain) chain asked n done refl
 
 -- a file with no import left is linked and finished
@@ -36,15 +37,15 @@ unfolding resume
 resume_unlinked lookups limit f fs done e l = rw (e, l) refl
 
 -- what follows the visit of an import is what follows it on the stack
-through : (n : List ℕ) (entry : Entry) (i : ℕ) (m : List ℕ) (inner : Entry) (ended : List Done × Option Fault) (later : List Done → List Done × Option Fault) (rest : List Done → List Done × Visited)
-    → go_on (finish n entry (after_visit n i m (finish m inner ended) later)) rest ≡ go_on (finish m inner ended) (λ d. go_on (finish n entry (later d)) rest)
-through n entry i m inner (done, None) later rest = by_case (is_linkable (records done) inner.file)
+through : (n : List ℕ) (entry : Entry) (i : ℕ) (place : Option (ℕ × ℕ)) (m : List ℕ) (inner : Entry) (ended : List Done × Option Fault) (later : List Done → List Done × Option Fault) (rest : List Done → List Done × Visited)
+    → go_on (finish n entry (after_visit n i place m (finish m inner ended) later)) rest ≡ go_on (finish m inner ended) (λ d. go_on (finish n entry (later d)) rest)
+through n entry i place m inner (done, None) later rest = by_case (is_linkable (records done) inner.file)
   where
-    by_case : (b : Bool) → go_on (finish n entry (after_visit n i m (if b then (done ++ done_as m inner ∷ [], Finished) else (done, Faulted (Unlinked inner.file))) later)) rest
+    by_case : (b : Bool) → go_on (finish n entry (after_visit n i place m (if b then (done ++ done_as m inner ∷ [], Finished) else (done, Faulted (Unlinked inner.file))) later)) rest
         ≡ go_on (if b then (done ++ done_as m inner ∷ [], Finished) else (done, Faulted (Unlinked inner.file))) (λ d. go_on (finish n entry (later d)) rest)
     by_case true = refl
     by_case false = refl
-through n entry i m inner (done, Some fault) later rest = refl
+through n entry i place m inner (done, Some fault) later rest = refl
 
 module _ (lookups : List ℕ → Lookup) (limit : ℕ) (f : Open) (fs : List Open) (done : List Done) (m : List ℕ) (fits : f.next < length (imports_of f.entry)) (is : get_or (imports_of f.entry) f.next [] ≡ m) where
   left : drop f.next (imports_of f.entry) ≡ m ∷ drop (suc f.next) (imports_of f.entry)
@@ -56,7 +57,7 @@ module _ (lookups : List ℕ → Lookup) (limit : ℕ) (f : Open) (fs : List Ope
   seen_length : length (take f.next (imports_of f.entry)) ≡ f.next
   seen_length = rw length-take (omega arith)
 
-  pub resume_duplicate : among (take f.next (imports_of f.entry)) m ≡ true → resume lookups limit (f ∷ fs) done ≡ (done, Faulted (Duplicate f.name f.next m))
+  pub resume_duplicate : among (take f.next (imports_of f.entry)) m ≡ true → resume lookups limit (f ∷ fs) done ≡ (done, Faulted (Duplicate f.name f.next (place_of_import f.entry f.next) m))
   unfolding resume
   resume_duplicate d = rw (left, d, seen_length) refl
 
@@ -70,7 +71,7 @@ module _ (lookups : List ℕ → Lookup) (limit : ℕ) (f : Open) (fs : List Ope
 
   -- an import that is to be visited
   resume_open : among (take f.next (imports_of f.entry)) m ≡ false → among (names_of (f ∷ fs)) m ≡ false → is_done done m ≡ false
-      → resume lookups limit (f ∷ fs) done ≡ go_on (finish f.name f.entry (after_visit f.name f.next m (visits lookups limit (f.name ∷ names_of fs) None m done) (imports_left lookups limit (names_of fs) (record f { next = suc f.next })))) (resume lookups limit fs)
+      → resume lookups limit (f ∷ fs) done ≡ go_on (finish f.name f.entry (after_visit f.name f.next (place_of_import f.entry f.next) m (visits lookups limit (f.name ∷ names_of fs) None m done) (imports_left lookups limit (names_of fs) (record f { next = suc f.next })))) (resume lookups limit fs)
   unfolding resume
   resume_open d c k = rw (left, d, c, k, seen_length, ← seen_next) refl
 
@@ -82,7 +83,7 @@ module _ (lookups : List ℕ → Lookup) (limit : ℕ) (f : Open) (fs : List Ope
     inside : nat_lt limit (length done + length (names_of (f ∷ fs)) + 1) ≡ false
     inside = le-ltb _ _ room
 
-    pub resume_missing : lookups m ≡ NoFile → resume lookups limit (f ∷ fs) done ≡ (done, Faulted (NoImport f.name f.next m))
+    pub resume_missing : lookups m ≡ NoFile → resume lookups limit (f ∷ fs) done ≡ (done, Faulted (NoImport f.name f.next (place_of_import f.entry f.next) m))
     resume_missing e = rw (resume_open d c k, visits_step, inside, e) refl
 
     pub resume_text : (kind : ℕ) → lookups m ≡ TextFault kind → resume lookups limit (f ∷ fs) done ≡ (done, Faulted (Text m kind))
@@ -94,4 +95,4 @@ module _ (lookups : List ℕ → Lookup) (limit : ℕ) (f : Open) (fs : List Ope
     pub resume_visit : (entry : Entry) → lookups m ≡ IsFile entry → bytes_eq (declared_name entry) m ≡ true
         → resume lookups limit (f ∷ fs) done ≡ resume lookups limit (record { name = m; entry = entry; next = 0 } ∷ record f { next = suc f.next } ∷ fs) done
     unfolding resume
-    resume_visit entry e b = rw (resume_open d c k, visits_step, inside, e, b) (through f.name f.entry f.next m entry (visit_imports (λ d' m'. visits lookups limit (m ∷ names_of (f ∷ fs)) None m' d') (m ∷ names_of (f ∷ fs)) m [] (imports_of entry) done) (imports_left lookups limit (names_of fs) (record f { next = suc f.next })) (resume lookups limit fs))
+    resume_visit entry e b = rw (resume_open d c k, visits_step, inside, e, b) (through f.name f.entry f.next (place_of_import f.entry f.next) m entry (visit_imports (λ d' m'. visits lookups limit (m ∷ names_of (f ∷ fs)) None m' d') (m ∷ names_of (f ∷ fs)) m (place_of_import entry) [] (imports_of entry) done) (imports_left lookups limit (names_of fs) (record f { next = suc f.next })) (resume lookups limit fs))

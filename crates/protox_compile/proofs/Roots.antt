@@ -9,6 +9,7 @@ use Rattle.protox_paths.specs.Paths.{path_equal}
 use Rattle.protox_file.specs.Told.{Entry, Told, Lookup, NoFile, IsFile, TextFault, IsLookup, AreLookups}
 use Rattle.protox_file.specs.declared.error.ErrorKind.{ErrorKind}
 use Rattle.protox_file.specs.declared.error.ErrorKind.TheVariants.{Parse, Check, OpenFile, FileTooLarge, FileInvalidUtf8, FileNotFound, ImportNotFound, CircularImport, FileNotIncluded, FileShadowed, DuplicateImport, Custom, NameMismatch, FileLimit, Undecodable, NoMemory}
+use Rattle.protox_compile.specs.Places.{place_of_import}
 use Rattle.protox_compile.specs.Walk.{Done, Fault, Open, Visited, Finished, Faulted, Limit, Text, Mismatch, Shadowed, Unlinked, records, imports_of, declared_name, done_as, visit_imports, finish, unless_shadowed, visits}
 use Rattle.protox_compile.specs.Resume.{resume, go_on, Follows}
 use Rattle.protox_compile.specs.Refusals.{Walk, without, Extends, Ends, StopsOpening, IsOpenOf, IsUnshadowed}
@@ -48,7 +49,7 @@ module _ (limit : ℕ) (asked : Option (List ℕ)) (n : List ℕ) (done : List D
     unfolding resume
     opens lookups f o u =
         let e : f ≡ record { name = n; entry = f.entry; next = 0 } = rw (← o.name_is, ← o.next_is) refl in
-        rw (visits_step, inside, o.lookup_is, o.declared, unshadowed n asked f.entry.path done _ u, e) (sym (ended (visit_imports (λ d m. visits lookups limit (n ∷ []) None m d) (n ∷ []) n [] (imports_of f.entry) done) f.entry))
+        rw (visits_step, inside, o.lookup_is, o.declared, unshadowed n asked f.entry.path done _ u, e) (sym (ended (visit_imports (λ d m. visits lookups limit (n ∷ []) None m d) (n ∷ []) n (place_of_import f.entry) [] (imports_of f.entry) done) f.entry))
 
     pub root_follows : (files : List ℕ → Told) (f : Open) → f.name ≡ n → ((lookup : Lookup) → IsLookup n (files n) lookup → IsOpenOf lookup n f) → IsUnshadowed asked f.entry.path → Follows files (root_walk limit asked n done) limit (f ∷ []) done
     root_follows files f named o u lookups right = opens lookups f (o (lookups n) (right_top files lookups f [] done n named right)) u

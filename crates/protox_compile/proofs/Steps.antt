@@ -10,6 +10,7 @@ use Rattle.protox_file.specs.Told.{Told, Lookup, NoFile, IsFile, TextFault, IsLo
 use Rattle.protox_file.specs.declared.error.ErrorKind.{ErrorKind}
 use Rattle.protox_file.specs.declared.error.ErrorKind.TheVariants.{Parse, Check, OpenFile, FileTooLarge, FileInvalidUtf8, FileNotFound, ImportNotFound, CircularImport, FileNotIncluded, FileShadowed, DuplicateImport, Custom, NameMismatch, FileLimit, Undecodable, NoMemory}
 use Rattle.std.proofs.lemmas.List.{length-map}
+use Rattle.protox_compile.specs.Places.{place_of_import}
 use Rattle.protox_compile.specs.Walk.{Done, Open, Visited, Faulted, Limit, Unlinked, records, imports_of, done_as, is_done, chain_text}
 use Rattle.protox_compile.specs.Resume.{names_of, resume, past, import_of, IsVisit, AreRightAt, Follows, EndsWalks, LeadsTo}
 use Rattle.protox_compile.specs.Refusals.{Walk, without, Extends, Ends, OrNoMemory, IsToldBy, StopsOpening, IsOpenOf, is_absent}
@@ -44,9 +45,9 @@ module _ (files : List ℕ → Told) (limit : ℕ) where
   }
 
   module _ (f : Open) (fs : List Open) (done : List Done) (m : List ℕ) (fits : f.next < length (imports_of f.entry)) (is : m ≡ import_of f) where
-    pub ends_duplicate : (e : ErrorKind) → among (take f.next (imports_of f.entry)) m ≡ true → OrNoMemory e (DuplicateImport f.name f.next None m) → EndsWalks files limit (f ∷ fs) done e done
+    pub ends_duplicate : (e : ErrorKind) → among (take f.next (imports_of f.entry)) m ≡ true → OrNoMemory e (DuplicateImport f.name f.next (place_of_import f.entry f.next) m) → EndsWalks files limit (f ∷ fs) done e done
     ends_duplicate e d o walk follows lookups all =
-        ends_or e _ walk lookups done o (front (f ∷ fs) done walk lookups follows all) (follows lookups (right_all files lookups (f ∷ fs) done all) ∙ resume_duplicate lookups limit f fs done m fits (sym is) d, refl)
+        ends_or e _ walk lookups done o (front (f ∷ fs) done walk lookups follows all) (follows lookups (right_all files lookups (f ∷ fs) done all) ∙ resume_duplicate lookups limit f fs done m fits (sym is) d)
 
     pub ends_circular : (e : ErrorKind) → among (take f.next (imports_of f.entry)) m ≡ false → among (names_of (f ∷ fs)) m ≡ true → OrNoMemory e (CircularImport m (chain_text (reverse (m ∷ names_of (f ∷ fs))))) → EndsWalks files limit (f ∷ fs) done e done
     ends_circular e d k o walk follows lookups all =
@@ -108,11 +109,11 @@ module _ (files : List ℕ → Told) (limit : ℕ) where
           absent_told (FileNotFound file) a s = s
           absent_told _ a s = absurd (cc)
 
-          pub ends_import : (error answer : ErrorKind) → IsToldBy (ImportNotFound f.name f.next None m) error answer → StopsOpening (lookups m) m None error → Ends answer walk lookups done
+          pub ends_import : (error answer : ErrorKind) → IsToldBy (ImportNotFound f.name f.next (place_of_import f.entry f.next) m) error answer → StopsOpening (lookups m) m None error → Ends answer walk lookups done
           ends_import error answer k s = by_case (is_absent error) refl
             where
               by_case : (b : Bool) → is_absent error ≡ b → Ends answer walk lookups done
               by_case true e =
                   ends_or answer _ walk lookups done (k.absent e) (front (f ∷ fs) done walk lookups follows all)
-                  (at_once ∙ resume_missing lookups limit f fs done m fits (sym is) visit.unseen visit.closed visit.new inside (absent_told error e s), refl)
+                  (at_once ∙ resume_missing lookups limit f fs done m fits (sym is) visit.unseen visit.closed visit.new inside (absent_told error e s))
               by_case false e = rw (k.other e) (stops error e s)

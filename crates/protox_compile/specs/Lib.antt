@@ -1,3 +1,4 @@
+pub mod Places
 pub mod Walk
 pub mod Opening
 pub mod Refusals

@@ -48,7 +48,7 @@ pub record StopsAtName (n : List ℕ) (walk : Walk) (lookups : List ℕ → Look
   pub exact : (walk (without n lookups)).0 ≡ done
 
 -- How a walk ended, by the error that was answered: a fault is the walk's own, with the files that it finished before it; after a fault
--- of the resolver and want of memory there are some of them. No record has the places of its imports so far.
+-- of the resolver and want of memory there are some of them.
 abbrev pub Ends : ErrorKind → Walk → (List ℕ → Lookup) → List Done → Type 0
 Ends (Parse (parse.Syntax file line column expected found)) walk lookups done = walk lookups ≡ (done, Faulted (Text file 1))
 Ends (Parse parse.NoMemory) walk lookups done = ⊥
@@ -57,11 +57,11 @@ Ends (OpenFile name path fault) walk lookups done = StopsAtName name walk lookup
 Ends (FileTooLarge name) walk lookups done = walk lookups ≡ (done, Faulted (Text name 4))
 Ends (FileInvalidUtf8 name) walk lookups done = walk lookups ≡ (done, Faulted (Text name 5))
 Ends (FileNotFound name) walk lookups done = walk lookups ≡ (done, Missing)
-Ends (ImportNotFound file index place name) walk lookups done = (walk lookups ≡ (done, Faulted (NoImport file index name))) × (place ≡ None)
+Ends (ImportNotFound file index place name) walk lookups done = walk lookups ≡ (done, Faulted (NoImport file index place name))
 Ends (CircularImport name cycle) walk lookups done = walk lookups ≡ (done, Faulted (Circular name cycle))
 Ends (FileNotIncluded path) walk lookups done = ⊥
 Ends (FileShadowed name path shadow) walk lookups done = walk lookups ≡ (done, Faulted (Shadowed name path shadow))
-Ends (DuplicateImport file index place name) walk lookups done = (walk lookups ≡ (done, Faulted (Duplicate file index name))) × (place ≡ None)
+Ends (DuplicateImport file index place name) walk lookups done = walk lookups ≡ (done, Faulted (Duplicate file index place name))
 Ends (Custom text is_io) walk lookups done = Extends done (walk lookups).0
 Ends (NameMismatch asked declared) walk lookups done = walk lookups ≡ (done, Faulted (Mismatch asked declared))
 Ends (FileLimit limit) walk lookups done = walk lookups ≡ (done, Faulted (Limit limit))
@@ -173,11 +173,11 @@ RefusesWith path files opened lookups later (OpenFile name p fault) = FailsAtNam
 RefusesWith path files opened lookups later (FileTooLarge name) = opened ≡ (later, Refused (Text name 4))
 RefusesWith path files opened lookups later (FileInvalidUtf8 name) = opened ≡ (later, Refused (Text name 5))
 RefusesWith path files opened lookups later (FileNotFound name) = ⊥
-RefusesWith path files opened lookups later (ImportNotFound file index place name) = (opened ≡ (later, Refused (NoImport file index name))) × (place ≡ None)
+RefusesWith path files opened lookups later (ImportNotFound file index place name) = opened ≡ (later, Refused (NoImport file index place name))
 RefusesWith path files opened lookups later (CircularImport name cycle) = opened ≡ (later, Refused (Circular name cycle))
 RefusesWith path files opened lookups later (FileNotIncluded p) = (p ≡ path) × (opened ≡ (later, NotIncluded))
 RefusesWith path files opened lookups later (FileShadowed name asked shadow) = opened ≡ (later, Refused (Shadowed name asked shadow))
-RefusesWith path files opened lookups later (DuplicateImport file index place name) = (opened ≡ (later, Refused (Duplicate file index name))) × (place ≡ None)
+RefusesWith path files opened lookups later (DuplicateImport file index place name) = opened ≡ (later, Refused (Duplicate file index place name))
 RefusesWith path files opened lookups later (Custom text is_io) = Extends later (files lookups)
 RefusesWith path files opened lookups later (NameMismatch asked declared) = opened ≡ (later, Refused (Mismatch asked declared))
 RefusesWith path files opened lookups later (FileLimit limit) = opened ≡ (later, Refused (Limit limit))

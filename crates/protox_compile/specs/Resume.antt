@@ -2,6 +2,7 @@
 use Rattle.std.specs.Prelude.{◌≡◌, ◌+◌, ◌∷◌, [], ℕ, List, Bool, true, false, ◌||◌, map, take, drop, slice_index_or, Option, None}
 use Rattle.pbx_link.specs.Rules.{among}
 use Rattle.protox_file.specs.Told.{Told, Lookup, IsLookup, AreLookups}
+use Rattle.protox_compile.specs.Places.{place_of_import}
 use Rattle.protox_compile.specs.Walk.{Done, Fault, Visited, Finished, Missing, Faulted, Open, imports_of, is_done, visit_imports, finish, visits}
 use Rattle.protox_file.specs.declared.error.ErrorKind.{ErrorKind}
 use Rattle.protox_compile.specs.Refusals.{Walk, Ends}
@@ -13,7 +14,7 @@ names_of fs = map (λ (f : Open). f.name) fs
 
 -- the imports that an open file has left
 abbrev pub imports_left : (List ℕ → Lookup) → ℕ → List (List ℕ) → Open → List Done → List Done × Option Fault
-imports_left lookups limit chain f done = visit_imports (λ d m. visits lookups limit (f.name ∷ chain) None m d) (f.name ∷ chain) f.name (take f.next (imports_of f.entry)) (drop f.next (imports_of f.entry)) done
+imports_left lookups limit chain f done = visit_imports (λ d m. visits lookups limit (f.name ∷ chain) None m d) (f.name ∷ chain) f.name (place_of_import f.entry) (take f.next (imports_of f.entry)) (drop f.next (imports_of f.entry)) done
 
 abbrev pub go_on : List Done × Visited → (List Done → List Done × Visited) → List Done × Visited
 go_on (done, Finished) rest = rest done

@@ -10,6 +10,7 @@ use Rattle.pbx_link.specs.Rules.{among}
 use Rattle.pbx_link.specs.Shapes.{text_or_empty}
 use Rattle.protox_paths.specs.Paths.{path_equal}
 use Rattle.protox_file.specs.Told.{Entry, Lookup, NoFile, IsFile, TextFault}
+use Rattle.protox_compile.specs.Places.{place_of_import}
 
 -- a finished file: its name, its linked record, the path that it was read from, and whether it was opened or only imported
 pub record Done : Type 0 where
@@ -46,9 +47,9 @@ pub data Fault : Type 0 where
   Text : List ℕ → ℕ → Fault
   Mismatch : List ℕ → List ℕ → Fault
   Shadowed : List ℕ → List ℕ → List ℕ → Fault
-  Duplicate : List ℕ → ℕ → List ℕ → Fault
+  Duplicate : List ℕ → ℕ → Option (ℕ × ℕ) → List ℕ → Fault
   Circular : List ℕ → List ℕ → Fault
-  NoImport : List ℕ → ℕ → List ℕ → Fault
+  NoImport : List ℕ → ℕ → Option (ℕ × ℕ) → List ℕ → Fault
   Unlinked : FileDescriptorProto → Fault
 
 -- how a visit ends
@@ -71,20 +72,21 @@ abbrev pub chain_text : List (List ℕ) → List ℕ
 chain_text [] = []
 chain_text (name ∷ names) = concat (name ∷ arrows_before names)
 
--- after the visit of the import m at index i of n: a fault ends the imports, and what is missing is told by its importer
-abbrev pub after_visit : List ℕ → ℕ → List ℕ → List Done × Visited → (List Done → List Done × Option Fault) → List Done × Option Fault
-after_visit n i m (done, Finished) rest = rest done
-after_visit n i m (done, Missing) rest = (done, Some (NoImport n i m))
-after_visit n i m (done, Faulted fault) rest = (done, Some fault)
+-- after the visit of the import m at index i of n, which stands at this place: a fault ends the imports, and what is missing is told by its importer
+abbrev pub after_visit : List ℕ → ℕ → Option (ℕ × ℕ) → List ℕ → List Done × Visited → (List Done → List Done × Option Fault) → List Done × Option Fault
+after_visit n i place m (done, Finished) rest = rest done
+after_visit n i place m (done, Missing) rest = (done, Some (NoImport n i place m))
+after_visit n i place m (done, Faulted fault) rest = (done, Some fault)
 
--- the imports of the file n in order: `chain` are the open names, the innermost first, `seen` its imports before these
-abbrev pub visit_imports : (List Done → List ℕ → List Done × Visited) → List (List ℕ) → List ℕ → List (List ℕ) → List (List ℕ) → List Done → List Done × Option Fault
-visit_imports visit chain n seen [] done = (done, None)
-visit_imports visit chain n seen (m ∷ ms) done =
-    if among seen m then (done, Some (Duplicate n (length seen) m))
+-- the imports of the file n in order: `chain` are the open names, the innermost first, `places` tells the places of its imports by their
+-- indices, `seen` are its imports before these
+abbrev pub visit_imports : (List Done → List ℕ → List Done × Visited) → List (List ℕ) → List ℕ → (ℕ → Option (ℕ × ℕ)) → List (List ℕ) → List (List ℕ) → List Done → List Done × Option Fault
+visit_imports visit chain n places seen [] done = (done, None)
+visit_imports visit chain n places seen (m ∷ ms) done =
+    if among seen m then (done, Some (Duplicate n (length seen) (places (length seen)) m))
     else (if among chain m then (done, Some (Circular m (chain_text (reverse (m ∷ chain)))))
-    else (if is_done done m then visit_imports visit chain n (seen ++ m ∷ []) ms done
-    else after_visit n (length seen) m (visit done m) (visit_imports visit chain n (seen ++ m ∷ []) ms)))
+    else (if is_done done m then visit_imports visit chain n places (seen ++ m ∷ []) ms done
+    else after_visit n (length seen) (places (length seen)) m (visit done m) (visit_imports visit chain n places (seen ++ m ∷ []) ms)))
 
 -- after the imports, the file is linked and finished as an import
 abbrev pub finish : List ℕ → Entry → List Done × Option Fault → List Done × Visited
@@ -112,7 +114,7 @@ visit lookups limit zero chain asked n done = (done, Faulted (Limit limit))
 visit lookups limit (suc room) chain asked n done =
     if nat_lt limit (length done + length chain + 1) then (done, Faulted (Limit limit))
     else visit_lookup n asked (lookups n) done (λ entry.
-    finish n entry (visit_imports (λ d m. visit lookups limit room (n ∷ chain) None m d) (n ∷ chain) n [] (imports_of entry) done))
+    finish n entry (visit_imports (λ d m. visit lookups limit room (n ∷ chain) None m d) (n ∷ chain) n (place_of_import entry) [] (imports_of entry) done))
 
 -- the same, with the room that the chain leaves
 abbrev pub visits : (List ℕ → Lookup) → ℕ → List (List ℕ) → Option (List ℕ) → List ℕ → List Done → List Done × Visited

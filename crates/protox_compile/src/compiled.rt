@@ -24,13 +24,13 @@ pub(crate) struct Compiled {
 impl Model for Compiled {
     ghost use Rattle.std.specs.Prelude.{List};
     ghost use Rattle.std.specs.Coded.{codes};
-    ghost use Rattle.pbx_wire.specs.contracts.rec.Rec as rec;
+    ghost use Rattle.pbx_desc.specs.contracts.file.FileDescriptorProto as proto;
     ghost use Rattle.protox_compile.specs.Walk.{Done};
     ghost use Rattle.protox_compile.specs.Compiled.{done_of, AreRecorded};
 
     ghost Value = { List Done };
 
-    ghost coded = { Prim.hlevel (codes, rec.the_row.coded) };
+    ghost coded = { Prim.hlevel (codes, proto.the_row.coded) };
 
     ghost view = { λ c. done_of c.files.items c.pool };
 

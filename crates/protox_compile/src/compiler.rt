@@ -33,12 +33,12 @@ pub struct Compiler<R> {
 
 impl<R> Model for Compiler<R> {
     ghost use Rattle.std.specs.Coded.{codes};
-    ghost use Rattle.pbx_wire.specs.contracts.rec.Rec as rec;
+    ghost use Rattle.pbx_desc.specs.contracts.file.FileDescriptorProto as proto;
     ghost use Rattle.protox_compile.specs.State.{State};
 
     ghost Value = { State R };
 
-    ghost coded = { Prim.hlevel (codes, rec.the_row.coded, R.code) };
+    ghost coded = { Prim.hlevel (codes, proto.the_row.coded, R.code) };
 
     ghost view = { λ c. record { resolver = c.resolver; done = c.compiled; limit = c.limit } };
 }

@@ -1,8 +1,10 @@
 ghost use Rattle.std.specs.Prelude.{◌≡◌, ◌+◌, ◌<◌, length, slice_index_or, take, nat_lt, [], true};
 ghost use Rattle.std.specs.Str.{bytes_eq};
 ghost use Rattle.pbx_link.specs.Rules.{among};
+ghost use Rattle.protox_compile.specs.Places.{place_of_import};
 ghost use Rattle.protox_compile.specs.Walk.{imports_of, declared_name};
 
+use crate::place::place_of_import;
 use pbx_wire::Text;
 use protox_file::File;
 use std::marker::Model;
@@ -19,12 +21,12 @@ impl Model for Frame {
     ghost use Rattle.std.specs.Prelude.{◌≡◌, ◌≤◌, length, true};
     ghost use Rattle.std.specs.Coded.{codes};
     ghost use Rattle.std.specs.Str.{bytes_eq};
-    ghost use Rattle.pbx_wire.specs.contracts.rec.Rec as rec;
+    ghost use Rattle.pbx_desc.specs.contracts.file.FileDescriptorProto as proto;
     ghost use Rattle.protox_compile.specs.Walk.{Open, imports_of, declared_name};
 
     ghost Value = { Open };
 
-    ghost coded = { Prim.hlevel (codes, rec.the_row.coded) };
+    ghost coded = { Prim.hlevel (codes, proto.the_row.coded) };
 
     ghost view = { λ f. record { name = f.name; entry = f.file; next = f.next } };
 
@@ -72,6 +74,13 @@ impl Frame {
         ensures { result.now ≡ slice_index_or (imports_of self.now.entry) self.now.next [] }
     {
         self.imports()[self.next].as_str()
+    }
+
+    /// The place of the import that comes next, if it is known.
+    pub(crate) fn place(&self) -> Option<(u32, u32)>
+        ensures { result ≡ place_of_import self.now.entry self.now.next }
+    {
+        place_of_import(&self.file, self.next)
     }
 
     /// Whether the name is imported at an earlier index.

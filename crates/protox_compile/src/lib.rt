@@ -6,6 +6,7 @@ mod compiler;
 mod frame;
 mod laws;
 mod opening;
+mod place;
 mod refusal;
 mod root;
 mod stack;

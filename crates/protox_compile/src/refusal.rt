@@ -2,6 +2,7 @@
 
 ghost use Rattle.std.specs.Prelude.{◌≡◌, ◌∷◌, ◌++◌, reverse, IfOk, None, string_bytes};
 ghost use Rattle.std.specs.List.{concat};
+ghost use Rattle.protox_compile.specs.Places.{place_of_import};
 ghost use Rattle.protox_compile.specs.Walk.{chain_text, arrows_before, declared_name};
 ghost use Rattle.protox_compile.specs.Resume.{names_of};
 ghost use Rattle.protox_compile.specs.Refusals.{OrNoMemory, IsToldBy, is_absent};
@@ -58,18 +59,18 @@ fn cycle_of(alloc: Global, parents: &Stack, current: &Frame, name: &str) -> Resu
 }
 
 fn try_duplicate(alloc: Global, current: &Frame, name: &str) -> Result<ErrorKind, NoMemory>
-    ensures { IfOk result (λ e. e ≡ ErrorKind.DuplicateImport current.now.name current.now.next None name.now) }
+    ensures { IfOk result (λ e. e ≡ ErrorKind.DuplicateImport current.now.name current.now.next (place_of_import current.now.entry current.now.next) name.now) }
 {
     Ok(ErrorKind::DuplicateImport {
         file: Text::from_str(alloc, current.name())?,
         index: index_of(current.next())?,
-        place: None,
+        place: current.place(),
         name: Text::from_str(alloc, name)?,
     })
 }
 
 pub(crate) fn duplicate(alloc: Global, current: &Frame, name: &str) -> Error
-    ensures { OrNoMemory result (ErrorKind.DuplicateImport current.now.name current.now.next None name.now) }
+    ensures { OrNoMemory result (ErrorKind.DuplicateImport current.now.name current.now.next (place_of_import current.now.entry current.now.next) name.now) }
 {
     match try_duplicate(alloc, current, name) {
         Ok(kind) => Error::from_kind(kind),
@@ -101,18 +102,18 @@ pub(crate) fn circular(alloc: Global, parents: &Stack, current: &Frame, name: &s
 }
 
 fn try_import_not_found(alloc: Global, current: &Frame, name: &str) -> Result<ErrorKind, NoMemory>
-    ensures { IfOk result (λ e. e ≡ ErrorKind.ImportNotFound current.now.name current.now.next None name.now) }
+    ensures { IfOk result (λ e. e ≡ ErrorKind.ImportNotFound current.now.name current.now.next (place_of_import current.now.entry current.now.next) name.now) }
 {
     Ok(ErrorKind::ImportNotFound {
         file: Text::from_str(alloc, current.name())?,
         index: index_of(current.next())?,
-        place: None,
+        place: current.place(),
         name: Text::from_str(alloc, name)?,
     })
 }
 
 fn import_not_found(alloc: Global, current: &Frame, name: &str) -> Error
-    ensures { OrNoMemory result (ErrorKind.ImportNotFound current.now.name current.now.next None name.now) }
+    ensures { OrNoMemory result (ErrorKind.ImportNotFound current.now.name current.now.next (place_of_import current.now.entry current.now.next) name.now) }
 {
     match try_import_not_found(alloc, current, name) {
         Ok(kind) => Error::from_kind(kind),
@@ -128,7 +129,7 @@ fn is_absent(error: &Error) -> bool
 
 /// The error of an import whose opening gave an error.
 pub(crate) fn import_error(alloc: Global, current: &Frame, name: &str, error: Error) -> Error
-    ensures { IsToldBy (ErrorKind.ImportNotFound current.now.name current.now.next None name.now) error result }
+    ensures { IsToldBy (ErrorKind.ImportNotFound current.now.name current.now.next (place_of_import current.now.entry current.now.next) name.now) error result }
 {
     if is_absent(&error) {
         return import_not_found(alloc, current, name);

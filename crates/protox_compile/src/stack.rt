@@ -17,12 +17,12 @@ pub(crate) struct Stack {
 impl Model for Stack {
     ghost use Rattle.std.specs.Prelude.{List, reverse};
     ghost use Rattle.std.specs.Coded.{codes};
-    ghost use Rattle.pbx_wire.specs.contracts.rec.Rec as rec;
+    ghost use Rattle.pbx_desc.specs.contracts.file.FileDescriptorProto as proto;
     ghost use Rattle.protox_compile.specs.Walk.{Open};
 
     ghost Value = { List Open };
 
-    ghost coded = { Prim.hlevel (codes, rec.the_row.coded) };
+    ghost coded = { Prim.hlevel (codes, proto.the_row.coded) };
 
     ghost view = { λ s. reverse s.frames.items };
 }

@@ -206,7 +206,7 @@ fn pools_hold_the_records(rt: HostRuntime) -> Result<(), Fail> {
     assert!(rt; compiler.descriptor_pool().is_empty());
     expect(&rt, alloc, &mut compiler, ("root.proto", "ok", CHAIN_DONE))?;
     let pool = compiler.descriptor_pool();
-    compiler.open_file("more.proto")?;
+    compiler.open_file("more.proto").ok().ok_or("refused")?;
     let before = records_of(alloc, &pool)?;
     assert_eq!(rt; before.as_str(), "dep2.proto;dep.proto;root.proto;");
     let after = records_of(alloc, &compiler.descriptor_pool())?;
@@ -279,7 +279,7 @@ fn long_chain(alloc: Global, count: u32) -> Result<MemoryResolver, Fail> {
 fn a_long_chain_is_finished(rt: HostRuntime) -> Result<(), Fail> {
     let alloc = rt.alloc();
     let mut compiler = compiler_of(alloc, long_chain(alloc, 4096)?)?;
-    compiler.open_file("4095.proto")?;
+    compiler.open_file("4095.proto").ok().ok_or("refused")?;
     let pool = compiler.descriptor_pool();
     assert_eq!(rt; pool.len(), 4096);
     for (index, name) in [(0, "0.proto"), (256, "256.proto"), (4095, "4095.proto")] {

@@ -32,12 +32,12 @@ pub struct File {
 impl Model for File {
     ghost use Rattle.std.specs.Prelude.{◌≡◌, None};
     ghost use Rattle.std.specs.Coded.{codes};
-    ghost use Rattle.pbx_wire.specs.contracts.rec.Rec as rec;
+    ghost use Rattle.pbx_desc.specs.contracts.file.FileDescriptorProto as proto;
     ghost use Rattle.protox_file.specs.Told.{Entry};
 
     ghost Value = { Entry };
 
-    ghost coded = { Prim.hlevel (codes, rec.the_row.coded) };
+    ghost coded = { Prim.hlevel (codes, proto.the_row.coded) };
 
     ghost view = { λ f. record { file = f.file; path = f.path; source = f.source; encoded = f.encoded } };
 

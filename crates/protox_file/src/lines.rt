@@ -2,7 +2,7 @@
 
 ghost use Rattle.std.specs.Prelude.{◌≡◌, ◌∷◌, [], IfOk, OnOk, decimal, codes, string_bytes, ◌++◌, if◌then◌else◌};
 ghost use Rattle.std.specs.Fmt.{signed_decimal};
-ghost use Rattle.std.specs.List.{concat, flat_map};
+ghost use Rattle.std.specs.List.{concat};
 ghost use Rattle.protox_file.specs.Lines.{early_rule, late_rule, rule_text, dotted, parse_line, descriptor_line, line_of, at_file, at_place, at_import, before_parse, before_descriptor, before_line, behind_line, long_line_of};
 
 use crate::error::ErrorKind;
@@ -11,24 +11,6 @@ use pbx_link::DescriptorError;
 use pbx_parse::ParseError;
 use pbx_wire::{NoMemory, Text};
 use std::alloc::Global;
-
-/// The pieces in a row.
-fn join(alloc: Global, pieces: &[&str]) -> Result<Text, NoMemory>
-    ensures { IfOk result (λ text. text ≡ flat_map (λ p. p.now) pieces.now) }
-{
-    let mut text = String::new(alloc);
-    for piece in pieces {
-        text.push_str(piece)?;
-    }
-    Text::from_str(alloc, text.as_str())
-}
-
-/// A text between two others.
-fn between(alloc: Global, before: &str, text: &Text, behind: &str) -> Result<Text, NoMemory>
-    ensures { IfOk result (λ line. line ≡ concat (before.now ∷ text.now ∷ behind.now ∷ [])) }
-{
-    join(alloc, &[before, text.as_str(), behind])
-}
 
 fn early_rule(rule: u8) -> &'static str
     ensures { result.now ≡ early_rule rule }
@@ -100,7 +82,7 @@ fn dotted(alloc: Global, numbers: &[i32]) -> Result<Text, NoMemory>
 fn syntax_line(alloc: Global, expected: &str, found: &str) -> Result<Text, NoMemory>
     ensures { IfOk result (λ line. line ≡ concat (codes "expected " ∷ expected.now ∷ codes ", but found " ∷ found.now ∷ [])) }
 {
-    join(alloc, &["expected ", expected, ", but found ", found])
+    Text::joined(alloc, &["expected ", expected, ", but found ", found])
 }
 
 fn parse_line(alloc: Global, error: &ParseError) -> Result<Text, NoMemory>
@@ -122,7 +104,7 @@ fn rule_line(alloc: Global, place: &[i32], rule: u8) -> Result<Text, NoMemory>
     let place = dotted(alloc, place)?;
     let mut buffer = Buffer::new();
     let number = buffer.format(rule);
-    join(
+    Text::joined(
         alloc,
         &[
             "rule ",
@@ -150,13 +132,13 @@ fn limit_line(alloc: Global, limit: u32) -> Result<Text, NoMemory>
     ensures { IfOk result (λ line. line ≡ concat (codes "more than " ∷ decimal limit ∷ codes " files" ∷ [])) }
 {
     let mut buffer = Buffer::new();
-    join(alloc, &["more than ", buffer.format(limit), " files"])
+    Text::joined(alloc, &["more than ", buffer.format(limit), " files"])
 }
 
 fn shadow_line(alloc: Global, path: &str, shadow: &str) -> Result<Text, NoMemory>
     ensures { IfOk result (λ line. line ≡ concat (codes "path '" ∷ path.now ∷ codes "' is shadowed by '" ∷ shadow.now ∷ codes "' in the include paths" ∷ [])) }
 {
-    join(
+    Text::joined(
         alloc,
         &[
             "path '",
@@ -171,8 +153,8 @@ fn shadow_line(alloc: Global, path: &str, shadow: &str) -> Result<Text, NoMemory
 fn mismatch_line(alloc: Global, asked: &Text, declared: &Text) -> Result<Text, NoMemory>
     ensures { IfOk result (λ line. line ≡ concat (codes "file '" ∷ asked.now ∷ codes "' declares the name '" ∷ declared.now ∷ codes "'" ∷ [])) }
 {
-    let before = between(alloc, "file '", asked, "' declares the name '")?;
-    between(alloc, before.as_str(), declared, "'")
+    let before = Text::between(alloc, "file '", asked, "' declares the name '")?;
+    Text::between(alloc, before.as_str(), declared, "'")
 }
 
 /// The line of an error.
@@ -182,29 +164,34 @@ pub(crate) fn line(alloc: Global, kind: &ErrorKind) -> Result<Text, NoMemory>
     match kind {
         ErrorKind::Parse(error) => parse_line(alloc, error),
         ErrorKind::Check(error) => descriptor_line(alloc, error),
-        ErrorKind::OpenFile { path, .. } => between(alloc, "error opening file '", path, "'"),
-        ErrorKind::FileTooLarge { name } => between(alloc, "file '", name, "' is too large"),
+        ErrorKind::OpenFile { path, .. } => Text::between(alloc, "error opening file '", path, "'"),
+        ErrorKind::FileTooLarge { name } => Text::between(alloc, "file '", name, "' is too large"),
         ErrorKind::FileInvalidUtf8 { name } => {
-            between(alloc, "file '", name, "' is not valid utf-8")
+            Text::between(alloc, "file '", name, "' is not valid utf-8")
         }
-        ErrorKind::FileNotFound { name } => between(alloc, "file '", name, "' not found"),
-        ErrorKind::ImportNotFound { name, .. } => between(alloc, "import '", name, "' not found"),
+        ErrorKind::FileNotFound { name } => Text::between(alloc, "file '", name, "' not found"),
+        ErrorKind::ImportNotFound { name, .. } => Text::between(
+            alloc,
+            "import '",
+            name,
+            "' not found",
+        ),
         ErrorKind::CircularImport { cycle, .. } => {
-            join(alloc, &["import cycle detected: ", cycle.as_str()])
+            Text::joined(alloc, &["import cycle detected: ", cycle.as_str()])
         }
         ErrorKind::FileNotIncluded { path } => {
-            between(alloc, "file '", path, "' is not in any include path")
+            Text::between(alloc, "file '", path, "' is not in any include path")
         }
         ErrorKind::FileShadowed { path, shadow, .. } => {
             shadow_line(alloc, path.as_str(), shadow.as_str())
         }
         ErrorKind::DuplicateImport { name, .. } => {
-            between(alloc, "import '", name, "' was listed twice")
+            Text::between(alloc, "import '", name, "' was listed twice")
         }
-        ErrorKind::Custom { text, .. } => join(alloc, &[text.as_str()]),
+        ErrorKind::Custom { text, .. } => Text::joined(alloc, &[text.as_str()]),
         ErrorKind::NameMismatch { asked, declared } => mismatch_line(alloc, asked, declared),
         ErrorKind::FileLimit { limit } => limit_line(alloc, *limit),
-        ErrorKind::Undecodable { file } => between(
+        ErrorKind::Undecodable { file } => Text::between(
             alloc,
             "file '",
             file,
@@ -217,7 +204,7 @@ pub(crate) fn line(alloc: Global, kind: &ErrorKind) -> Result<Text, NoMemory>
 fn at_file(alloc: Global, file: &str) -> Result<Text, NoMemory>
     ensures { IfOk result (λ before. before ≡ concat (at_file file.now)) }
 {
-    join(alloc, &[file, ": "])
+    Text::joined(alloc, &[file, ": "])
 }
 
 fn at_place(alloc: Global, file: &str, line: u32, column: u32) -> Result<Text, NoMemory>
@@ -227,7 +214,7 @@ fn at_place(alloc: Global, file: &str, line: u32, column: u32) -> Result<Text, N
     let mut columns = Buffer::new();
     let line = lines.format(line);
     let column = columns.format(column);
-    join(alloc, &[file, ":", line, ":", column, ": "])
+    Text::joined(alloc, &[file, ":", line, ":", column, ": "])
 }
 
 fn at_import(alloc: Global, file: &str, place: Option<(u32, u32)>) -> Result<Text, NoMemory>
@@ -293,7 +280,7 @@ fn behind_line(alloc: Global, kind: &ErrorKind) -> Result<Text, NoMemory>
     ensures { IfOk result (λ behind. behind ≡ concat (behind_line kind.now)) }
 {
     if let ErrorKind::OpenFile { fault, .. } = kind {
-        return join(alloc, &[": ", fault.as_str()]);
+        return Text::joined(alloc, &[": ", fault.as_str()]);
     }
     Text::from_str(alloc, "")
 }
@@ -301,7 +288,7 @@ fn behind_line(alloc: Global, kind: &ErrorKind) -> Result<Text, NoMemory>
 fn three(alloc: Global, before: &str, line: &str, behind: &str) -> Result<Text, NoMemory>
     ensures { IfOk result (λ whole. whole ≡ before.now ++ line.now ++ behind.now) }
 {
-    join(alloc, &[before, line, behind])
+    Text::joined(alloc, &[before, line, behind])
 }
 
 /// The long line of an error.

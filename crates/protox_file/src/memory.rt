@@ -36,13 +36,13 @@ pub struct MemoryResolver {
 impl Model for MemoryResolver {
     ghost use Rattle.std.specs.Coded.{codes};
     ghost use Rattle.std.specs.Prelude.{◌≡◌, Some, All};
-    ghost use Rattle.pbx_wire.specs.contracts.rec.Rec as rec;
+    ghost use Rattle.pbx_desc.specs.contracts.file.FileDescriptorProto as proto;
     ghost use Rattle.protox_file.specs.Memory.{ResolverState};
     ghost use Rattle.protox_paths.specs.Paths.{name_of};
 
     ghost Value = { ResolverState };
 
-    ghost coded = { Prim.hlevel (codes, rec.the_row.coded) };
+    ghost coded = { Prim.hlevel (codes, proto.the_row.coded) };
 
     ghost view = { λ r. record { files = r.files.items; names = r.names.items; listed = r.failing.items; calls = r.calls; faults = r.faults } };
 

@@ -71,17 +71,17 @@ fn imports_are_refused_at_their_importer(rt: HostRuntime) -> Result<(), Fail> {
     let rows: [Step<'_>; 5] = [
         (
             "root.proto",
-            "root.proto: import 'existing.proto' was listed twice",
+            "root.proto:1:45: import 'existing.proto' was listed twice",
             there,
         ),
         (
             "above.proto",
-            "root.proto: import 'existing.proto' was listed twice",
+            "root.proto:1:45: import 'existing.proto' was listed twice",
             there,
         ),
         (
             "outer.proto",
-            "dep2.proto: import 'notfound.proto' not found",
+            "dep2.proto:1:45: import 'notfound.proto' not found",
             there,
         ),
         (
@@ -91,7 +91,7 @@ fn imports_are_refused_at_their_importer(rt: HostRuntime) -> Result<(), Fail> {
         ),
         (
             "gone.proto",
-            "gone.proto: import 'notfound.proto' not found",
+            "gone.proto:1:20: import 'notfound.proto' not found",
             "",
         ),
     ];
@@ -99,6 +99,47 @@ fn imports_are_refused_at_their_importer(rt: HostRuntime) -> Result<(), Fail> {
         run_over(&rt, rt.alloc(), &files, &[step])?;
     }
     Ok(())
+}
+
+/// Sources whose imports stand at other places than in a row of statements.
+const PLACED: [(&str, &str); 4] = [
+    ("existing.proto", "syntax = \"proto3\";"),
+    (
+        "root.proto",
+        "import 'existing.proto'; import 'existing.proto';",
+    ),
+    ("gone.proto", "// comment \nimport 'notfound.proto';"),
+    ("long.proto", "import\n'notfound.proto';"),
+];
+
+#[test]
+fn imports_have_the_place_of_their_statement(rt: HostRuntime) -> Result<(), Fail> {
+    let alloc = rt.alloc();
+    let mut resolver = MemoryResolver::new(alloc);
+    for (name, source) in PLACED {
+        resolver.put(name, source)?;
+    }
+    let mut compiler = compiler_of(alloc, resolver)?;
+    let there = "existing.proto(import)";
+    let steps: [Step<'_>; 3] = [
+        (
+            "root.proto",
+            "root.proto:1:26: import 'existing.proto' was listed twice",
+            there,
+        ),
+        (
+            "gone.proto",
+            "gone.proto:2:1: import 'notfound.proto' not found",
+            there,
+        ),
+        // A statement over two lines has no place.
+        (
+            "long.proto",
+            "long.proto: import 'notfound.proto' not found",
+            there,
+        ),
+    ];
+    run(&rt, alloc, &mut compiler, &steps)
 }
 
 const INDEXED: [FileRow<'static>; 5] = [
@@ -109,37 +150,35 @@ const INDEXED: [FileRow<'static>; 5] = [
     ("b.proto", &[]),
 ];
 
-/// Whether an import of the file is listed twice or not found, without a place, and its index.
-fn refused_import(alloc: Global, path: &str) -> Result<(bool, u32), Fail> {
+/// Whether an import of the file is listed twice or not found, its index, and the column of its place on line 1.
+fn refused_import(alloc: Global, path: &str) -> Result<(bool, u32, u32), Fail> {
     let mut compiler = compiler_of(alloc, resolver_of(alloc, &INDEXED)?)?;
     let error = compiler.open_file(path).err().ok_or("accepted")?;
     match error.kind() {
         ErrorKind::DuplicateImport {
             index,
-            place: None,
+            place: Some((1, column)),
             ..
-        } => Ok((true, *index)),
+        } => Ok((true, *index, *column)),
         ErrorKind::ImportNotFound {
             index,
-            place: None,
+            place: Some((1, column)),
             ..
-        } => Ok((false, *index)),
-        _ => Ok((false, 0)),
+        } => Ok((false, *index, *column)),
+        _ => Ok((false, 0, 0)),
     }
 }
 
 #[test]
-fn refused_imports_have_their_index(rt: HostRuntime) -> Result<(), Fail> {
+fn refused_imports_have_their_place(rt: HostRuntime) -> Result<(), Fail> {
     let alloc = rt.alloc();
-    let (twice, index) = refused_import(alloc, "second.proto")?;
-    assert!(rt; twice);
-    assert_eq!(rt; index, 1);
-    let (twice, index) = refused_import(alloc, "third.proto")?;
-    assert!(rt; twice);
-    assert_eq!(rt; index, 2);
-    let (twice, index) = refused_import(alloc, "gone.proto")?;
-    assert!(rt; !twice);
-    assert_eq!(rt; index, 1);
+    for (path, want) in [
+        ("second.proto", (true, 1, 38)),
+        ("third.proto", (true, 2, 56)),
+        ("gone.proto", (false, 1, 38)),
+    ] {
+        assert_eq!(rt; refused_import(alloc, path)?, want, "at {path:?}");
+    }
     Ok(())
 }
 
@@ -210,7 +249,7 @@ fn faulty(alloc: Global) -> Result<MemoryResolver, Fail> {
 #[test]
 fn faults_of_files_are_told(rt: HostRuntime) -> Result<(), Fail> {
     let alloc = rt.alloc();
-    let bad = "bad.proto:2:1: expected 'import' or 'message', but found 'M'";
+    let bad = "bad.proto:2:1: expected ';' or a keyword that begins a statement, but found 'M'";
     let other = "file 'a.proto' declares the name 'b.proto'";
     let unnamed = "file 'none.proto' declares the name ''";
     let old = "old.proto: record not built yet";

@@ -162,10 +162,8 @@ fn mapped(alloc: Global) -> Result<MemoryResolver, Fail> {
     let mut disk = MemoryDisk::new(alloc);
     disk.put(path, b"syntax = \"proto3\";")?;
     let mut resolver = resolver_of(alloc, &[("root.proto", &["foo.proto"])])?;
-    resolver.put_file(
-        "foo.proto",
-        File::open(alloc, &mut disk, "foo.proto", path)?,
-    )?;
+    let file = File::open(alloc, &mut disk, "foo.proto", path).ok();
+    resolver.put_file("foo.proto", file.ok_or("refused")?)?;
     map(&mut resolver, alloc, "./foo.proto", "foo.proto")?;
     map(&mut resolver, alloc, "include/./foo.proto", "foo.proto")?;
     map(&mut resolver, alloc, "/root", "root.proto")?;
@@ -200,7 +198,7 @@ fn paths_may_be_shadowed(rt: HostRuntime) -> Result<(), Fail> {
         run(&rt, alloc, &mut compiler, steps)?;
     }
     let mut compiler = compiler_of(alloc, mapped(alloc)?)?;
-    compiler.open_file("root.proto")?;
+    compiler.open_file("root.proto").ok().ok_or("refused")?;
     let mut paths = compiler.files().map(|file| file.path());
     assert_eq!(rt; paths.next(), Some(Some("include/foo.proto")));
     assert_eq!(rt; paths.next(), Some(None));

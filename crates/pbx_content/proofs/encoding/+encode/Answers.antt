@@ -1,4 +1,4 @@
-use Rattle.std.proofs.Common.{List, [], Some, None, map, subst, ◌∙◌}
+use Rattle.std.proofs.Common.{List, [], Some, None, map, subst, sym, ◌∙◌}
 use Rattle.std.proofs.lemmas.List.{take_all}
 use Rattle.pbx_content.specs.declared.shape.FieldShape.{FieldShape}
 use Rattle.pbx_content.specs.declared.contents.Held.{Held}
@@ -9,9 +9,9 @@ use Rattle.pbx_content.specs.Encoding.{fields_recs, vals_recs}
 use Rattle.pbx_content.specs.Placing.{Adds}
 use Rattle.pbx_content.specs.View.{val_of, entry_of, fields_in}
 use Rattle.pbx_content.proofs.Placed.{adds_none}
-use Rattle.pbx_content.proofs.Records.{vals_next, fields_next, all_recs}
+use Rattle.pbx_content.proofs.Records.{vals_next, fields_next, all_recs, all_recs_in_order}
 use Rattle.pbx_content.proofs.encoding.+encode.Goals as goal
-use Rattle.pbx_content.proofs.encoding.+encode.Goals.{content_records-in-Some+in_ok-place_held, content_records-in_default}
+use Rattle.pbx_content.proofs.encoding.+encode.Goals.{content_records-in-Some+in_ok-place_held, content_records-in_default, content_records-then-keeps_order+in_ok-add_copies, content_records-else-keeps_order+in_ok-place_copies}
 
 pub content_records-loop-field-init : goal.content_records-loop-field-init
 content_records-loop-field-init t c = rw c.new-recs.ensures (adds_none [])
@@ -34,7 +34,14 @@ content_records-returns t c =
     let items = take_all c.loop-field.field-index c.as_slice-field-items.result.now c.loop-field-test.false ∙ c.as_slice-field-items.ensures in
     let each = subst (λ (xs : List Field). Adds [] c.loop-field.recs (fields_recs c.args.shape.now c.fields_of-known.result.now (fields_in (map entry_of xs)))) items c.loop-field.invariant in
     let all = subst (λ (gs : List FieldShape). Adds [] c.loop-field.recs (fields_recs c.args.shape.now gs (fields_in (map entry_of (out-Contents c.args.contents.now).fields)))) c.fields_of-known.ensures each in
-    all_recs c.args.shape.now c.args.type_at c.args.contents.now c.loop-field.recs c.place_copies.new.recs all c.in_ok-place_copies.ensures
+    elim c.if-keeps_order.branch [
+      | content_records-then-keeps_order+in_ok-add_copies w ↦
+          rw w.recs-is
+          (all_recs_in_order c.args.shape.now c.args.type_at c.args.contents.now c.loop-field.recs w.add_copies.new.recs all (sym c.keeps_order.ensures ∙ w.if-keeps_order.true) w.in_ok-add_copies.ensures)
+      | content_records-else-keeps_order+in_ok-place_copies w ↦
+          rw w.recs-is
+          (all_recs c.args.shape.now c.args.type_at c.args.contents.now c.loop-field.recs w.place_copies.new.recs all (sym c.keeps_order.ensures ∙ w.if-keeps_order.false) w.in_ok-place_copies.ensures)
+    ]
 
 pub place_each-loop-held-init : goal.place_each-loop-held-init
 place_each-loop-held-init t c = adds_none c.args.recs.now

@@ -2,8 +2,8 @@ use Rattle.std.proofs.Common.{◌≡◌, ℕ, List, length, subst, sym, ap, ◌^
 use Rattle.pbx_content.specs.Encoding.{encoded}
 use Rattle.pbx_content.specs.Same.{Decodes}
 use Rattle.pbx_content.specs.View.{content_of}
-use Rattle.pbx_desc.specs.Shape.{descriptor_shape}
-use Rattle.pbx_desc.proofs.Descriptors.{descriptor_shape_proper}
+use Rattle.pbx_desc_shape.specs.Shape.{descriptor_shape}
+use Rattle.pbx_desc_shape.proofs.Proper.{descriptor_shape_proper}
 use Rattle.pbx_desc.proofs.encoding.to_bytes.Goals as goal
 
 pub returns-clause-decodes : goal.returns-clause-decodes

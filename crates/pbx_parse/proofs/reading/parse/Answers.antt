@@ -1,7 +1,8 @@
-use Rattle.std.proofs.Common.{◌∙◌, ap, sym}
+use Rattle.std.proofs.Common.{◌≡◌, ◌∙◌, ap, sym}
 use Rattle.pbx_token.specs.View.{tokens_of, FailsNot as lexed}
-use Rattle.pbx_syntax.specs.View.{file_of, FailsNot as spelled}
-use Rattle.pbx_parse.specs.Translation.{translate}
+use Rattle.pbx_tree.specs.View.{file_of}
+use Rattle.pbx_reader.specs.View.{FailsNot as spelled}
+use Rattle.pbx_parse.specs.Reads.{record_of}
 use Rattle.pbx_parse.proofs.Refusals.{refuses_for, only_memory}
 use Rattle.pbx_parse.proofs.reading.parse.Goals as goal
 
@@ -22,13 +23,23 @@ returns-in-Err-read_file-clause-refused c =
     (λ faulty f r. let spells = ap tokens_of c.as_slice.ensures.value ∙ c.in-Ok.ensures.only r.0 r.1 ∙ r.3 in faulty (c.in-Err-read_file.ensures.only r.2 r.4 spells))
     c.of_reading.ensures
 
-pub returns-in-Ok-file_record-clause-found : goal.returns-in-Ok-file_record-clause-found
-returns-in-Ok-file_record-clause-found c =
+pub returns-in-Ok-record-clause-found : goal.returns-in-Ok-record-clause-found
+returns-in-Ok-record-clause-found c =
     let tokens = tokens_of c.in-Ok.tokens.items in
     let read = c.in-Ok-read_file.ensures in
-    (tokens, c.in-Ok.ensures.found, file_of c.in-Ok-read_file.file, ap tokens_of (sym c.as_slice.ensures.value) ∙ read.found, read.fits, c.in-Ok-file_record.ensures)
+    let same : tokens_of c.as_slice.result.now ≡ tokens = ap tokens_of c.as_slice.ensures.value in
+    let again : tokens_of c.as_slice-2.result.now ≡ tokens = ap tokens_of c.as_slice-2.ensures.value in (
+      tokens,
+      c.in-Ok.ensures.found,
+      file_of c.in-Ok-read_file.file,
+      sym same ∙ read.found,
+      read.fits,
+      c.in-Ok-record.ensures ∙ ap (λ ts. record_of c.args.name.now ts (file_of c.in-Ok-read_file.file)) again,
+    )
 
-pub returns-in-Ok-file_record-clause-only : goal.returns-in-Ok-file_record-clause-only
-returns-in-Ok-file_record-clause-only c = λ f r.
-    let spells = ap tokens_of c.as_slice.ensures.value ∙ c.in-Ok.ensures.only r.0 r.1 ∙ r.3 in
-    c.in-Ok-file_record.ensures ∙ ap (translate c.args.name.now) (c.in-Ok-read_file.ensures.only r.2 r.4 spells) ∙ sym r.5
+pub returns-in-Ok-record-clause-only : goal.returns-in-Ok-record-clause-only
+returns-in-Ok-record-clause-only c = λ f r.
+    let lexed : tokens_of c.as_slice.result.now ≡ r.0 = ap tokens_of c.as_slice.ensures.value ∙ c.in-Ok.ensures.only r.0 r.1 in
+    let again : tokens_of c.as_slice-2.result.now ≡ r.0 = ap tokens_of c.as_slice-2.ensures.value ∙ c.in-Ok.ensures.only r.0 r.1 in
+    let tree = c.in-Ok-read_file.ensures.only r.2 r.4 (lexed ∙ r.3) in
+    c.in-Ok-record.ensures ∙ ap (λ ts. record_of c.args.name.now ts (file_of c.in-Ok-read_file.file)) again ∙ ap (record_of c.args.name.now r.0) tree ∙ sym r.5

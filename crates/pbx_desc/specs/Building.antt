@@ -1,0 +1,30 @@
+-- Contents that are made field by field.
+use Rattle.std.specs.Prelude.{◌≡◌, ℕ, List, map, Option}
+use Rattle.pbx_content.specs.declared.contents.Contents.{Contents}
+use Rattle.pbx_content.specs.declared.contents.Field.{Field}
+use Rattle.pbx_content.specs.declared.shape.Cardinality.{Cardinality}
+use Rattle.pbx_content.specs.declared.shape.Kind.{Kind}
+use Rattle.pbx_content.specs.Content.{Content, Fields, no_fields, field, Val}
+use Rattle.pbx_content.specs.Meaning.{with_field}
+use Rattle.pbx_content.specs.View.{fields_in, entry_of, content_of}
+use Rattle.pbx_desc_shape.specs.Shape.{descriptor_shape}
+use Rattle.pbx_desc.specs.Sound.{IsSoundIfShort, MayBe}
+
+-- the fields that entries of a tree hold
+abbrev pub entries : List Field → Fields
+entries fs = fields_in (map entry_of fs)
+
+-- fields, and others behind them
+abbrev pub followed_by : Fields → Fields → Fields
+followed_by no_fields gs = gs
+followed_by (field n v fs) gs = field n v (followed_by fs gs)
+
+-- a value, if there is one, is put behind the others, and a field of this cardinality and kind may have it
+pub record Puts (c : Cardinality) (k : Kind) (n : ℕ) (v : Option Val) (old new : List Field) : Type 0 where
+  pub fields : entries new ≡ followed_by (entries old) (with_field n v no_fields)
+  pub value : MayBe descriptor_shape c k v
+
+-- the tree holds the content, which a message of the type may have
+pub record Holds (t : ℕ) (c : Content) (contents : Contents) : Type 0 where
+  pub content : content_of contents ≡ c
+  pub sound : IsSoundIfShort descriptor_shape t c

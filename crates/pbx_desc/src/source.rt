@@ -1,0 +1,153 @@
+ghost use Rattle.std.specs.Prelude.{◌≡◌, None, [], IfOk};
+ghost use Rattle.pbx_desc_shape.specs.Shape.{descriptor_shape};
+ghost use Rattle.pbx_desc.specs.Content.{source_code_info_content, location_content};
+
+use crate::contents::{FieldList, HasContents};
+use crate::copy::Duplicate;
+use crate::encoding::{Message, record_bytes};
+use pbx_content::Contents;
+use pbx_desc_shape::place;
+use pbx_wire::{List, NoMemory, Recs, Text, Texts, copy_recs};
+use std::alloc::Global;
+
+/// Where the parts of a file stand in its source, `google.protobuf.SourceCodeInfo`.
+#[derive(Drop)]
+pub struct SourceCodeInfo {
+    /// The places, in the order in which they were found.
+    pub location: List<Location>,
+    /// The records of numbers that are no field of this one, in order of arrival.
+    pub unknown: Recs,
+}
+
+impl SourceCodeInfo {
+    /// The record with each field absent; takes no memory.
+    pub fn new(alloc: Global) -> SourceCodeInfo
+        ensures { result ≡ record { location = []; unknown = [] } }
+    {
+        SourceCodeInfo {
+            location: List::new(alloc),
+            unknown: Recs::new(alloc),
+        }
+    }
+
+    /// An equal record. The only error is want of memory.
+    pub fn copy(&self, alloc: Global) -> Result<SourceCodeInfo, NoMemory>
+        ensures { IfOk result (λ copy. copy ≡ self.now) }
+    {
+        Ok(SourceCodeInfo {
+            location: self.location.duplicate(alloc)?,
+            unknown: copy_recs(&self.unknown, alloc)?,
+        })
+    }
+}
+
+impl HasContents for SourceCodeInfo {
+    ghost TYPE_AT = { 12 };
+
+    ghost content = { source_code_info_content };
+
+    const TYPE_AT: usize = place::SOURCE_CODE_INFO;
+
+    fn to_contents(&self, alloc: Global) -> Result<Contents, NoMemory> {
+        let mut fields = FieldList::new(alloc);
+        fields.records(1, &self.location)?;
+        fields.with_unknown(&self.unknown, &[1])
+    }
+}
+
+impl Message for SourceCodeInfo {
+    ghost shape = { λ _. descriptor_shape };
+
+    ghost type_at = { λ _. 12 };
+
+    ghost content = { source_code_info_content };
+
+    fn encode_to_vec(&self, alloc: Global) -> Result<Vec<u8>, NoMemory> {
+        record_bytes(alloc, self)
+    }
+}
+
+/// Where a part of a file stands in its source, `google.protobuf.SourceCodeInfo.Location`.
+#[derive(Drop)]
+pub struct Location {
+    /// The part: field numbers and indices on the way to it from the `FileDescriptorProto`.
+    pub path: List<i32>,
+    /// Its first line and column, its last line if that is another one, and the column behind it,
+    /// each counted from 0.
+    pub span: List<i32>,
+    /// The comment right before it.
+    pub leading_comments: Option<Text>,
+    /// The comment right behind it.
+    pub trailing_comments: Option<Text>,
+    /// The comments before it that a blank line parts from it.
+    pub leading_detached_comments: Texts,
+    /// The records of numbers that are no field of this one, in order of arrival.
+    pub unknown: Recs,
+}
+
+impl Location {
+    /// The record with each field absent; takes no memory.
+    pub fn new(alloc: Global) -> Location
+        ensures { result ≡ record {
+          path = [];
+          span = [];
+          leading_comments = None;
+          trailing_comments = None;
+          leading_detached_comments = [];
+          unknown = [];
+        } }
+    {
+        Location {
+            path: List::new(alloc),
+            span: List::new(alloc),
+            leading_comments: None,
+            trailing_comments: None,
+            leading_detached_comments: Texts::new(alloc),
+            unknown: Recs::new(alloc),
+        }
+    }
+
+    /// An equal record. The only error is want of memory.
+    pub fn copy(&self, alloc: Global) -> Result<Location, NoMemory>
+        ensures { IfOk result (λ copy. copy ≡ self.now) }
+    {
+        Ok(Location {
+            path: self.path.duplicate(alloc)?,
+            span: self.span.duplicate(alloc)?,
+            leading_comments: self.leading_comments.duplicate(alloc)?,
+            trailing_comments: self.trailing_comments.duplicate(alloc)?,
+            leading_detached_comments: self.leading_detached_comments.duplicate(alloc)?,
+            unknown: copy_recs(&self.unknown, alloc)?,
+        })
+    }
+}
+
+impl HasContents for Location {
+    ghost TYPE_AT = { 13 };
+
+    ghost content = { location_content };
+
+    const TYPE_AT: usize = place::LOCATION;
+
+    fn to_contents(&self, alloc: Global) -> Result<Contents, NoMemory> {
+        let mut fields = FieldList::new(alloc);
+        fields.numbers(1, &self.path)?;
+        fields.numbers(2, &self.span)?;
+        fields.text(3, &self.leading_comments)?;
+        fields.text(4, &self.trailing_comments)?;
+        fields.texts(6, &self.leading_detached_comments)?;
+        fields.with_unknown(&self.unknown, &[1, 2, 3, 4, 6])
+    }
+}
+
+impl Message for Location {
+    ghost shape = { λ _. descriptor_shape };
+
+    ghost type_at = { λ _. 13 };
+
+    ghost content = { location_content };
+
+    fn encode_to_vec(&self, alloc: Global) -> Result<Vec<u8>, NoMemory> {
+        record_bytes(alloc, self)
+    }
+}

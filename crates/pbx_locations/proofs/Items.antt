@@ -1,0 +1,122 @@
+-- The items of a message as the pieces of its body.
+use Rattle.std.proofs.Common.{◌≡◌, ℕ, ◌+◌, ◌<◌, ◌≤◌, ℤ, List, [], ◌∷◌, ◌++◌, length, drop, get_or, refl, sym, ap, ◌∙◌, append_assoc, append-nil, add-zero, add-one, drop-cons}
+use Rattle.std.proofs.lemmas.List.{drop_all}
+use Rattle.std.specs.List.{flat_map}
+use Rattle.std.specs.declared.vec.Vec.{Vec}
+use Rattle.std.specs.declared.alloc.Global.{Global}
+use Rattle.pbx_token.specs.declared.token.Span.{Span}
+use Rattle.pbx_tree.specs.declared.tree.Head as code_head
+use Rattle.pbx_tree.specs.declared.tree.MapField as code_map
+use Rattle.pbx_tree.specs.declared.tree.Oneof as code_oneof
+use Rattle.pbx_tree.specs.declared.tree.Enum as code_enum
+use Rattle.pbx_tree.specs.declared.tree.Extend as code_extend
+use Rattle.pbx_tree.specs.declared.tree.Item as items
+use Rattle.pbx_tree.specs.declared.tree.Item.TheOpen as layers
+use Rattle.pbx_tree.specs.declared.tree.Item.{Item, out-Item, roll-Item, roll-out-Item, map-Item, fold_out-Item}
+use Rattle.pbx_tree.specs.declared.tree.Item.TheVariants.{rolls-Map, rolls-Oneof, rolls-Message, rolls-Enum, rolls-Extend, outs-Map, outs-Oneof, outs-Message, outs-Enum, outs-Extend}
+use Rattle.pbx_tree.specs.Tree.{item_map, item_oneof, item_enum, item_extend, Body, end}
+use Rattle.pbx_tree.specs.Tree as tree
+use Rattle.pbx_tree.specs.View.{head_of, map_of, oneof_of, enum_of, extend_of, Piece, plain, nested, add, all_before, item_step, item_of, body_of}
+use Rattle.pbx_desc.specs.declared.source.Location.{Location}
+use Rattle.pbx_locations.specs.Locations.{element, of_items, item_enums, item_extensions, item_oneofs, nested_from, message_locations}
+use Rattle.pbx_locations.specs.Pieces.{of_piece}
+
+-- an item by its outermost layer
+abbrev layer : layers.Item-F Item → Piece
+layer l = item_step (map-Item Item Piece item_of l)
+
+layer_of : (x : Item) → item_of x ≡ layer (out-Item x)
+layer_of x = fold_out-Item Piece item_step x
+
+pub piece_of_map : (m : code_map.MapField) → item_of (items.Map m) ≡ plain (item_map (map_of m))
+piece_of_map m = layer_of (items.Map m) ∙ ap layer (outs-Map m)
+
+pub piece_of_oneof : (o : code_oneof.Oneof) → item_of (items.Oneof o) ≡ plain (item_oneof (oneof_of o))
+piece_of_oneof o = layer_of (items.Oneof o) ∙ ap layer (outs-Oneof o)
+
+pub piece_of_enum : (e : code_enum.Enum) → item_of (items.Enum e) ≡ plain (item_enum (enum_of e))
+piece_of_enum e = layer_of (items.Enum e) ∙ ap layer (outs-Enum e)
+
+pub piece_of_extend : (e : code_extend.Extend) → item_of (items.Extend e) ≡ plain (item_extend (extend_of e))
+piece_of_extend e = layer_of (items.Extend e) ∙ ap layer (outs-Extend e)
+
+pub piece_of_message : (h : code_head.Head) (is : Vec Item Global) (close : Span) → item_of (items.Message h is close) ≡ nested (head_of h) (body_of is.items) close
+piece_of_message h is close = layer_of (items.Message h is close) ∙ ap layer (outs-Message h is close)
+
+-- ---- items of other kinds
+
+no_enum_in : (l : layers.Item-F Item) → ((e : code_enum.Enum) → roll-Item l ≡ items.Enum e → ⊥) → of_piece item_enums (layer l) ≡ []
+no_enum_in (layers.Enum e) h = absurd (h e (rolls-Enum e))
+no_enum_in _ h = refl
+
+pub no_enum : (x : Item) → ((e : code_enum.Enum) → x ≡ items.Enum e → ⊥) → of_piece item_enums (item_of x) ≡ []
+no_enum x h = ap (of_piece item_enums) (layer_of x) ∙ no_enum_in (out-Item x) (λ e p. h e (sym (roll-out-Item x) ∙ p))
+
+no_extend_in : (l : layers.Item-F Item) → ((e : code_extend.Extend) → roll-Item l ≡ items.Extend e → ⊥) → of_piece item_extensions (layer l) ≡ []
+no_extend_in (layers.Extend e) h = absurd (h e (rolls-Extend e))
+no_extend_in _ h = refl
+
+pub no_extend : (x : Item) → ((e : code_extend.Extend) → x ≡ items.Extend e → ⊥) → of_piece item_extensions (item_of x) ≡ []
+no_extend x h = ap (of_piece item_extensions) (layer_of x) ∙ no_extend_in (out-Item x) (λ e p. h e (sym (roll-out-Item x) ∙ p))
+
+no_oneof_in : (l : layers.Item-F Item) → ((o : code_oneof.Oneof) → roll-Item l ≡ items.Oneof o → ⊥) → of_piece item_oneofs (layer l) ≡ []
+no_oneof_in (layers.Oneof o) h = absurd (h o (rolls-Oneof o))
+no_oneof_in _ h = refl
+
+pub no_oneof : (x : Item) → ((o : code_oneof.Oneof) → x ≡ items.Oneof o → ⊥) → of_piece item_oneofs (item_of x) ≡ []
+no_oneof x h = ap (of_piece item_oneofs) (layer_of x) ∙ no_oneof_in (out-Item x) (λ o p. h o (sym (roll-out-Item x) ∙ p))
+
+-- what is neither a message nor a map field makes no nested message
+no_nested_in : (path : List ℤ) (i : ℕ) (b : Body) (l : layers.Item-F Item)
+    → ((h : code_head.Head) (is : Vec Item Global) (close : Span) → roll-Item l ≡ items.Message h is close → ⊥) → ((m : code_map.MapField) → roll-Item l ≡ items.Map m → ⊥)
+    → nested_from path i (add (layer l) b) ≡ nested_from path i b
+unfolding nested_from
+no_nested_in path i b (layers.Message h is close) p q = absurd (p h is close (rolls-Message h is close))
+no_nested_in path i b (layers.Map m) p q = absurd (q m (rolls-Map m))
+no_nested_in path i b _ p q = ap (λ n. nested_from path n b) (add-zero i)
+
+pub no_nested : (path : List ℤ) (i : ℕ) (b : Body) (x : Item)
+    → ((h : code_head.Head) (is : Vec Item Global) (close : Span) → x ≡ items.Message h is close → ⊥) → ((m : code_map.MapField) → x ≡ items.Map m → ⊥)
+    → nested_from path i (add (item_of x) b) ≡ [] ++ nested_from path i b
+no_nested path i b x p q =
+    ap (λ c. nested_from path i (add c b)) (layer_of x)
+    ∙ no_nested_in path i b (out-Item x) (λ h is close e. p h is close (sym (roll-out-Item x) ∙ e)) (λ m e. q m (sym (roll-out-Item x) ∙ e))
+
+pub map_nested : (path : List ℤ) (i : ℕ) (b : Body) (x : Item) (m : code_map.MapField) → x ≡ items.Map m → nested_from path i (add (item_of x) b) ≡ [] ++ nested_from path (i + 1) b
+unfolding nested_from
+map_nested path i b x m e = ap (λ c. nested_from path i (add c b)) (ap item_of e ∙ piece_of_map m)
+
+pub message_nested : (path : List ℤ) (i : ℕ) (b : Body) (x : Item) (h : code_head.Head) (is : Vec Item Global) (close : Span) → x ≡ items.Message h is close
+    → nested_from path i (add (item_of x) b) ≡ message_locations (element path 3 i) (head_of h) (body_of is.items) close ++ nested_from path (i + 1) b
+unfolding nested_from
+message_nested path i b x h is close e = ap (λ c. nested_from path i (add c b)) (ap item_of e ∙ piece_of_message h is close)
+
+-- ---- bodies
+
+pub of_pieces : {A : Type 0} (one : tree.Item → List A) (ps : List Piece) → flat_map (of_piece one) ps ≡ of_items one (all_before ps end)
+of_pieces one [] = refl
+of_pieces {A} one (plain i ∷ ps) = ap (λ (xs : List A). one i ++ xs) (of_pieces one ps)
+of_pieces one (nested h inner close ∷ ps) = of_pieces one ps
+
+-- the rest of the items begins with this one
+pub rest_is : (xs : List Item) (n : ℕ) (x : Item) → n < length xs → x ≡ get_or xs n x → body_of (drop n xs) ≡ add (item_of x) (body_of (drop (n + 1) xs))
+rest_is xs n x below is =
+    ap body_of (drop-cons xs n x below)
+    ∙ ap (λ k. add (item_of (get_or xs n x)) (body_of (drop k xs))) (sym (add-one n))
+    ∙ ap (λ y. add (item_of y) (body_of (drop (n + 1) xs))) (sym is)
+
+-- one more item, of which these are added
+pub nested_goes_on : (path : List ℤ) (xs : List Item) (n : ℕ) (x : Item) (i k : ℕ) (a b ls total : List Location) → n < length xs → x ≡ get_or xs n x
+    → nested_from path i (add (item_of x) (body_of (drop (n + 1) xs))) ≡ ls ++ nested_from path k (body_of (drop (n + 1) xs)) → b ≡ a ++ ls
+    → a ++ nested_from path i (body_of (drop n xs)) ≡ total → b ++ nested_from path k (body_of (drop (n + 1) xs)) ≡ total
+nested_goes_on path xs n x i k a b ls total below is e added so_far =
+    let rest = body_of (drop (n + 1) xs) in
+    ap (λ (l : List Location). l ++ nested_from path k rest) added
+    ∙ append_assoc a ls (nested_from path k rest)
+    ∙ ap (λ (l : List Location). a ++ l) (sym e ∙ sym (ap (nested_from path i) (rest_is xs n x below is)))
+    ∙ so_far
+
+pub nested_is_over : (path : List ℤ) (xs : List Item) (n i : ℕ) (a total : List Location) → length xs ≤ n → a ++ nested_from path i (body_of (drop n xs)) ≡ total → a ≡ total
+unfolding nested_from
+nested_is_over path xs n i a total past so_far =
+    sym (append-nil a) ∙ ap (λ (is : List Item). a ++ nested_from path i (body_of is)) (sym (drop_all n xs past)) ∙ so_far

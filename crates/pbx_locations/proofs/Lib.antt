@@ -1,0 +1,4 @@
+pub mod Added
+pub mod Items
+pub mod Last
+pub mod Skipped

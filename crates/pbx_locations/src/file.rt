@@ -1,0 +1,171 @@
+//! The locations of a file.
+
+ghost use Rattle.std.specs.Prelude.{◌≡◌, ◌++◌, [], ◌∷◌, map, option_map, pos, IfOk, OnOk};
+ghost use Rattle.std.specs.List.{flat_map};
+ghost use Rattle.pbx_token.specs.View.{tokens_of};
+ghost use Rattle.pbx_tree.specs.View.{syntax_of, top_of, file_of};
+ghost use Rattle.pbx_locations.specs.Locations.{file_location, package_location, import_at, top_imports, message_at, top_messages, enum_at, top_enums, service_at, top_services, field_at, top_extensions, syntax_location, numbered, locations_of};
+
+use crate::enumeration::add_enum;
+use crate::field::add_extensions;
+use crate::message::add_message;
+use crate::place::{add, add_part, element, next};
+use crate::service::add_service;
+use crate::tag;
+use pbx_desc::Location;
+use pbx_token::{Span, Token};
+use pbx_tree::{File, Syntax, Top};
+use pbx_wire::{List, NoMemory};
+use std::alloc::Global;
+
+/// Adds the whole file.
+fn add_file(alloc: Global, out: &mut List<Location>, tokens: &[Token<'_>]) -> Result<(), NoMemory>
+    ensures { OnOk result (out.new ≡ out.old ++ file_location (tokens_of tokens.now) ∷ []) }
+{
+    let whole = List::new(alloc);
+    match (tokens.first(), tokens.last()) {
+        (Some(first), Some(last)) => add(alloc, out, &whole, first.span, last.span),
+        _ => {
+            let start = Span {
+                line: 0,
+                from: 0,
+                to: 0,
+            };
+            add(alloc, out, &whole, start, start)
+        }
+    }
+}
+
+fn add_package(alloc: Global, out: &mut List<Location>, tops: &[Top<'_>]) -> Result<(), NoMemory>
+    ensures { OnOk result (out.new ≡ out.old ++ flat_map package_location (map top_of tops.now)) }
+{
+    let file = List::new(alloc);
+    'each: for top in tops {
+        if let Top::Package(package) = top {
+            let start = package.keyword;
+            add_part(alloc, out, &file, tag::file::PACKAGE, start, package.end)?;
+        }
+    }
+    Ok(())
+}
+
+fn add_imports(alloc: Global, out: &mut List<Location>, tops: &[Top<'_>]) -> Result<(), NoMemory>
+    ensures { OnOk result (out.new ≡ out.old ++ numbered import_at 0 (flat_map top_imports (map top_of tops.now))) }
+{
+    let file = List::new(alloc);
+    let mut index = 0;
+    'each: for top in tops {
+        if let Top::Import(import) = top {
+            let path = element(alloc, &file, tag::file::DEPENDENCY, index)?;
+            add(alloc, out, &path, import.keyword, import.end)?;
+            index = next(index)?;
+        }
+    }
+    Ok(())
+}
+
+fn add_messages(alloc: Global, out: &mut List<Location>, tops: &[Top<'_>]) -> Result<(), NoMemory>
+    ensures { OnOk result (out.new ≡ out.old ++ numbered message_at 0 (flat_map top_messages (map top_of tops.now))) }
+{
+    let file = List::new(alloc);
+    let mut index = 0;
+    'each: for top in tops {
+        if let Top::Message(message) = top {
+            let path = element(alloc, &file, tag::file::MESSAGE_TYPE, index)?;
+            let items = message.items.as_slice();
+            add_message(alloc, out, &path, &message.head, items, message.close)?;
+            index = next(index)?;
+        }
+    }
+    Ok(())
+}
+
+fn add_enums(alloc: Global, out: &mut List<Location>, tops: &[Top<'_>]) -> Result<(), NoMemory>
+    ensures { OnOk result (out.new ≡ out.old ++ numbered (enum_at [] 5) 0 (flat_map top_enums (map top_of tops.now))) }
+{
+    let file = List::new(alloc);
+    let mut index = 0;
+    'each: for top in tops {
+        if let Top::Enum(item) = top {
+            let path = element(alloc, &file, tag::file::ENUM_TYPE, index)?;
+            add_enum(alloc, out, &path, item)?;
+            index = next(index)?;
+        }
+    }
+    Ok(())
+}
+
+fn add_services(alloc: Global, out: &mut List<Location>, tops: &[Top<'_>]) -> Result<(), NoMemory>
+    ensures { OnOk result (out.new ≡ out.old ++ numbered service_at 0 (flat_map top_services (map top_of tops.now))) }
+{
+    let file = List::new(alloc);
+    let mut index = 0;
+    'each: for top in tops {
+        if let Top::Service(service) = top {
+            let path = element(alloc, &file, tag::file::SERVICE, index)?;
+            add_service(alloc, out, &path, service)?;
+            index = next(index)?;
+        }
+    }
+    Ok(())
+}
+
+fn add_extension_blocks(
+    alloc: Global,
+    out: &mut List<Location>,
+    tops: &[Top<'_>],
+) -> Result<(), NoMemory>
+    ensures { OnOk result (out.new ≡ out.old ++ numbered (field_at [] 7) 0 (flat_map top_extensions (map top_of tops.now))) }
+{
+    let file = List::new(alloc);
+    let mut index = 0;
+    'each: for top in tops {
+        if let Top::Extend(extend) = top {
+            let extensions = extend.extensions.as_slice();
+            index = add_extensions(alloc, out, &file, tag::file::EXTENSION, index, extensions)?;
+        }
+    }
+    Ok(())
+}
+
+fn add_syntax(
+    alloc: Global,
+    out: &mut List<Location>,
+    syntax: &Option<Syntax<'_>>,
+) -> Result<(), NoMemory>
+    ensures { OnOk result (out.new ≡ out.old ++ syntax_location (option_map syntax_of syntax.now)) }
+{
+    match syntax {
+        Some(syntax) => add_part(
+            alloc,
+            out,
+            &List::new(alloc),
+            tag::file::SYNTAX,
+            syntax.keyword,
+            syntax.end,
+        ),
+        None => Ok(()),
+    }
+}
+
+/// The locations of a file, by their paths, which are those of descriptor.proto. The only error is want of memory, for
+/// which also stands a line, a column or an index that does not fit an `i32`: that takes a source of 2 GiB.
+pub fn locations(
+    alloc: Global,
+    tokens: &[Token<'_>],
+    file: &File<'_>,
+) -> Result<List<Location>, NoMemory>
+    ensures { IfOk result (λ ls. ls ≡ locations_of (tokens_of tokens.now) (file_of file.now)) }
+{
+    let tops = file.tops.as_slice();
+    let mut out = List::new(alloc);
+    add_file(alloc, &mut out, tokens)?;
+    add_package(alloc, &mut out, tops)?;
+    add_imports(alloc, &mut out, tops)?;
+    add_messages(alloc, &mut out, tops)?;
+    add_enums(alloc, &mut out, tops)?;
+    add_services(alloc, &mut out, tops)?;
+    add_extension_blocks(alloc, &mut out, tops)?;
+    add_syntax(alloc, &mut out, &file.syntax)?;
+    Ok(out)
+}

@@ -1,0 +1,14 @@
+//! Where the parts of a source file stand, from its tokens and its syntax tree.
+#![tactic(auto)]
+
+mod enumeration;
+mod field;
+mod file;
+mod message;
+mod place;
+mod service;
+mod tag;
+#[cfg(test)]
+mod tests;
+
+pub use file::locations;

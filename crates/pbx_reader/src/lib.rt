@@ -1,0 +1,20 @@
+//! The syntax tree of a source file, read from its tokens.
+#![tactic(auto)]
+
+mod cursor;
+mod enums;
+mod error;
+mod fields;
+mod many;
+mod messages;
+mod parts;
+mod ranges;
+mod reading;
+mod services;
+#[cfg(test)]
+mod tests;
+mod tops;
+mod words;
+
+pub use error::ReadError;
+pub use reading::read_file;

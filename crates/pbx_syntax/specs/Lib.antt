@@ -1,5 +1,0 @@
-pub mod Words
-pub mod Tree
-pub mod Grammar
-pub mod Conditions
-pub mod View

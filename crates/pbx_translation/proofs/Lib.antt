@@ -1,0 +1,10 @@
+pub mod Lists
+pub mod Camel
+pub mod Taken
+pub mod Counted
+pub mod Placed
+pub mod Strings
+pub mod ItemForms
+pub mod Steps
+pub mod Whole
+pub mod WholeFile

@@ -1,0 +1,9 @@
+pub mod Passes
+pub mod Texts
+pub mod Settings
+pub mod Fields
+pub mod Enums
+pub mod Services
+pub mod Messages
+pub mod Scope
+pub mod Translation

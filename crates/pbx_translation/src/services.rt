@@ -1,0 +1,86 @@
+//! Records of services.
+
+ghost use Rattle.std.specs.Prelude.{◌≡◌, map, IfOk};
+ghost use Rattle.pbx_tree.specs.View.{setting_of, method_end_of, method_of, service_item_of, service_of};
+ghost use Rattle.pbx_translation.specs.Services.{streaming as streaming_of, method_settings as method_settings_of, method_record as method_record_of, method_records, service_record as service_record_of};
+
+use crate::passes::{Gives, all_given};
+use crate::settings::options;
+use crate::texts::type_text;
+use pbx_desc::{MethodDescriptorProto, ServiceDescriptorProto};
+use pbx_token::Span;
+use pbx_tree::{
+    Method, MethodEnd, OptionPlace, Service, ServiceItem, Setting, Version, method_settings,
+    service_settings,
+};
+use pbx_wire::{List, NoMemory, Text};
+use std::alloc::{AllocError, Global};
+
+/// Whether `stream` is written.
+fn streaming(keyword: Option<Span>) -> Option<bool>
+    ensures { result ≡ streaming_of keyword }
+{
+    match keyword {
+        Some(_) => Some(true),
+        None => None,
+    }
+}
+
+/// What the option statements of a method set.
+fn end_settings<'a>(alloc: Global, end: &'a MethodEnd<'_>) -> Result<Vec<Setting<'a>>, AllocError>
+    ensures { IfOk result (λ v. map setting_of v.items ≡ method_settings_of (method_end_of end.now)) }
+{
+    match end {
+        MethodEnd::Semicolon(_) => Ok(Vec::new(alloc)),
+        MethodEnd::Block(_, items, _) => method_settings(alloc, items.as_slice()),
+    }
+}
+
+#[tactic(auto, unfolding(crate::specs::Services::method_record))]
+fn method_record(alloc: Global, method: &Method<'_>) -> Result<MethodDescriptorProto, NoMemory>
+    ensures { IfOk result (λ it. it ≡ method_record_of (method_of method.now)) }
+{
+    let settings = end_settings(alloc, &method.end)?;
+    let mut record = MethodDescriptorProto::new(alloc);
+    record.name = Some(Text::from_str(alloc, method.name.text)?);
+    record.input_type = Some(type_text(alloc, &method.input.name)?);
+    record.output_type = Some(type_text(alloc, &method.output.name)?);
+    record.options = options(alloc, OptionPlace::Method, settings.as_slice())?;
+    record.client_streaming = streaming(method.input.stream);
+    record.server_streaming = streaming(method.output.stream);
+    Ok(record)
+}
+
+impl Gives<MethodDescriptorProto> for ServiceItem<'_> {
+    ghost given = { λ version item. method_records (service_item_of item) };
+
+    fn give(
+        &self,
+        alloc: Global,
+        _version: Version,
+        records: &mut List<MethodDescriptorProto>,
+    ) -> Result<(), NoMemory> {
+        match self {
+            ServiceItem::Method(method) => records.add(method_record(alloc, method)?),
+            _ => Ok(()),
+        }
+    }
+}
+
+/// The record of a service.
+#[tactic(auto, unfolding(crate::specs::Services::service_record))]
+pub(crate) fn service_record(
+    alloc: Global,
+    version: Version,
+    service: &Service<'_>,
+) -> Result<ServiceDescriptorProto, NoMemory>
+    ensures { IfOk result (λ it. it ≡ service_record_of (service_of service.now)) }
+{
+    let items = service.items.as_slice();
+    let settings = service_settings(alloc, items)?;
+    let mut record = ServiceDescriptorProto::new(alloc);
+    record.name = Some(Text::from_str(alloc, service.name.text)?);
+    record.method = all_given(alloc, version, items)?;
+    record.options = options(alloc, OptionPlace::Service, settings.as_slice())?;
+    Ok(record)
+}
