@@ -6,7 +6,8 @@ use Rattle.pbx_token.specs.declared.token.Token.{Token}
 use Rattle.pbx_token.specs.Tokens as tokens
 use Rattle.pbx_token.specs.View.{token_of, tokens_of}
 use Rattle.pbx_tree.specs.View.{next_of}
-use Rattle.pbx_locations.specs.Locations.{place, last_of, file_location}
+use Rattle.pbx_locations.specs.declared.file.Extent.{Extent}
+use Rattle.pbx_locations.specs.Locations.{last_of, extent_of}
 
 last_seen : {A B : Type 0} (view : A → B) (x y : A) (xs : List A) → slice_get (x ∷ xs) (length xs) ≡ Some y → last_of (view x) (map view xs) ≡ view y
 last_seen view x y [] e = let is : x ≡ y = (cc) in ap view is
@@ -41,8 +42,9 @@ last_alone view x (z ∷ zs) e =
     absurd (within z zs (e ∙ ap (slice_get (z ∷ zs)) n))
 
 -- a file from its first token to its last
-pub whole_file : (ts : List Token) (a z : Token) → Some a ≡ slice_get ts 0 → Some z ≡ slice_get ts (length ts - 1) → place [] a.span z.span ≡ file_location (tokens_of ts)
+pub whole_file : (ts : List Token) (a z : Token) → Some a ≡ slice_get ts 0 → Some z ≡ slice_get ts (length ts - 1) → record { from = a.span; to = z.span } ≡ extent_of (tokens_of ts)
 whole_file [] a z p q = absurd (cc)
 whole_file (t ∷ ts) a z p q =
     let is : a ≡ t = (cc) in
-    ap (λ (x : Token). place [] x.span z.span) is ∙ ap (λ (x : tokens.Token). place [] t.span x.span) (sym (last_is token_of t z ts q))
+    let from_to : Span → Span → Extent = λ from to. record { from = from; to = to } in
+    ap (λ (x : Token). from_to x.span z.span) is ∙ ap (λ (x : tokens.Token). from_to t.span x.span) (sym (last_is token_of t z ts q))

@@ -7,6 +7,7 @@ use Rattle.pbx_token.specs.declared.token.Span.{Span}
 use Rattle.pbx_token.specs.Tokens.{Token}
 use Rattle.pbx_tree.specs.Tree.{Name, Number, TypeName, Kind, scalar, named_type, Settings, Tail, Field, MapField, Member, empty_member, member, Oneof, Extension, empty_extension, extension, Extend, Value, EnumItem, enum_value, Enum, MethodEnd, method_semicolon, method_block, Method, ServiceItem, service_method, Service, Item, item_field, item_map, item_oneof, item_enum, item_extend, Head, Body, end, item, message, Syntax, Import, Top, top_package, top_import, top_message, top_enum, top_extend, top_service, File}
 use Rattle.pbx_locations.specs.declared.field.Typed.{Typed}
+use Rattle.pbx_locations.specs.declared.file.Extent.{Extent}
 
 -- ---- one location
 
@@ -256,14 +257,14 @@ syntax_location None = []
 syntax_location (Some s) = part [] 12 s.keyword s.end ∷ []
 
 -- from the first token to the last, or the first column where there is none
-abbrev pub file_location : List Token → Location
-file_location [] = let start : Span = record { line = 0; from = 0; to = 0 } in place [] start start
-file_location (t ∷ ts) = place [] t.span (last_of t ts).span
+abbrev pub extent_of : List Token → Extent
+extent_of [] = let start : Span = record { line = 0; from = 0; to = 0 } in record { from = start; to = start }
+extent_of (t ∷ ts) = record { from = t.span; to = (last_of t ts).span }
 
--- The locations of a file, by their paths.
-abbrev pub locations_of : List Token → File → List Location
-locations_of tokens f =
-    file_location tokens ∷ []
+-- The locations of a file of this extent, by their paths.
+abbrev pub locations_in : Extent → File → List Location
+locations_in whole f =
+    place [] whole.from whole.to ∷ []
     ++ flat_map package_location f.tops
     ++ numbered import_at 0 (flat_map top_imports f.tops)
     ++ numbered message_at 0 (flat_map top_messages f.tops)
@@ -271,3 +272,7 @@ locations_of tokens f =
     ++ numbered service_at 0 (flat_map top_services f.tops)
     ++ numbered (field_at [] 7) 0 (flat_map top_extensions f.tops)
     ++ syntax_location f.syntax
+
+-- the same of a file of these tokens
+abbrev pub locations_of : List Token → File → List Location
+locations_of tokens f = locations_in (extent_of tokens) f

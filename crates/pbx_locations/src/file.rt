@@ -4,7 +4,7 @@ ghost use Rattle.std.specs.Prelude.{◌≡◌, ◌++◌, [], ◌∷◌, map, opt
 ghost use Rattle.std.specs.List.{flat_map};
 ghost use Rattle.pbx_token.specs.View.{tokens_of};
 ghost use Rattle.pbx_tree.specs.View.{syntax_of, top_of, file_of};
-ghost use Rattle.pbx_locations.specs.Locations.{file_location, package_location, import_at, top_imports, message_at, top_messages, enum_at, top_enums, service_at, top_services, field_at, top_extensions, syntax_location, numbered, locations_of};
+ghost use Rattle.pbx_locations.specs.Locations.{extent_of, package_location, import_at, top_imports, message_at, top_messages, enum_at, top_enums, service_at, top_services, field_at, top_extensions, syntax_location, numbered, locations_in};
 
 use crate::enumeration::add_enum;
 use crate::field::add_extensions;
@@ -18,20 +18,32 @@ use pbx_tree::{File, Syntax, Top};
 use pbx_wire::{List, NoMemory};
 use std::alloc::Global;
 
-/// Adds the whole file.
-fn add_file(alloc: Global, out: &mut List<Location>, tokens: &[Token<'_>]) -> Result<(), NoMemory>
-    ensures { OnOk result (out.new ≡ out.old ++ file_location (tokens_of tokens.now) ∷ []) }
+/// From the first token of a file to its last.
+#[derive(Clone, Copy)]
+pub struct Extent {
+    pub from: Span,
+    pub to: Span,
+}
+
+/// The extent of a file of these tokens, which is the first column where there is none.
+pub fn extent(tokens: &[Token<'_>]) -> Extent
+    ensures { result ≡ extent_of (tokens_of tokens.now) }
 {
-    let whole = List::new(alloc);
     match (tokens.first(), tokens.last()) {
-        (Some(first), Some(last)) => add(alloc, out, &whole, first.span, last.span),
+        (Some(first), Some(last)) => Extent {
+            from: first.span,
+            to: last.span,
+        },
         _ => {
             let start = Span {
                 line: 0,
                 from: 0,
                 to: 0,
             };
-            add(alloc, out, &whole, start, start)
+            Extent {
+                from: start,
+                to: start,
+            }
         }
     }
 }
@@ -150,16 +162,12 @@ fn add_syntax(
 
 /// The locations of a file, by their paths, which are those of descriptor.proto. The only error is want of memory, for
 /// which also stands a line, a column or an index that does not fit an `i32`: that takes a source of 2 GiB.
-pub fn locations(
-    alloc: Global,
-    tokens: &[Token<'_>],
-    file: &File<'_>,
-) -> Result<List<Location>, NoMemory>
-    ensures { IfOk result (λ ls. ls ≡ locations_of (tokens_of tokens.now) (file_of file.now)) }
+pub fn locations(alloc: Global, whole: Extent, file: &File<'_>) -> Result<List<Location>, NoMemory>
+    ensures { IfOk result (λ ls. ls ≡ locations_in whole (file_of file.now)) }
 {
     let tops = file.tops.as_slice();
     let mut out = List::new(alloc);
-    add_file(alloc, &mut out, tokens)?;
+    add(alloc, &mut out, &List::new(alloc), whole.from, whole.to)?;
     add_package(alloc, &mut out, tops)?;
     add_imports(alloc, &mut out, tops)?;
     add_messages(alloc, &mut out, tops)?;

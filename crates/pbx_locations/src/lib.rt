@@ -11,4 +11,4 @@ mod tag;
 #[cfg(test)]
 mod tests;
 
-pub use file::locations;
+pub use file::{Extent, extent, locations};

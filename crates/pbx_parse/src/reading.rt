@@ -4,13 +4,15 @@ ghost use Rattle.std.specs.Prelude.{◌≡◌, ◌≤◌, ℕ, List, length, IfO
 ghost use Rattle.pbx_desc.specs.declared.file.FileDescriptorProto.{FileDescriptorProto as Record};
 ghost use Rattle.pbx_token.specs.View.{tokens_of};
 ghost use Rattle.pbx_tree.specs.View.{file_of};
-ghost use Rattle.pbx_parse.specs.Reads.{record_of, Reads};
+ghost use Rattle.pbx_locations.specs.Locations.{extent_of, locations_in};
+ghost use Rattle.pbx_translation.specs.Translation.{translate_of};
+ghost use Rattle.pbx_parse.specs.Reads.{Reads};
 ghost use Rattle.pbx_parse.specs.Errors.{Refuses, GivesUnlessMemory};
 
 use crate::error::ParseError;
 use crate::refusal::{of_lexing, of_reading};
 use pbx_desc::FileDescriptorProto;
-use pbx_locations::locations;
+use pbx_locations::{Extent, extent, locations};
 use pbx_reader::read_file;
 use pbx_token::{Token, lex};
 use pbx_translation::translate;
@@ -18,16 +20,23 @@ use pbx_tree::File;
 use pbx_wire::NoMemory;
 use std::alloc::Global;
 
-/// The record of a file whose tokens spell the tree.
+/// From the first token to the last. The tokens go, before the record takes memory.
+fn whole(tokens: Vec<Token<'_>>) -> Extent
+    ensures { result ≡ extent_of (tokens_of tokens.items) }
+{
+    extent(tokens.as_slice())
+}
+
+/// The record of a file of this extent.
 fn record(
     alloc: Global,
     name: &str,
-    tokens: &[Token<'_>],
+    whole: Extent,
     file: &File<'_>,
 ) -> Result<FileDescriptorProto, NoMemory>
-    ensures { IfOk result (λ r. r ≡ record_of name.now (tokens_of tokens.now) (file_of file.now)) }
+    ensures { IfOk result (λ r. r ≡ translate_of name.now (file_of file.now) (locations_in whole (file_of file.now))) }
 {
-    let locations = locations(alloc, tokens, file)?;
+    let locations = locations(alloc, whole, file)?;
     translate(alloc, name, file, locations)
 }
 
@@ -55,7 +64,7 @@ pub fn parse(alloc: Global, name: &str, source: &str) -> Result<FileDescriptorPr
         Ok(file) => file,
         Err(error) => return Err(of_reading(alloc, name, source, tokens.as_slice(), error)),
     };
-    match record(alloc, name, tokens.as_slice(), &file) {
+    match record(alloc, name, whole(tokens), &file) {
         Ok(record) => Ok(record),
         Err(_) => Err(ParseError::NoMemory),
     }

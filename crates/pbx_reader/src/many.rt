@@ -65,6 +65,7 @@ pub fn all<'a, P: ListItem<'a>>(
     'each: while !P::stops(cursor) {
         items.push(P::read(alloc, cursor, version)?)?;
     }
+    items.shrink_to_fit();
     Ok(items)
 }
 
@@ -100,6 +101,7 @@ fn more<'a, P: Production<'a>>(
     'each: while cursor.sees(mark) {
         items.push(next(alloc, cursor, version, mark)?)?;
     }
+    items.shrink_to_fit();
     Ok(items)
 }
 

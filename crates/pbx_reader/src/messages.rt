@@ -124,6 +124,7 @@ fn items<'a>(
     'each: while !cursor.ends_block() {
         items.push(one_item(alloc, cursor, version, levels)?)?;
     }
+    items.shrink_to_fit();
     Ok(items)
 }
 
