@@ -66,4 +66,4 @@ returns-clause-only g c = λ free ts rest fit stops e.
     let over : stop (left c.each.cursor) ≡ true = cc in
     let n = ended p.spelled fits stop c.each-test.ensures.goes o.0 rest (left c.each.cursor) over o.3 in
     let front = map p.view c.each.items.items in
-    (sym (o.1 ∙ ap (λ (ys : List p.Tree). front ++ ys) n.0 ∙ append-nil front), n.1)
+    (ap (map p.view) c.shrink_to_fit.ensures.items ∙ sym (o.1 ∙ ap (λ (ys : List p.Tree). front ++ ys) n.0 ∙ append-nil front), n.1)

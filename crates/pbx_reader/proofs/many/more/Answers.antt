@@ -71,4 +71,4 @@ returns-clause-only g c = λ free ts rest fit f stops e.
     let over : sees_mark c.args.mark (left c.each.cursor) ≡ false = cc in
     let n = ended spelled fits stop (goes_on c.args.mark p.spelled p.follows) o.0 rest (left c.each.cursor) (ap not over) o.3 in
     let front = map (next_of p.view) c.each.items.items in
-    (sym (o.1 ∙ ap (λ (ys : List (Span × p.Tree)). front ++ ys) n.0 ∙ append-nil front), n.1)
+    (ap (map (next_of p.view)) c.shrink_to_fit.ensures.items ∙ sym (o.1 ∙ ap (λ (ys : List (Span × p.Tree)). front ++ ys) n.0 ∙ append-nil front), n.1)

@@ -7,7 +7,7 @@ use Rattle.pbx_tree.specs.declared.tree.Version.{Version}
 use Rattle.pbx_tree.specs.Tree.{Head, Body, end, Top, empty_top, top_package, top_import, top_message, top_enum, top_extend, top_service, top_option}
 use Rattle.pbx_tree.specs.Grammar.{body_then}
 use Rattle.pbx_tree.specs.Conditions.{body_fits}
-use Rattle.pbx_tree.specs.View.{Piece, plain, nested, item_of, add, all_before}
+use Rattle.pbx_tree.specs.View.{Piece, plain, nested, item_of, add, all_before, body_of}
 use Rattle.pbx_reader.specs.Bodies.{piece_then, piece_fits}
 use Rattle.pbx_reader.specs.View.{left, sees_word, ends_block}
 use Rattle.pbx_reader.proofs.Pieces.{piece_of_message}
@@ -43,17 +43,17 @@ items-each-preserved t c =
     }
 
 pub items-returns-clause-found : goal.items-returns-clause-found
-items-returns-clause-found t c = c.each.invariant.found end (left c.each.cursor) (end_then (left c.each.cursor))
+items-returns-clause-found t c = rw c.shrink_to_fit.ensures.items (c.each.invariant.found end (left c.each.cursor) (end_then (left c.each.cursor)))
 
 pub items-returns-clause-fits : goal.items-returns-clause-fits
-items-returns-clause-fits t c = c.each.invariant.fits end (end_fits c.args.version c.args.levels)
+items-returns-clause-fits t c = rw c.shrink_to_fit.ensures.items (c.each.invariant.fits end (end_fits c.args.version c.args.levels))
 
 pub items-returns-clause-only : goal.items-returns-clause-only
 items-returns-clause-only t c = λ b rest fits stops e.
     let o = c.each.invariant.only b rest fits stops e in
     let over : ends_block (left c.each.cursor) ≡ true = cc in
     let n = ended o.0 rest (left c.each.cursor) over o.3 in
-    (sym (o.1 ∙ ap (all_before (map item_of c.each.items.items)) n.0), n.1)
+    (ap body_of c.shrink_to_fit.ensures.items ∙ sym (o.1 ∙ ap (all_before (map item_of c.each.items.items)) n.0), n.1)
 
 ok_at : {T E : Type 0} (r : Result T E) (P : T → ℕ → Type 0) (n : ℕ) → IfOk r (λ x. (m : ℕ) → P x m) → IfOk r (λ x. P x n)
 ok_at (Ok x) P n h = h n
