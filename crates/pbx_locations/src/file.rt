@@ -26,7 +26,7 @@ pub struct Extent {
 }
 
 /// The extent of a file of these tokens, which is the first column where there is none.
-pub fn extent(tokens: &[Token<'_>]) -> Extent
+pub fn file_extent(tokens: &[Token<'_>]) -> Extent
     ensures { result ≡ extent_of (tokens_of tokens.now) }
 {
     match (tokens.first(), tokens.last()) {

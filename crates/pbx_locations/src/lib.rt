@@ -11,4 +11,4 @@ mod tag;
 #[cfg(test)]
 mod tests;
 
-pub use file::{Extent, extent, locations};
+pub use file::{Extent, file_extent, locations};

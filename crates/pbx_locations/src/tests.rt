@@ -21,7 +21,7 @@
 //! }
 //! ```
 
-use crate::{extent, locations};
+use crate::{file_extent, locations};
 use pbx_token::{Span, Token, Word};
 use pbx_tree::{
     Constant, Enum, EnumItem, EnumNumber, Extend, Extension, Field, FieldNumber, File, Head,
@@ -360,7 +360,7 @@ const WANTED: &str = "\
 
 fn shown(alloc: Global, tokens: &[Token<'_>], file: &File<'_>) -> Result<String, Fail> {
     let mut out = String::new(alloc);
-    for location in locations(alloc, extent(tokens), file)?.as_slice() {
+    for location in locations(alloc, file_extent(tokens), file)?.as_slice() {
         let path = location.path.as_slice();
         let span = location.span.as_slice();
         out.push_str(format!(in alloc; "{path:?} {span:?}\n")?.as_str())?;

@@ -12,7 +12,7 @@ ghost use Rattle.pbx_parse.specs.Errors.{Refuses, GivesUnlessMemory};
 use crate::error::ParseError;
 use crate::refusal::{of_lexing, of_reading};
 use pbx_desc::FileDescriptorProto;
-use pbx_locations::{Extent, extent, locations};
+use pbx_locations::{Extent, file_extent, locations};
 use pbx_reader::read_file;
 use pbx_token::{Token, lex};
 use pbx_translation::translate;
@@ -24,7 +24,7 @@ use std::alloc::Global;
 fn whole(tokens: Vec<Token<'_>>) -> Extent
     ensures { result ≡ extent_of (tokens_of tokens.items) }
 {
-    extent(tokens.as_slice())
+    file_extent(tokens.as_slice())
 }
 
 /// The record of a file of this extent.
