@@ -8,7 +8,5 @@ mod message;
 mod place;
 mod service;
 mod tag;
-#[cfg(test)]
-mod tests;
 
 pub use file::{Extent, file_extent, locations};

@@ -4,8 +4,6 @@
 mod error;
 mod reading;
 mod refusal;
-#[cfg(test)]
-mod tests;
 
 pub use error::ParseError;
 pub use reading::{at_most_one, parse};

@@ -11,8 +11,6 @@ mod parts;
 mod ranges;
 mod reading;
 mod services;
-#[cfg(test)]
-mod tests;
 mod tops;
 mod words;
 

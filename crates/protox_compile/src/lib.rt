@@ -11,8 +11,6 @@ mod refusal;
 mod root;
 mod stack;
 mod step;
-#[cfg(test)]
-mod tests;
 mod walk;
 
 pub use compiler::{Compiler, Files};

@@ -8,8 +8,6 @@ mod lines;
 mod memory;
 mod metadata;
 mod resolver;
-#[cfg(test)]
-mod tests;
 
 pub use error::{Error, ErrorKind};
 pub use file::{File, looked_up_once};

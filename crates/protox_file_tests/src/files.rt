@@ -1,11 +1,11 @@
 //! Files and resolvers, asked with ample memory.
 
-use crate::{
+use pbx_desc::FileDescriptorProto;
+use pbx_wire::{NoMemory, Text};
+use protox_file::{
     Error, File, FileMetadata, FileResolver, IncludeFileResolver, MemoryResolver, looked_up_once,
     names_name_themselves, path_to_file_name,
 };
-use pbx_desc::FileDescriptorProto;
-use pbx_wire::{NoMemory, Text};
 use protox_io::MemoryDisk;
 use std::alloc::Global;
 use std::process::Abort;
@@ -30,7 +30,7 @@ fn said(alloc: Global, answer: &Result<File, Error>) -> Result<Text, NoMemory> {
             None => Text::from_str(alloc, file.name()),
         },
         Err(error) => match error.kind() {
-            crate::ErrorKind::Parse(error) => {
+            protox_file::ErrorKind::Parse(error) => {
                 Text::from_str(alloc, error.file().unwrap_or("no file"))
             }
             _ => error.long_line(alloc),

@@ -1,7 +1,7 @@
 //! Sources and their records, and what is said of sources that have none.
 
-use crate::{ParseError, parse};
 use pbx_desc::Message;
+use pbx_parse::{ParseError, parse};
 use std::alloc::Global;
 use std::process::Abort;
 use std::test::Fail;

@@ -1,9 +1,9 @@
 //! What errors say and name, with texts that are written out.
 
-use crate::{Error, ErrorKind};
 use pbx_link::DescriptorError;
 use pbx_parse::ParseError;
 use pbx_wire::{DecodeError, List, NoMemory, Text};
+use protox_file::{Error, ErrorKind};
 use std::alloc::Global;
 use std::process::Abort;
 use std::test::Fail;
@@ -83,8 +83,21 @@ fn undecodable(alloc: Global) -> Result<Error, Fail> {
 }
 
 fn opening(alloc: Global) -> Result<Error, Fail> {
-    let fault = Text::from_str(alloc, "disk fault")?;
-    Ok(Error::open_file(alloc, "m.proto", "./m.proto", fault))
+    Ok(Error::from_kind(ErrorKind::OpenFile {
+        name: Text::from_str(alloc, "m.proto")?,
+        path: Text::from_str(alloc, "./m.proto")?,
+        fault: Text::from_str(alloc, "disk fault")?,
+    }))
+}
+
+fn too_large(alloc: Global) -> Result<Error, Fail> {
+    let name = Text::from_str(alloc, "g.proto")?;
+    Ok(Error::from_kind(ErrorKind::FileTooLarge { name }))
+}
+
+fn invalid_utf8(alloc: Global) -> Result<Error, Fail> {
+    let name = Text::from_str(alloc, "g.proto")?;
+    Ok(Error::from_kind(ErrorKind::FileInvalidUtf8 { name }))
 }
 
 fn not_built(alloc: Global) -> Result<Error, Fail> {
@@ -98,8 +111,8 @@ fn made(alloc: Global, kind: u8, place: Option<(u32, u32)>) -> Result<Error, Fai
         1 => syntax_error(alloc),
         2 => broken(alloc, &[4, 0, 2, 0, 6], 7),
         3 => opening(alloc),
-        4 => Ok(Error::file_too_large(alloc, "g.proto")),
-        5 => Ok(Error::file_invalid_utf8(alloc, "g.proto")),
+        4 => too_large(alloc),
+        5 => invalid_utf8(alloc),
         6 => Ok(Error::file_not_found(alloc, "x.proto")),
         7 => import_not_found(alloc, place),
         8 => circular_import(alloc),

@@ -4,12 +4,12 @@ ghost use Rattle.std.specs.Prelude.{true, false, None};
 ghost use Rattle.protox_io.specs.Disk.{Missing};
 ghost use Rattle.protox_file.specs.Told.{Absent};
 
-use crate::Compiler;
 use crate::tests::{
     CHAIN, CHAIN_DONE, FileRow, Step, compiler_of, expect, files_of, resolver_of, run, said,
 };
 use pbx_desc::FileDescriptorProto;
 use pbx_wire::{NoMemory, Text};
+use protox_compile::Compiler;
 use protox_file::{
     Error, File, FileResolver, MemoryResolver, names_name_themselves, path_to_file_name,
 };

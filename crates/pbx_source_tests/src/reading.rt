@@ -1,6 +1,6 @@
 //! What is read, and where tokens spell no file.
 
-use crate::{ReadError, read_file};
+use pbx_reader::{ReadError, read_file};
 use pbx_token::{Span, Token, Word, lex};
 use std::alloc::Global;
 use std::process::Abort;

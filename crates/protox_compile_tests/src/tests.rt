@@ -3,10 +3,10 @@
 mod refusals;
 mod resolvers;
 
-use crate::Compiler;
 use pbx_desc::FileDescriptorProto;
 use pbx_link::DescriptorPool;
 use pbx_wire::{NoMemory, Text, Texts};
+use protox_compile::Compiler;
 use protox_file::{Error, FileResolver, MemoryResolver};
 use std::alloc::Global;
 use std::process::Abort;

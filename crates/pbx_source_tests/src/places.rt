@@ -21,7 +21,7 @@
 //! }
 //! ```
 
-use crate::{file_extent, locations};
+use pbx_locations::{file_extent, locations};
 use pbx_token::{Span, Token, Word};
 use pbx_tree::{
     Constant, Enum, EnumItem, EnumNumber, Extend, Extension, Field, FieldNumber, File, Head,
