@@ -2,13 +2,16 @@
 
     compare.py PROGRAM FOLDER
 
-PROGRAM is protox_records, and FOLDER holds the files, all of which protoc takes. From protoc's record is taken away what
-linking adds to it, and its locations are brought to those that our profile lists; then both have to be equal, and ours
-has to have no byte more than the usual encoding. Prints the differences, and ends with 0 where there are none.
+PROGRAM is protox_records, and FOLDER holds the files, all of which protoc takes; the files that are installed with protoc
+are compared too. From protoc's record is taken away what linking adds to it, and its locations are brought to those that
+our profile lists; then both have to be equal, and ours has to have no byte more than the usual encoding. Prints the
+differences, and ends with 0 where there are none.
 """
 import difflib
+import glob
 import os
 import re
+import shutil
 import subprocess
 import sys
 import tempfile
@@ -208,19 +211,35 @@ def differences(ours_bytes, theirs):
     yield from difflib.unified_diff(str(ours).split("\n"), str(theirs).split("\n"), "ours", "protoc's", lineterm="")
 
 
-def main(program, folder):
-    names = sorted(it for it in os.listdir(folder) if it.endswith(".proto"))
-    ours = our_records(os.path.abspath(program), folder, names)
+def installed_files():
+    """The folder of the files that are installed with protoc, and their names."""
+    folder = os.path.normpath(os.path.join(os.path.dirname(shutil.which("protoc")), "../include"))
+    found = glob.glob("google/protobuf/**/*.proto", root_dir=folder, recursive=True)
+    return folder, sorted(found)
+
+
+def count_differing(program, folder, names):
+    """Prints how our records of these files differ, and answers how many do."""
+    ours = our_records(program, folder, names)
     wrong = 0
     for name in names:
         lines = list(differences(ours[name], protoc_record(folder, name)))
         wrong += bool(lines)
         for line in lines:
             print(f"{name}: {line}")
+    return wrong
+
+
+def main(program, folder):
+    program = os.path.abspath(program)
+    names = sorted(it for it in os.listdir(folder) if it.endswith(".proto"))
+    there, installed = installed_files()
+    wrong = count_differing(program, folder, names) + count_differing(program, there, installed)
+    count = f"{len(names)} files and {len(installed)} that are installed with protoc"
     if wrong or not names:
-        print(f"differential: {wrong} of {len(names)} files differ from protoc")
+        print(f"differential: {wrong} differ from protoc of {count}")
         return 1
-    print(f"differential: passed, {len(names)} files are as protoc has them")
+    print(f"differential: passed, {count} are as protoc has them")
     return 0
 
 
