@@ -22,7 +22,7 @@ use std::alloc::Global;
 
 /// From the first token to the last. The tokens go, before the record takes memory.
 fn whole(tokens: Vec<Token<'_>>) -> Extent
-    ensures { result ≡ extent_of (tokens_of tokens.items) }
+    ensures { result ≡ extent_of (tokens_of tokens.entry.items) }
 {
     file_extent(tokens.as_slice())
 }

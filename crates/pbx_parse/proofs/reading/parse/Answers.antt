@@ -11,7 +11,7 @@ use Rattle.pbx_parse.specs.Reads.{record_of}
 use Rattle.pbx_parse.proofs.Refusals.{refuses_for, only_memory}
 use Rattle.pbx_parse.proofs.reading.parse.Goals as goal
 
-record_in : List ℕ → File → Extent → FileDescriptorProto
+abbrev record_in : List ℕ → File → Extent → FileDescriptorProto
 record_in name tree whole = translate_of name tree (locations_in whole tree)
 
 pub returns-in-Err-clause-only : goal.returns-in-Err-clause-only
