@@ -212,7 +212,11 @@ def differences(ours_bytes, theirs):
 
 
 def installed_files():
-    """The folder of the files that are installed with protoc, and their names."""
+    """The folder of the files that are installed with protoc 3, and their names; none of a later protoc, whose files have
+    options with aggregate values, which our language leaves out."""
+    version = subprocess.run(["protoc", "--version"], capture_output=True, text=True).stdout
+    if not version.startswith("libprotoc 3."):
+        return ".", []
     folder = os.path.normpath(os.path.join(os.path.dirname(shutil.which("protoc")), "../include"))
     found = glob.glob("google/protobuf/**/*.proto", root_dir=folder, recursive=True)
     return folder, sorted(found)
