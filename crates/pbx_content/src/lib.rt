@@ -13,8 +13,6 @@ mod laws;
 mod placing;
 mod scalar;
 mod shape;
-#[cfg(test)]
-mod tests;
 
 pub use contents::{Contents, Field, Held};
 pub use decoding::decode;

@@ -17,8 +17,6 @@ mod options;
 mod service;
 mod set;
 mod source;
-#[cfg(test)]
-mod tests;
 mod unknown;
 
 pub use encoding::Message;

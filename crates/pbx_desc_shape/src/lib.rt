@@ -4,7 +4,5 @@
 pub mod place;
 mod shape;
 mod table;
-#[cfg(test)]
-mod tests;
 
 pub use shape::descriptor_shape;

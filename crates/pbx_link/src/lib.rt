@@ -16,8 +16,6 @@ mod pool_files;
 mod records;
 mod rules;
 mod shapes;
-#[cfg(test)]
-mod tests;
 
 pub use descriptors::{FileDescriptor, MessageDescriptor};
 pub use error::DescriptorError;

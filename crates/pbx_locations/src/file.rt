@@ -6,6 +6,7 @@ ghost use Rattle.pbx_token.specs.View.{tokens_of};
 ghost use Rattle.pbx_tree.specs.View.{syntax_of, top_of, file_of};
 ghost use Rattle.pbx_locations.specs.Locations.{extent_of, package_location, import_at, top_imports, message_at, top_messages, enum_at, top_enums, service_at, top_services, field_at, top_extensions, syntax_location, numbered, locations_in};
 
+use crate::count::location_count;
 use crate::enumeration::add_enum;
 use crate::field::add_extensions;
 use crate::message::add_message;
@@ -166,7 +167,7 @@ pub fn locations(alloc: Global, whole: Extent, file: &File<'_>) -> Result<List<L
     ensures { IfOk result (λ ls. ls ≡ locations_in whole (file_of file.now)) }
 {
     let tops = file.tops.as_slice();
-    let mut out = List::new(alloc);
+    let mut out = List::with_capacity(alloc, location_count(file))?;
     add(alloc, &mut out, &List::new(alloc), whole.from, whole.to)?;
     add_package(alloc, &mut out, tops)?;
     add_imports(alloc, &mut out, tops)?;

@@ -32,11 +32,11 @@ fn record(
     alloc: Global,
     name: &str,
     whole: Extent,
-    file: &File<'_>,
+    file: File<'_>,
 ) -> Result<FileDescriptorProto, NoMemory>
-    ensures { IfOk result (λ r. r ≡ translate_of name.now (file_of file.now) (locations_in whole (file_of file.now))) }
+    ensures { IfOk result (λ r. r ≡ translate_of name.now (file_of file.entry) (locations_in whole (file_of file.entry))) }
 {
-    let locations = locations(alloc, whole, file)?;
+    let locations = locations(alloc, whole, &file)?;
     translate(alloc, name, file, locations)
 }
 
@@ -64,7 +64,7 @@ pub fn parse(alloc: Global, name: &str, source: &str) -> Result<FileDescriptorPr
         Ok(file) => file,
         Err(error) => return Err(of_reading(alloc, name, source, tokens.as_slice(), error)),
     };
-    match record(alloc, name, whole(tokens), &file) {
+    match record(alloc, name, whole(tokens), file) {
         Ok(record) => Ok(record),
         Err(_) => Err(ParseError::NoMemory),
     }

@@ -157,7 +157,7 @@ fn some_settings<'a>(alloc: Global, cursor: &mut Cursor<'_, 'a>) -> Result<Setti
     let close = cursor.mark(b']')?;
     Ok(Settings {
         open,
-        settings,
+        settings: Box::new(alloc, settings)?,
         close,
     })
 }

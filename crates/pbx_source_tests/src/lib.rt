@@ -1,4 +1,5 @@
-//! Tests of `pbx_reader`, `pbx_locations` and `pbx_parse`, apart from them, since a crate with tests is proved twice.
+//! Tests of `pbx_token`, `pbx_tree`, `pbx_reader`, `pbx_locations` and `pbx_parse`, apart from them, since a crate with
+//! tests is proved twice.
 #![tactic(auto)]
 
 #[cfg(test)]
@@ -7,3 +8,7 @@ mod parsing;
 mod places;
 #[cfg(test)]
 mod reading;
+#[cfg(test)]
+mod tokens;
+#[cfg(test)]
+mod trees;

@@ -1,46 +1,49 @@
 //! Sources and their records, and what is said of sources that have none.
 
-use pbx_desc::Message;
+use hex::encode;
+use pbx_desc::{FileDescriptorProto, Message};
 use pbx_parse::{ParseError, parse};
 use std::alloc::Global;
 use std::process::Abort;
-use std::test::Fail;
-
-// Bytes in hexadecimal.
-fn hex(alloc: Global, bytes: &[u8]) -> Result<String, Fail> {
-    let mut text = String::new(alloc);
-    for byte in bytes {
-        text.push_str(format!(in alloc; "{byte:02x}")?.as_str())?;
-    }
-    Ok(text)
-}
 
 // The bytes of the record of a source, or its error.
-fn shown(rt: &impl Abort, alloc: Global, source: &str) -> Result<String, Fail> {
+fn shown(rt: &impl Abort, alloc: Global, source: &str) -> String {
     assert!(rt; source.len() <= 2147483647);
     match parse(alloc, "foo.proto", source) {
-        Ok(file) => hex(alloc, file.encode_to_vec(alloc)?.as_slice()),
-        Err(
-            ParseError::Syntax {
-                file,
-                line,
-                column,
-                expected,
-                found,
-            },
-        ) => {
-            let place = format!(in alloc; "{}:{line}:{column}", file.as_str())?;
+        Ok(file) => bytes_of(rt, alloc, &file),
+        Err(error) => told(rt, alloc, &error),
+    }
+}
+
+fn bytes_of(rt: &impl Abort, alloc: Global, file: &FileDescriptorProto) -> String {
+    let bytes = file.encode_to_vec(alloc).expect(rt, "memory");
+    encode(alloc, bytes).expect(rt, "memory")
+}
+
+fn told(rt: &impl Abort, alloc: Global, error: &ParseError) -> String {
+    match error {
+        ParseError::Syntax {
+            file,
+            line,
+            column,
+            expected,
+            found,
+        } => {
+            let file = file.as_str();
             let expected = expected.as_str();
             let found = found.as_str();
-            Ok(format!(in alloc; "{place}: expected {expected}, but found {found}")?)
+            let text = format!(in alloc;
+                "{file}:{line}:{column}: expected {expected}, but found {found}"
+            );
+            text.expect(rt, "memory")
         }
-        Err(ParseError::NoMemory) => Ok(String::from_str(alloc, "no memory")?),
+        ParseError::NoMemory => panic!(rt; "no memory"),
     }
 }
 
 // The records and the locations by the language specification, as protoc writes them.
 #[test]
-fn gives_records(rt: HostRuntime) -> Result<(), Fail> {
+fn gives_records(rt: HostRuntime) {
     for (source, want) in [
         (
             "message Foo { }",
@@ -59,25 +62,27 @@ fn gives_records(rt: HostRuntime) -> Result<(), Fail> {
             "0a09666f6f2e70726f746f1a096261722e70726f746f22150a03466f6f120e0a036261721801200132034261724a6e0a0512030000390a090a02030012030000130a090a02040012030014390a0a0a030400011203001c1f0a0b0a040400020012030022370a0c0a0504000200011203002f320a0c0a05040002000312030035360a0c0a050400020004120300222a0a0c0a0504000200061203002b2e",
         ),
     ] {
-        let got = shown(&rt, rt.alloc(), source)?;
+        let got = shown(&rt, rt.alloc(), source);
         assert_eq!(rt; got.as_str(), want, "at {source:?}");
     }
-    Ok(())
 }
 
 // Each source has an error of this place, with what could stand there and what does.
-fn refuse(rt: &impl Abort, alloc: Global, rows: &[(&str, &str, &str, &str)]) -> Result<(), Fail> {
+fn refuse(rt: &impl Abort, alloc: Global, rows: &[(&str, &str, &str, &str)]) {
     for (source, place, expected, found) in rows {
-        let got = shown(rt, alloc, source)?;
-        let want = format!(in alloc; "foo.proto:{place}: expected {expected}, but found {found}")?;
-        assert_eq!(rt; got.as_str(), want.as_str(), "at {source:?}");
+        let got = shown(rt, alloc, source);
+        let want = format!(in alloc; "foo.proto:{place}: expected {expected}, but found {found}");
+        assert_eq!(rt;
+            got.as_str(),
+            want.expect(rt, "memory").as_str(),
+            "at {source:?}"
+        );
     }
-    Ok(())
 }
 
 // A token that cannot stand where it does, or the end.
 #[test]
-fn refuses_tokens(rt: HostRuntime) -> Result<(), Fail> {
+fn refuses_tokens(rt: HostRuntime) {
     let top = "';' or a keyword that begins a statement";
     refuse(
         &rt,
@@ -128,12 +133,12 @@ fn refuses_tokens(rt: HostRuntime) -> Result<(), Fail> {
                 "'-'",
             ),
         ],
-    )
+    );
 }
 
 // Faults inside tokens, and those before which a token stands that cannot stand where it does.
 #[test]
-fn refuses_faults(rt: HostRuntime) -> Result<(), Fail> {
+fn refuses_faults(rt: HostRuntime) {
     let top = "';' or a keyword that begins a statement";
     let version = "\"proto2\" or \"proto3\"";
     let number = "a field number";
@@ -189,19 +194,18 @@ fn refuses_faults(rt: HostRuntime) -> Result<(), Fail> {
                 "'import'",
             ),
         ],
-    )
+    );
 }
 
 #[test]
-fn tells_places(rt: HostRuntime) -> Result<(), Fail> {
+fn tells_places(rt: HostRuntime) {
     let error = parse(rt.alloc(), "m.proto", "syntax\n =")
         .err()
-        .ok_or("a record")?;
+        .expect(&rt, "a record");
     assert_eq!(rt; error.file(), Some("m.proto"));
     assert_eq!(rt; error.line(), Some(2));
     assert_eq!(rt; error.column(), Some(3));
     assert!(rt; ParseError::NoMemory.file().is_none());
     assert_eq!(rt; ParseError::NoMemory.line(), None);
     assert_eq!(rt; ParseError::NoMemory.column(), None);
-    Ok(())
 }

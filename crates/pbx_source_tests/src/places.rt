@@ -21,6 +21,7 @@
 //! }
 //! ```
 
+use pbx_desc::Location;
 use pbx_locations::{file_extent, locations};
 use pbx_token::{Span, Token, Word};
 use pbx_tree::{
@@ -30,7 +31,7 @@ use pbx_tree::{
     Top, TypeName, Value,
 };
 use std::alloc::Global;
-use std::test::Fail;
+use std::process::Abort;
 
 /// What has no location.
 const NOWHERE: Span = Span {
@@ -51,25 +52,25 @@ fn literal(span: Span) -> Literal<'static> {
     Literal::new("", span)
 }
 
-fn full(alloc: Global, first: Span, others: &[Span]) -> Result<Separated<Name<'static>>, Fail> {
+fn full(rt: &impl Abort, alloc: Global, first: Span, others: &[Span]) -> Separated<Name<'static>> {
     let mut more = Vec::new(alloc);
     for other in others {
-        more.push((NOWHERE, name(*other)))?;
+        more.push((NOWHERE, name(*other))).expect(rt, "memory");
     }
-    Ok(Separated {
+    Separated {
         first: name(first),
         more,
-    })
+    }
 }
 
-fn type_name(alloc: Global, span: Span) -> Result<TypeName<'static>, Fail> {
-    Ok(TypeName {
+fn type_name(rt: &impl Abort, alloc: Global, span: Span) -> TypeName<'static> {
+    TypeName {
         dot: None,
-        full: full(alloc, span, &[])?,
-    })
+        full: full(rt, alloc, span, &[]),
+    }
 }
 
-fn settings(alloc: Global, open: Span, close: Span) -> Settings<'static> {
+fn settings(rt: &impl Abort, alloc: Global, open: Span, close: Span) -> Settings<'static> {
     let first = Setting {
         name: name(NOWHERE),
         equals: NOWHERE,
@@ -81,7 +82,7 @@ fn settings(alloc: Global, open: Span, close: Span) -> Settings<'static> {
     };
     Settings {
         open,
-        settings,
+        settings: Box::new(alloc, settings).expect(rt, "memory"),
         close,
     }
 }
@@ -114,109 +115,131 @@ fn extension(kind: Kind<'static>, label: Span, tail: Tail<'static>) -> Extension
     })
 }
 
-fn extend(alloc: Global, extension: Extension<'static>) -> Result<Extend<'static>, Fail> {
+fn extend(rt: &impl Abort, alloc: Global, extension: Extension<'static>) -> Extend<'static> {
     let mut extensions = Vec::new(alloc);
-    extensions.push(Extension::Empty(NOWHERE))?;
-    extensions.push(extension)?;
-    Ok(Extend {
+    extensions
+        .push(Extension::Empty(NOWHERE))
+        .expect(rt, "memory");
+    extensions.push(extension).expect(rt, "memory");
+    Extend {
         keyword: NOWHERE,
-        extendee: type_name(alloc, NOWHERE)?,
+        extendee: type_name(rt, alloc, NOWHERE),
         open: NOWHERE,
         extensions,
         close: NOWHERE,
-    })
+    }
 }
 
-fn map_field(alloc: Global) -> Result<MapField<'static>, Fail> {
-    Ok(MapField {
+fn map_field(rt: &impl Abort, alloc: Global) -> MapField<'static> {
+    MapField {
         keyword: at(4, 2, 5),
         open: NOWHERE,
         key: Scalar::Int32,
         key_span: NOWHERE,
         comma: NOWHERE,
-        value: Kind::Named(type_name(alloc, NOWHERE)?),
+        value: Kind::Named(type_name(rt, alloc, NOWHERE)),
         close: at(4, 14, 15),
         tail: tail(at(4, 16, 17), at(4, 20, 21), None, at(4, 21, 22)),
-    })
+    }
 }
 
-fn oneof(alloc: Global) -> Result<Oneof<'static>, Fail> {
-    let kind = Kind::Named(type_name(alloc, at(5, 12, 13))?);
+fn oneof(rt: &impl Abort, alloc: Global) -> Oneof<'static> {
+    let kind = Kind::Named(type_name(rt, alloc, at(5, 12, 13)));
     let tail = tail(at(5, 14, 15), at(5, 18, 19), None, at(5, 19, 20));
     let mut members = Vec::new(alloc);
-    members.push(Member::Field(kind, tail))?;
-    Ok(Oneof {
+    members.push(Member::Field(kind, tail)).expect(rt, "memory");
+    Oneof {
         keyword: at(5, 2, 7),
         name: name(at(5, 8, 9)),
         open: NOWHERE,
         members,
         close: at(5, 21, 22),
-    })
+    }
 }
 
-fn field(alloc: Global) -> Result<Field<'static>, Fail> {
-    let options = settings(alloc, at(7, 24, 25), at(8, 19, 20));
+fn field(rt: &impl Abort, alloc: Global) -> Field<'static> {
+    let options = settings(rt, alloc, at(7, 24, 25), at(8, 19, 20));
     let kind = TypeName {
         dot: Some(at(7, 11, 12)),
-        full: full(alloc, at(7, 12, 13), &[at(7, 14, 15), at(7, 16, 17)])?,
+        full: full(rt, alloc, at(7, 12, 13), &[at(7, 14, 15), at(7, 16, 17)]),
     };
-    Ok(Field {
+    Field {
         label: Some((Label::Repeated, at(7, 2, 10))),
         kind: Kind::Named(kind),
         tail: tail(at(7, 18, 19), at(7, 22, 23), Some(options), at(8, 20, 21)),
-    })
+    }
 }
 
-fn message(alloc: Global) -> Result<Message<'static>, Fail> {
-    let head = Head {
-        keyword: at(3, 0, 7),
-        name: name(at(3, 8, 9)),
+fn head(keyword: Span, named: Span) -> Head<'static> {
+    Head {
+        keyword,
+        name: name(named),
         open: NOWHERE,
-    };
-    let inner = Head {
-        keyword: at(6, 2, 9),
-        name: name(at(6, 10, 11)),
-        open: NOWHERE,
-    };
+    }
+}
+
+fn inner_extend(rt: &impl Abort, alloc: Global) -> Extend<'static> {
     let extension = extension(
         Kind::Scalar(Scalar::Int32, at(9, 22, 27)),
         at(9, 13, 21),
         tail(at(9, 28, 29), at(9, 32, 33), None, at(9, 33, 34)),
     );
-    let mut items = Vec::new(alloc);
-    items.push(Item::Map(map_field(alloc)?))?;
-    items.push(Item::Oneof(oneof(alloc)?))?;
-    items.push(Item::Message(inner, Vec::new(alloc), at(6, 14, 15)))?;
-    items.push(Item::Field(field(alloc)?))?;
-    items.push(Item::Extend(extend(alloc, extension)?))?;
-    Ok(Message {
-        head,
-        items,
-        close: at(10, 0, 1),
-    })
+    extend(rt, alloc, extension)
 }
 
-fn enumeration(alloc: Global) -> Result<Enum<'static>, Fail> {
+fn inner_message(alloc: Global) -> Item<'static> {
+    let head = head(at(6, 2, 9), at(6, 10, 11));
+    Item::Message(head, Vec::new(alloc), at(6, 14, 15))
+}
+
+fn message(rt: &impl Abort, alloc: Global) -> Message<'static> {
+    let mut items = Vec::new(alloc);
+    items
+        .push(Item::Map(map_field(rt, alloc)))
+        .expect(rt, "memory");
+    items
+        .push(Item::Oneof(oneof(rt, alloc)))
+        .expect(rt, "memory");
+    items.push(inner_message(alloc)).expect(rt, "memory");
+    items
+        .push(Item::Field(field(rt, alloc)))
+        .expect(rt, "memory");
+    items
+        .push(Item::Extend(inner_extend(rt, alloc)))
+        .expect(rt, "memory");
+    Message {
+        head: head(at(3, 0, 7), at(3, 8, 9)),
+        items,
+        close: at(10, 0, 1),
+    }
+}
+
+fn enumeration_value(rt: &impl Abort, alloc: Global) -> Value<'static> {
     let number = EnumNumber {
         minus: Some(at(11, 13, 14)),
         value: 1,
         span: at(11, 14, 15),
     };
-    let mut items = Vec::new(alloc);
-    items.push(EnumItem::Value(Value {
+    Value {
         name: name(at(11, 9, 10)),
         equals: NOWHERE,
         number,
-        settings: Some(settings(alloc, at(11, 16, 17), at(11, 34, 35))),
+        settings: Some(settings(rt, alloc, at(11, 16, 17), at(11, 34, 35))),
         end: at(11, 35, 36),
-    }))?;
-    Ok(Enum {
+    }
+}
+
+fn enumeration(rt: &impl Abort, alloc: Global) -> Enum<'static> {
+    let value = EnumItem::Value(enumeration_value(rt, alloc));
+    let mut items = Vec::new(alloc);
+    items.push(value).expect(rt, "memory");
+    Enum {
         keyword: at(11, 0, 4),
         name: name(at(11, 5, 6)),
         open: NOWHERE,
         items,
         close: at(11, 37, 38),
-    })
+    }
 }
 
 fn method_type(name: TypeName<'static>) -> MethodType<'static> {
@@ -228,75 +251,101 @@ fn method_type(name: TypeName<'static>) -> MethodType<'static> {
     }
 }
 
-fn service(alloc: Global) -> Result<Service<'static>, Fail> {
+fn first_method(rt: &impl Abort, alloc: Global) -> Method<'static> {
     let output = TypeName {
         dot: None,
-        full: full(alloc, at(15, 27, 28), &[at(15, 29, 30), at(15, 31, 32)])?,
+        full: full(rt, alloc, at(15, 27, 28), &[at(15, 29, 30), at(15, 31, 32)]),
     };
-    let mut items = Vec::new(alloc);
-    items.push(ServiceItem::Method(Method {
+    Method {
         keyword: at(15, 2, 5),
         name: name(at(15, 6, 7)),
-        input: method_type(type_name(alloc, at(15, 15, 16))?),
+        input: method_type(type_name(rt, alloc, at(15, 15, 16))),
         returns: NOWHERE,
         output: method_type(output),
         end: MethodEnd::Semicolon(at(15, 33, 34)),
-    }))?;
-    items.push(ServiceItem::Method(Method {
+    }
+}
+
+fn second_method(rt: &impl Abort, alloc: Global) -> Method<'static> {
+    Method {
         keyword: at(16, 2, 5),
         name: name(at(16, 6, 7)),
-        input: method_type(type_name(alloc, at(16, 8, 9))?),
+        input: method_type(type_name(rt, alloc, at(16, 8, 9))),
         returns: NOWHERE,
-        output: method_type(type_name(alloc, at(16, 20, 21))?),
+        output: method_type(type_name(rt, alloc, at(16, 20, 21))),
         end: MethodEnd::Block(NOWHERE, Vec::new(alloc), at(16, 25, 26)),
-    }))?;
-    Ok(Service {
+    }
+}
+
+fn service(rt: &impl Abort, alloc: Global) -> Service<'static> {
+    let mut items = Vec::new(alloc);
+    let first = ServiceItem::Method(first_method(rt, alloc));
+    items.push(first).expect(rt, "memory");
+    let second = ServiceItem::Method(second_method(rt, alloc));
+    items.push(second).expect(rt, "memory");
+    Service {
         keyword: at(14, 0, 7),
         name: name(at(14, 8, 9)),
         open: NOWHERE,
         items,
         close: at(17, 0, 1),
-    })
+    }
 }
 
 /// `extend M { optional E NAME = NUMBER; }` on a line.
-fn extend_line(alloc: Global, line: u32) -> Result<Top<'static>, Fail> {
+fn extend_line(rt: &impl Abort, alloc: Global, line: u32) -> Top<'static> {
     let extension = extension(
-        Kind::Named(type_name(alloc, at(line, 20, 21))?),
+        Kind::Named(type_name(rt, alloc, at(line, 20, 21))),
         at(line, 11, 19),
         tail(at(line, 22, 23), at(line, 26, 28), None, at(line, 28, 29)),
     );
-    Ok(Top::Extend(extend(alloc, extension)?))
+    Top::Extend(extend(rt, alloc, extension))
 }
 
-fn file(alloc: Global) -> Result<File<'static>, Fail> {
-    let mut tops = Vec::new(alloc);
-    tops.push(Top::Package(Package {
+fn package(rt: &impl Abort, alloc: Global) -> Package<'static> {
+    Package {
         keyword: at(1, 0, 7),
-        full: full(alloc, NOWHERE, &[])?,
+        full: full(rt, alloc, NOWHERE, &[]),
         end: at(1, 11, 12),
-    }))?;
-    tops.push(Top::Import(Import {
+    }
+}
+
+fn import() -> Import<'static> {
+    Import {
         keyword: at(2, 0, 6),
         modifier: None,
         path: literal(NOWHERE),
         end: at(2, 16, 17),
-    }))?;
-    tops.push(Top::Message(message(alloc)?))?;
-    tops.push(Top::Enum(enumeration(alloc)?))?;
-    tops.push(extend_line(alloc, 12)?)?;
-    tops.push(extend_line(alloc, 13)?)?;
-    tops.push(Top::Service(service(alloc)?))?;
+    }
+}
+
+fn tops(rt: &impl Abort, alloc: Global) -> Vec<Top<'static>> {
+    let mut tops = Vec::new(alloc);
+    tops.push(Top::Package(package(rt, alloc)))
+        .expect(rt, "memory");
+    tops.push(Top::Import(import())).expect(rt, "memory");
+    tops.push(Top::Message(message(rt, alloc)))
+        .expect(rt, "memory");
+    tops.push(Top::Enum(enumeration(rt, alloc)))
+        .expect(rt, "memory");
+    tops.push(extend_line(rt, alloc, 12)).expect(rt, "memory");
+    tops.push(extend_line(rt, alloc, 13)).expect(rt, "memory");
+    tops.push(Top::Service(service(rt, alloc)))
+        .expect(rt, "memory");
+    tops
+}
+
+fn file(rt: &impl Abort, alloc: Global) -> File<'static> {
     let syntax = Syntax {
         keyword: at(0, 0, 6),
         equals: NOWHERE,
         value: literal(NOWHERE),
         end: at(0, 17, 18),
     };
-    Ok(File {
+    File {
         syntax: Some(syntax),
-        tops,
-    })
+        tops: tops(rt, alloc),
+    }
 }
 
 /// Those of protoc that are listed, by their paths.
@@ -358,18 +407,24 @@ const WANTED: &str = "\
 [12] [0, 0, 18]
 ";
 
-fn shown(alloc: Global, tokens: &[Token<'_>], file: &File<'_>) -> Result<String, Fail> {
+fn line(rt: &impl Abort, alloc: Global, location: &Location) -> String {
+    let path = location.path.as_slice();
+    let span = location.span.as_slice();
+    format!(in alloc; "{path:?} {span:?}\n").expect(rt, "memory")
+}
+
+fn shown(rt: &impl Abort, alloc: Global, tokens: &[Token<'_>], file: &File<'_>) -> String {
+    let found = locations(alloc, file_extent(tokens), file).expect(rt, "memory");
     let mut out = String::new(alloc);
-    for location in locations(alloc, file_extent(tokens), file)?.as_slice() {
-        let path = location.path.as_slice();
-        let span = location.span.as_slice();
-        out.push_str(format!(in alloc; "{path:?} {span:?}\n")?.as_str())?;
+    for location in found.as_slice() {
+        out.push_str(line(rt, alloc, location).as_str())
+            .expect(rt, "memory");
     }
-    Ok(out)
+    out
 }
 
 #[test]
-fn are_as_protoc_has_them(rt: HostRuntime) -> Result<(), Fail> {
+fn are_as_protoc_has_them(rt: HostRuntime) {
     let first = Token {
         word: Word::Ident("syntax"),
         span: at(0, 0, 6),
@@ -378,18 +433,16 @@ fn are_as_protoc_has_them(rt: HostRuntime) -> Result<(), Fail> {
         word: Word::Mark(b'}'),
         span: at(17, 0, 1),
     };
-    let got = shown(rt.alloc(), &[first, last], &file(rt.alloc())?)?;
+    let got = shown(&rt, rt.alloc(), &[first, last], &file(&rt, rt.alloc()));
     assert_eq!(rt; got.as_str(), WANTED);
-    Ok(())
 }
 
 #[test]
-fn a_file_without_tokens_has_one(rt: HostRuntime) -> Result<(), Fail> {
+fn a_file_without_tokens_has_one(rt: HostRuntime) {
     let file = File {
         syntax: None,
         tops: Vec::new(rt.alloc()),
     };
-    let got = shown(rt.alloc(), &[], &file)?;
+    let got = shown(&rt, rt.alloc(), &[], &file);
     assert_eq!(rt; got.as_str(), "[] [0, 0, 0]\n");
-    Ok(())
 }

@@ -4,7 +4,6 @@ use pbx_reader::{ReadError, read_file};
 use pbx_token::{Span, Token, Word, lex};
 use std::alloc::Global;
 use std::process::Abort;
-use std::test::Fail;
 
 // The index of the token of this span.
 fn index_of(tokens: &[Token<'_>], place: Span) -> usize {
@@ -13,84 +12,111 @@ fn index_of(tokens: &[Token<'_>], place: Span) -> usize {
 }
 
 // Nothing for tokens that spell a file, else the index of the one that cannot stand there and what could.
-fn outcome(alloc: Global, tokens: &[Token<'_>]) -> Result<String, Fail> {
-    let (at, expected) = match read_file(alloc, tokens) {
-        Ok(_) => return Ok(String::new(alloc)),
-        Err(ReadError::NoMemory) => return Ok(String::from_str(alloc, "no memory")?),
-        Err(ReadError::Unexpected { at, expected }) => (at, expected),
-        Err(ReadError::Unfit(unfit)) => (index_of(tokens, unfit.place), unfit.expected),
+fn outcome(rt: &impl Abort, alloc: Global, tokens: &[Token<'_>]) -> String {
+    match read_file(alloc, tokens) {
+        Ok(_) => String::new(alloc),
+        Err(error) => refusal(rt, alloc, tokens, error),
+    }
+}
+
+fn refusal(rt: &impl Abort, alloc: Global, tokens: &[Token<'_>], error: ReadError) -> String {
+    let (at, expected) = match error {
+        ReadError::NoMemory => panic!(rt; "no memory"),
+        ReadError::Unexpected { at, expected } => (at, expected),
+        ReadError::Unfit(unfit) => (index_of(tokens, unfit.place), unfit.expected),
     };
     let words = expected.words();
-    Ok(format!(in alloc; "{at} {words}")?)
+    format!(in alloc; "{at} {words}").expect(rt, "memory")
 }
 
-fn expect(rt: &impl Abort, alloc: Global, source: &str, want: &str) -> Result<(), Fail> {
+fn expect(rt: &impl Abort, alloc: Global, source: &str, want: &str) {
     assert!(rt; source.len() < 2147483648);
-    let tokens = lex(alloc, source)?;
-    let got = outcome(alloc, tokens.as_slice())?;
+    let tokens = lex(alloc, source).expect(rt, "tokens");
+    let got = outcome(rt, alloc, tokens.as_slice());
     assert_eq!(rt; got.as_str(), want, "at {source:?}");
-    Ok(())
 }
 
-fn all_read(rt: &impl Abort, alloc: Global, rows: &[(&str, &str)]) -> Result<(), Fail> {
+fn expect_made(rt: &impl Abort, alloc: Global, source: String, want: &str) {
+    expect(rt, alloc, source.as_str(), want);
+}
+
+fn all_read(rt: &impl Abort, alloc: Global, rows: &[(&str, &str)]) {
     for (source, want) in rows {
-        expect(rt, alloc, source, want)?;
+        expect(rt, alloc, source, want);
     }
-    Ok(())
 }
 
 // The first tokens, and a mark that no form has.
-fn broken<'a>(alloc: Global, tokens: &[Token<'a>], count: usize) -> Result<Vec<Token<'a>>, Fail> {
+fn broken<'a>(
+    rt: &impl Abort,
+    alloc: Global,
+    tokens: &[Token<'a>],
+    count: usize,
+) -> Vec<Token<'a>> {
     let mut front = Vec::new(alloc);
     for token in tokens.iter().take(count) {
-        front.push(*token)?;
+        front.push(*token).expect(rt, "memory");
     }
-    front.push(Token {
-        word: Word::Mark(b'?'),
-        span: Span {
-            line: 9,
-            from: 0,
-            to: 1,
-        },
-    })?;
-    Ok(front)
+    front
+        .push(Token {
+            word: Word::Mark(b'?'),
+            span: Span {
+                line: 9,
+                from: 0,
+                to: 1,
+            },
+        })
+        .expect(rt, "memory");
+    front
+}
+
+// What comes of the first tokens and a mark that no form has.
+fn broken_outcome(rt: &impl Abort, alloc: Global, tokens: &[Token<'_>], count: usize) -> String {
+    let front = broken(rt, alloc, tokens, count);
+    outcome(rt, alloc, front.as_slice())
+}
+
+fn spelled(rt: &impl Abort, alloc: Global, row: &[(&str, &str)]) -> String {
+    let mut source = String::new(alloc);
+    for (token, _) in row {
+        source.push_str(token).expect(rt, "memory");
+        source.push_str(" ").expect(rt, "memory");
+    }
+    source
 }
 
 // Tokens with what could stand in place of each: they spell a file, and none with another token there.
-fn stops(rt: &impl Abort, alloc: Global, row: &[(&str, &str)]) -> Result<(), Fail> {
-    let mut source = String::new(alloc);
-    for (token, _) in row {
-        source.push_str(token)?;
-        source.push_str(" ")?;
-    }
-    let source = source.as_str();
-    expect(rt, alloc, source, "")?;
+fn stops(rt: &impl Abort, alloc: Global, row: &[(&str, &str)]) {
+    let source = spelled(rt, alloc, row);
+    expect(rt, alloc, source.as_str(), "");
+    stops_at_each(rt, alloc, source.as_str(), row);
+}
+
+fn stops_at_each(rt: &impl Abort, alloc: Global, source: &str, row: &[(&str, &str)]) {
     assert!(rt; source.len() < 2147483648);
-    let tokens = lex(alloc, source)?;
+    let tokens = lex(alloc, source).expect(rt, "tokens");
     for (k, (_, words)) in row.iter().enumerate() {
-        let front = broken(alloc, tokens.as_slice(), k)?;
-        let got = outcome(alloc, front.as_slice())?;
-        let want = format!(in alloc; "{k} {words}")?;
+        let got = broken_outcome(rt, alloc, tokens.as_slice(), k);
+        let want = format!(in alloc; "{k} {words}").expect(rt, "memory");
         assert_eq!(rt; got.as_str(), want.as_str(), "in {source:?}");
     }
-    Ok(())
 }
 
 // Messages in one another, so many.
-fn nested(alloc: Global, levels: usize) -> Result<String, Fail> {
+fn nested(rt: &impl Abort, alloc: Global, levels: usize) -> String {
     let mut source = String::new(alloc);
     for _ in 0..levels {
-        source.push_str("message A{")?;
+        source.push_str("message A{").expect(rt, "memory");
     }
     for _ in 0..levels {
-        source.push_str("}")?;
+        source.push_str("}").expect(rt, "memory");
     }
-    Ok(source)
+    source
 }
 
 // A word of a scalar type is that type, unless a dot stands before it.
 #[test]
-fn scalars(rt: HostRuntime) -> Result<(), Fail> {
+fn scalars(rt: HostRuntime) {
     let key = "5 an integer type, 'bool' or 'string'";
     for (word, as_key) in [
         ("double", key),
@@ -109,19 +135,30 @@ fn scalars(rt: HostRuntime) -> Result<(), Fail> {
         ("string", ""),
         ("bytes", key),
     ] {
-        let map = format!(in rt.alloc(); "message M{{map<{word},{word}>a=1;}}")?;
-        expect(&rt, rt.alloc(), map.as_str(), as_key)?;
-        let named = format!(in rt.alloc(); "extend {word}{{}}")?;
-        expect(&rt, rt.alloc(), named.as_str(), "1 a type")?;
-        let dotted = format!(in rt.alloc(); "extend.{word}{{required.{word} a=1;}}")?;
-        expect(&rt, rt.alloc(), dotted.as_str(), "")?;
+        expect_made(
+            &rt,
+            rt.alloc(),
+            format!(in rt.alloc(); "message M{{map<{word},{word}>a=1;}}").expect(&rt, "memory"),
+            as_key,
+        );
+        expect_made(
+            &rt,
+            rt.alloc(),
+            format!(in rt.alloc(); "extend {word}{{}}").expect(&rt, "memory"),
+            "1 a type",
+        );
+        expect_made(
+            &rt,
+            rt.alloc(),
+            format!(in rt.alloc(); "extend.{word}{{required.{word} a=1;}}").expect(&rt, "memory"),
+            "",
+        );
     }
-    Ok(())
 }
 
 // What a word begins in a message, where it is the type of a oneof's member.
 #[test]
-fn first_word_decides(rt: HostRuntime) -> Result<(), Fail> {
+fn first_word_decides(rt: HostRuntime) {
     for (word, want) in [
         ("message", "9 '{'"),
         ("enum", "9 '{'"),
@@ -137,10 +174,20 @@ fn first_word_decides(rt: HostRuntime) -> Result<(), Fail> {
         ("rpc", ""),
         ("Message", ""),
     ] {
-        let item = format!(in rt.alloc(); "syntax='proto3';message M{{{word} a=1;}}")?;
-        expect(&rt, rt.alloc(), item.as_str(), want)?;
-        let member = format!(in rt.alloc(); "message M{{oneof o{{{word} a=1;}}}}")?;
-        expect(&rt, rt.alloc(), member.as_str(), "")?;
+        expect_made(
+            &rt,
+            rt.alloc(),
+            format!(in rt.alloc(); "syntax='proto3';message M{{{word} a=1;}}").expect(
+                &rt, "memory",
+            ),
+            want,
+        );
+        expect_made(
+            &rt,
+            rt.alloc(),
+            format!(in rt.alloc(); "message M{{oneof o{{{word} a=1;}}}}").expect(&rt, "memory"),
+            "",
+        );
     }
     all_read(
         &rt,
@@ -167,11 +214,11 @@ fn first_word_decides(rt: HostRuntime) -> Result<(), Fail> {
                 "1 ';' or a keyword that begins a statement",
             ),
         ],
-    )
+    );
 }
 
 #[test]
-fn conditions(rt: HostRuntime) -> Result<(), Fail> {
+fn conditions(rt: HostRuntime) {
     all_read(
         &rt,
         rt.alloc(),
@@ -224,12 +271,12 @@ fn conditions(rt: HostRuntime) -> Result<(), Fail> {
                 "17 a known option",
             ),
         ],
-    )
+    );
 }
 
 // Options of a field of this type, where it has them.
 #[test]
-fn field_options(rt: HostRuntime) -> Result<(), Fail> {
+fn field_options(rt: HostRuntime) {
     for (kind, options, want) in [
         (
             "int32",
@@ -257,14 +304,19 @@ fn field_options(rt: HostRuntime) -> Result<(), Fail> {
             "13 an option that is not set yet",
         ),
     ] {
-        let source = format!(in rt.alloc(); "message M{{optional {kind} a=1[{options}];}}")?;
-        expect(&rt, rt.alloc(), source.as_str(), want)?;
+        expect_made(
+            &rt,
+            rt.alloc(),
+            format!(in rt.alloc(); "message M{{optional {kind} a=1[{options}];}}").expect(
+                &rt, "memory",
+            ),
+            want,
+        );
     }
-    Ok(())
 }
 
 #[test]
-fn borders(rt: HostRuntime) -> Result<(), Fail> {
+fn borders(rt: HostRuntime) {
     for (statement, want) in [
         ("optional int32 a=2147483647;", ""),
         ("optional int32 a=2147483648;", "7 a field number"),
@@ -297,25 +349,26 @@ fn borders(rt: HostRuntime) -> Result<(), Fail> {
         ("enum E{reserved -2147483649;}", "8 a 32-bit integer"),
         ("enum E{reserved 0 to 2147483648;}", "9 a 32-bit integer"),
     ] {
-        let source = format!(in rt.alloc(); "message M{{{statement}}}")?;
-        expect(&rt, rt.alloc(), source.as_str(), want)?;
+        expect_made(
+            &rt,
+            rt.alloc(),
+            format!(in rt.alloc(); "message M{{{statement}}}").expect(&rt, "memory"),
+            want,
+        );
     }
-    let deepest = nested(rt.alloc(), 31)?;
-    expect(&rt, rt.alloc(), deepest.as_str(), "")?;
-    let deeper = nested(rt.alloc(), 32)?;
-    expect(
+    expect_made(&rt, rt.alloc(), nested(&rt, rt.alloc(), 31), "");
+    expect_made(
         &rt,
         rt.alloc(),
-        deeper.as_str(),
+        nested(&rt, rt.alloc(), 32),
         "93 a message of at most 31 levels",
-    )
+    );
 }
 
-#[test]
-fn stops_in_statements(rt: HostRuntime) -> Result<(), Fail> {
+fn stops_in_syntax(rt: &impl Abort, alloc: Global) {
     stops(
-        &rt,
-        rt.alloc(),
+        rt,
+        alloc,
         &[
             ("syntax", "';' or a keyword that begins a statement"),
             ("=", "'='"),
@@ -323,18 +376,21 @@ fn stops_in_statements(rt: HostRuntime) -> Result<(), Fail> {
             (";", "';'"),
             ("", "';' or a keyword that begins a statement"),
         ],
-    )?;
+    );
     stops(
-        &rt,
-        rt.alloc(),
+        rt,
+        alloc,
         &[
             (";", "';' or a keyword that begins a statement"),
             ("", "';' or a keyword that begins a statement"),
         ],
-    )?;
+    );
+}
+
+fn stops_in_packages(rt: &impl Abort, alloc: Global) {
     stops(
-        &rt,
-        rt.alloc(),
+        rt,
+        alloc,
         &[
             ("package", "';' or a keyword that begins a statement"),
             ("a", "an identifier"),
@@ -343,10 +399,13 @@ fn stops_in_statements(rt: HostRuntime) -> Result<(), Fail> {
             (";", "';'"),
             ("", "';' or a keyword that begins a statement"),
         ],
-    )?;
+    );
+}
+
+fn stops_in_imports(rt: &impl Abort, alloc: Global) {
     stops(
-        &rt,
-        rt.alloc(),
+        rt,
+        alloc,
         &[
             ("import", "';' or a keyword that begins a statement"),
             ("'a'", "an import name in quotes"),
@@ -361,10 +420,13 @@ fn stops_in_statements(rt: HostRuntime) -> Result<(), Fail> {
             (";", "';'"),
             ("", "';' or a keyword that begins a statement"),
         ],
-    )?;
+    );
+}
+
+fn stops_in_options(rt: &impl Abort, alloc: Global) {
     stops(
-        &rt,
-        rt.alloc(),
+        rt,
+        alloc,
         &[
             ("option", "';' or a keyword that begins a statement"),
             ("java_package", "an identifier"),
@@ -373,10 +435,13 @@ fn stops_in_statements(rt: HostRuntime) -> Result<(), Fail> {
             (";", "';'"),
             ("", "';' or a keyword that begins a statement"),
         ],
-    )?;
+    );
+}
+
+fn stops_in_extends(rt: &impl Abort, alloc: Global) {
     stops(
-        &rt,
-        rt.alloc(),
+        rt,
+        alloc,
         &[
             ("extend", "';' or a keyword that begins a statement"),
             (".", "a type"),
@@ -394,11 +459,20 @@ fn stops_in_statements(rt: HostRuntime) -> Result<(), Fail> {
             ("}", "a label"),
             ("", "';' or a keyword that begins a statement"),
         ],
-    )
+    );
 }
 
 #[test]
-fn stops_in_enums(rt: HostRuntime) -> Result<(), Fail> {
+fn stops_in_statements(rt: HostRuntime) {
+    stops_in_syntax(&rt, rt.alloc());
+    stops_in_packages(&rt, rt.alloc());
+    stops_in_imports(&rt, rt.alloc());
+    stops_in_options(&rt, rt.alloc());
+    stops_in_extends(&rt, rt.alloc());
+}
+
+#[test]
+fn stops_in_enums(rt: HostRuntime) {
     stops(
         &rt,
         rt.alloc(),
@@ -438,11 +512,11 @@ fn stops_in_enums(rt: HostRuntime) -> Result<(), Fail> {
             ("}", "an identifier"),
             ("", "';' or a keyword that begins a statement"),
         ],
-    )
+    );
 }
 
 #[test]
-fn stops_in_services(rt: HostRuntime) -> Result<(), Fail> {
+fn stops_in_services(rt: HostRuntime) {
     stops(
         &rt,
         rt.alloc(),
@@ -491,14 +565,13 @@ fn stops_in_services(rt: HostRuntime) -> Result<(), Fail> {
             ("}", "';', 'rpc', 'option' or '}'"),
             ("", "';' or a keyword that begins a statement"),
         ],
-    )
+    );
 }
 
-#[test]
-fn stops_in_proto2_messages(rt: HostRuntime) -> Result<(), Fail> {
+fn stops_in_items(rt: &impl Abort, alloc: Global) {
     stops(
-        &rt,
-        rt.alloc(),
+        rt,
+        alloc,
         &[
             ("message", "';' or a keyword that begins a statement"),
             ("M", "an identifier"),
@@ -545,10 +618,13 @@ fn stops_in_proto2_messages(rt: HostRuntime) -> Result<(), Fail> {
             ("}", "a label"),
             ("", "';' or a keyword that begins a statement"),
         ],
-    )?;
+    );
+}
+
+fn stops_in_ranges(rt: &impl Abort, alloc: Global) {
     stops(
-        &rt,
-        rt.alloc(),
+        rt,
+        alloc,
         &[
             ("message", "';' or a keyword that begins a statement"),
             ("M", "an identifier"),
@@ -579,11 +655,17 @@ fn stops_in_proto2_messages(rt: HostRuntime) -> Result<(), Fail> {
             ("}", "a label"),
             ("", "';' or a keyword that begins a statement"),
         ],
-    )
+    );
 }
 
 #[test]
-fn stops_in_proto3_messages(rt: HostRuntime) -> Result<(), Fail> {
+fn stops_in_proto2_messages(rt: HostRuntime) {
+    stops_in_items(&rt, rt.alloc());
+    stops_in_ranges(&rt, rt.alloc());
+}
+
+#[test]
+fn stops_in_proto3_messages(rt: HostRuntime) {
     stops(
         &rt,
         rt.alloc(),
@@ -647,5 +729,5 @@ fn stops_in_proto3_messages(rt: HostRuntime) -> Result<(), Fail> {
             ("}", "a type"),
             ("", "';' or a keyword that begins a statement"),
         ],
-    )
+    );
 }

@@ -6,8 +6,6 @@ mod escape;
 mod lexer;
 mod piece;
 mod run;
-#[cfg(test)]
-mod tests;
 mod text;
 mod token;
 

@@ -1,5 +1,5 @@
 -- A file by its parts.
-use Rattle.std.proofs.Common.{◌≡◌, ℕ, List, [], map, Option, Some, ℤ, ap, ◌∙◌}
+use Rattle.std.proofs.Common.{◌≡◌, ℕ, List, [], map, Option, Some, ℤ}
 use Rattle.std.specs.List.{flat_map, filter_map}
 use Rattle.pbx_wire.specs.declared.rec.Rec.{Rec}
 use Rattle.pbx_desc.specs.declared.enumeration.EnumDescriptorProto.{EnumDescriptorProto}
@@ -10,17 +10,11 @@ use Rattle.pbx_desc.specs.declared.service.ServiceDescriptorProto.{ServiceDescri
 use Rattle.pbx_desc.specs.declared.source.Location.{Location}
 use Rattle.pbx_desc.specs.declared.source.SourceCodeInfo.{SourceCodeInfo}
 use Rattle.pbx_tree.specs.declared.tree.Modifier.TheVariants as modifiers
-use Rattle.pbx_tree.specs.declared.tree.Top as code_top
 use Rattle.pbx_tree.specs.declared.options.OptionPlace.TheVariants as places
 use Rattle.pbx_tree.specs.Conditions.{packages, top_setting}
-use Rattle.pbx_tree.specs.Tree.{Top, File}
-use Rattle.pbx_tree.specs.View.{top_of}
+use Rattle.pbx_tree.specs.Tree.{File}
 use Rattle.pbx_translation.specs.Settings.{options_of}
 use Rattle.pbx_translation.specs.Translation.{imports_in, messages_in, enums_in, extensions_in, services_in, import_name, indexes_from, version_in, syntax_name, package_name, translate_of}
-use Rattle.pbx_translation.proofs.Lists.{flat_seen}
-
-pub at_top : {A : Type 0} (f : Top → List A) (xs tops : List code_top.Top) (all : List A) → tops ≡ xs → all ≡ flat_map (λ t. f (top_of t)) tops → all ≡ flat_map f (map top_of xs)
-at_top f xs tops all same e = e ∙ ap (flat_map (λ t. f (top_of t))) same ∙ flat_seen f top_of xs
 
 pub file_made : (name text : List ℕ) (f : File) (locations : List Location) (full : Option (List ℕ)) (names : List (List ℕ)) (messages : List DescriptorProto) (enums : List EnumDescriptorProto) (services : List ServiceDescriptorProto)
     (extensions : List FieldDescriptorProto) (options : Option Options) (info : SourceCodeInfo) (publics weaks : List ℤ) (syntax : Option (List ℕ)) (unknown : List Rec)

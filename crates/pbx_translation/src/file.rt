@@ -1,22 +1,24 @@
 //! The record of a file.
 
-ghost use Rattle.std.specs.Prelude.{◌≡◌, [], map, option_map, unwrap_or, IfOk};
-ghost use Rattle.std.specs.List.{flat_map};
+ghost use Rattle.std.specs.Prelude.{◌≡◌, ◌++◌, [], map, option_map, unwrap_or, IfOk, OnOk};
+ghost use Rattle.std.specs.List.{flat_map, filter_map};
 ghost use Rattle.pbx_tree.specs.declared.tree.Version.TheVariants as versions;
-ghost use Rattle.pbx_tree.specs.Conditions.{version_of, packages};
+ghost use Rattle.pbx_tree.specs.declared.options.OptionPlace.TheVariants as places;
+ghost use Rattle.pbx_tree.specs.Conditions.{version_of, packages, top_setting};
 ghost use Rattle.pbx_tree.specs.View.{import_of, syntax_of, top_of, file_of};
+ghost use Rattle.pbx_translation.specs.Settings.{options_of};
 ghost use Rattle.pbx_translation.specs.Translation.{imports_in, messages_in, enums_in, extensions_in, services_in, import_name, has_modifier as has_modifier_of, indexes_from, syntax_name as syntax_name_of, package_name as package_name_of, translate_of};
 
 use crate::enums::enum_record;
 use crate::fields::{add_extensions, index};
 use crate::messages::{message_with, nested_types};
-use crate::passes::{Gives, all_given};
+use crate::passes::Gives;
 use crate::services::service_record;
 use crate::settings::options;
 use crate::texts::{full_text, string_text};
 use pbx_desc::{
     DescriptorProto, EnumDescriptorProto, FieldDescriptorProto, FileDescriptorProto, Location,
-    ServiceDescriptorProto, SourceCodeInfo,
+    Options, ServiceDescriptorProto, SourceCodeInfo,
 };
 use pbx_token::stands_for;
 use pbx_tree::{File, Import, Modifier, OptionPlace, Syntax, Top, Version, file_settings};
@@ -168,6 +170,14 @@ fn package_name(alloc: Global, tops: &[Top<'_>]) -> Result<Option<Text>, NoMemor
     Ok(None)
 }
 
+/// The options record of a file with these at its top.
+fn file_options(alloc: Global, tops: &[Top<'_>]) -> Result<Option<Options>, NoMemory>
+    ensures { IfOk result (λ set. set ≡ options_of places.File (filter_map top_setting (map top_of tops.now))) }
+{
+    let settings = file_settings(alloc, tops)?;
+    options(alloc, OptionPlace::File, settings.as_slice())
+}
+
 /// Where the parts of the file stand.
 fn source_code_info(alloc: Global, locations: List<Location>) -> SourceCodeInfo
     ensures { result ≡ record { location = locations; unknown = [] } }
@@ -177,31 +187,85 @@ fn source_code_info(alloc: Global, locations: List<Location>) -> SourceCodeInfo
     info
 }
 
+/// What stands at the top of a file, each sort in the order of the source.
+#[derive(Drop)]
+struct Declarations {
+    messages: List<DescriptorProto>,
+    enums: List<EnumDescriptorProto>,
+    services: List<ServiceDescriptorProto>,
+    extensions: List<FieldDescriptorProto>,
+}
+
+impl Declarations {
+    /// Nothing; takes no memory.
+    fn new(alloc: Global) -> Declarations
+        ensures { result ≡ record { messages = []; enums = []; services = []; extensions = [] } }
+    {
+        Declarations {
+            messages: List::new(alloc),
+            enums: List::new(alloc),
+            services: List::new(alloc),
+            extensions: List::new(alloc),
+        }
+    }
+
+    /// Adds what the top gives, which is of one sort.
+    fn add(&mut self, alloc: Global, version: Version, top: &Top<'_>) -> Result<(), NoMemory>
+        ensures messages { OnOk result (self.new.messages ≡ self.old.messages ++ messages_in version (top_of top.now)) }
+        ensures enums { OnOk result (self.new.enums ≡ self.old.enums ++ enums_in (top_of top.now)) }
+        ensures services { OnOk result (self.new.services ≡ self.old.services ++ services_in (top_of top.now)) }
+        ensures extensions { OnOk result (self.new.extensions ≡ self.old.extensions ++ extensions_in version (top_of top.now)) }
+    {
+        top.give(alloc, version, &mut self.messages)?;
+        top.give(alloc, version, &mut self.enums)?;
+        top.give(alloc, version, &mut self.services)?;
+        top.give(alloc, version, &mut self.extensions)
+    }
+}
+
+/// What the tops give. Each goes as soon as it has given, so the memory of the tree is there for the records.
+fn all_declared(
+    alloc: Global,
+    version: Version,
+    tops: Vec<Top<'_>>,
+) -> Result<Declarations, NoMemory>
+    ensures messages { IfOk result (λ all. all.messages ≡ flat_map (messages_in version) (map top_of tops.entry.items)) }
+    ensures enums { IfOk result (λ all. all.enums ≡ flat_map enums_in (map top_of tops.entry.items)) }
+    ensures services { IfOk result (λ all. all.services ≡ flat_map services_in (map top_of tops.entry.items)) }
+    ensures extensions { IfOk result (λ all. all.extensions ≡ flat_map (extensions_in version) (map top_of tops.entry.items)) }
+{
+    let mut all = Declarations::new(alloc);
+    'each: for top in tops {
+        all.add(alloc, version, &top)?;
+    }
+    Ok(all)
+}
+
 /// The descriptor record of a file of this name, with these locations. The only error is want of memory.
 pub fn translate(
     alloc: Global,
     name: &str,
-    file: &File<'_>,
+    file: File<'_>,
     locations: List<Location>,
 ) -> Result<FileDescriptorProto, NoMemory>
-    ensures { IfOk result (λ it. it ≡ translate_of name.now (file_of file.now) locations) }
+    ensures { IfOk result (λ it. it ≡ translate_of name.now (file_of file.entry) locations) }
 {
     let version = version(&file.syntax);
     let tops = file.tops.as_slice();
-    let settings = file_settings(alloc, tops)?;
     let imports = imports(alloc, tops)?;
     let mut record = FileDescriptorProto::new(alloc);
     record.name = Some(Text::from_str(alloc, name)?);
     record.package = package_name(alloc, tops)?;
     record.dependency = import_names(alloc, imports.as_slice())?;
-    record.message_type = all_given(alloc, version, tops)?;
-    record.enum_type = all_given(alloc, version, tops)?;
-    record.service = all_given(alloc, version, tops)?;
-    record.extension = all_given(alloc, version, tops)?;
-    record.options = options(alloc, OptionPlace::File, settings.as_slice())?;
+    record.options = file_options(alloc, tops)?;
     record.source_code_info = Some(source_code_info(alloc, locations));
     record.public_dependency = indexes(alloc, Modifier::Public, imports.as_slice())?;
     record.weak_dependency = indexes(alloc, Modifier::Weak, imports.as_slice())?;
     record.syntax = syntax_name(alloc, version)?;
+    let declared = all_declared(alloc, version, file.tops)?;
+    record.message_type = declared.messages;
+    record.enum_type = declared.enums;
+    record.service = declared.services;
+    record.extension = declared.extensions;
     Ok(record)
 }

@@ -99,7 +99,7 @@ abbrev pub setting_of : code_setting.Setting → Setting
 setting_of s = record { name = name_of s.name; equals = s.equals; value = constant_of s.value }
 
 abbrev pub settings_of : code_settings.Settings → Settings
-settings_of s = record { «open» = s.open; settings = separated_of setting_of s.settings; close = s.close }
+settings_of s = record { «open» = s.open; settings = separated_of setting_of s.settings.value; close = s.close }
 
 abbrev pub statement_of : code_statement.Statement → Statement
 statement_of s = record { keyword = s.keyword; setting = setting_of s.setting; end = s.end }

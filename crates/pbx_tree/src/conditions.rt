@@ -404,9 +404,10 @@ pub fn listed<'a>(
     let Some(list) = settings else {
         return Ok(Vec::new(alloc));
     };
+    let set = list.settings.as_ref();
     let mut all = Vec::new(alloc);
-    all.push(list.settings.first)?;
-    'each: for (_, setting) in &list.settings.more {
+    all.push(set.first)?;
+    'each: for (_, setting) in &set.more {
         all.push(*setting)?;
     }
     Ok(all)

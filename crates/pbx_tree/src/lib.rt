@@ -5,8 +5,6 @@ mod conditions;
 mod law;
 mod options;
 mod statements;
-#[cfg(test)]
-mod tests;
 mod tree;
 
 pub use conditions::{

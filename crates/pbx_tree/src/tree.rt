@@ -166,7 +166,8 @@ pub struct Setting<'a> {
 #[derive(Drop)]
 pub struct Settings<'a> {
     pub open: Span,
-    pub settings: Separated<Setting<'a>>,
+    // A box, since most fields have none, and each has the room of some.
+    pub settings: Box<Separated<Setting<'a>>>,
     pub close: Span,
 }
 

@@ -5,12 +5,11 @@ mod resolvers;
 
 use pbx_desc::FileDescriptorProto;
 use pbx_link::DescriptorPool;
-use pbx_wire::{NoMemory, Text, Texts};
+use pbx_wire::{Text, Texts};
 use protox_compile::Compiler;
 use protox_file::{Error, FileResolver, MemoryResolver};
 use std::alloc::Global;
 use std::process::Abort;
-use std::test::Fail;
 
 /// A file's name and its imports, as the source spells them.
 type FileRow<'a> = (&'a str, &'a [&'a str]);
@@ -18,51 +17,84 @@ type FileRow<'a> = (&'a str, &'a [&'a str]);
 /// A path to open, what that answers, and the files that are there then.
 type Step<'a> = (&'a str, &'a str, &'a str);
 
-/// A source that imports these, and no more.
-fn source(alloc: Global, imports: &[&str]) -> Result<Text, Fail> {
-    let mut text = String::from_str(alloc, "syntax = \"proto3\";")?;
-    for import in imports {
-        text.push_str(" import \"")?;
-        text.push_str(import)?;
-        text.push_str("\";")?;
-    }
-    Ok(Text::from_str(alloc, text.as_str())?)
+fn text_of(rt: &impl Abort, alloc: Global, text: &str) -> Text {
+    Text::from_str(alloc, text).expect(rt, "memory")
 }
 
-fn resolver_of(alloc: Global, rows: &[FileRow<'_>]) -> Result<MemoryResolver, Fail> {
+fn push(rt: &impl Abort, text: &mut String, more: &str) {
+    text.push_str(more).expect(rt, "memory");
+}
+
+/// A source that imports these, and no more.
+fn source(rt: &impl Abort, alloc: Global, imports: &[&str]) -> String {
+    let mut text = String::from_str(alloc, "syntax = \"proto3\";").expect(rt, "memory");
+    for import in imports {
+        push(rt, &mut text, " import \"");
+        push(rt, &mut text, import);
+        push(rt, &mut text, "\";");
+    }
+    text
+}
+
+/// Adds a file that imports these, and has no more.
+fn put_importing(
+    rt: &impl Abort,
+    alloc: Global,
+    resolver: &mut MemoryResolver,
+    name: &str,
+    imports: &[&str],
+) {
+    let source = source(rt, alloc, imports);
+    resolver.put(name, source.as_str()).expect(rt, "memory");
+}
+
+fn resolver_of(rt: &impl Abort, alloc: Global, rows: &[FileRow<'_>]) -> MemoryResolver {
     let mut resolver = MemoryResolver::new(alloc);
     for (name, imports) in rows {
-        resolver.put(name, source(alloc, imports)?.as_str())?;
+        put_importing(rt, alloc, &mut resolver, name, imports);
     }
-    Ok(resolver)
+    resolver
 }
 
-fn compiler_of(alloc: Global, resolver: MemoryResolver) -> Result<Compiler<MemoryResolver>, Fail> {
+fn compiler_of(
+    rt: &impl Abort,
+    alloc: Global,
+    resolver: MemoryResolver,
+) -> Compiler<MemoryResolver> {
     let compiler = Compiler::with_file_resolver(alloc, resolver).ok();
-    Ok(compiler.ok_or("no memory")?)
+    compiler.expect(rt, "memory")
+}
+
+/// A compiler over files of these imports.
+fn compiler_over(
+    rt: &impl Abort,
+    alloc: Global,
+    files: &[FileRow<'_>],
+) -> Compiler<MemoryResolver> {
+    compiler_of(rt, alloc, resolver_of(rt, alloc, files))
 }
 
 /// What an opening answers: the long line of its error.
-fn said(alloc: Global, answer: &Result<(), Error>) -> Result<Text, NoMemory> {
+fn said(rt: &impl Abort, alloc: Global, answer: &Result<(), Error>) -> Text {
     match answer {
-        Ok(()) => Text::from_str(alloc, "ok"),
-        Err(error) => error.long_line(alloc),
+        Ok(()) => text_of(rt, alloc, "ok"),
+        Err(error) => error.long_line(alloc).expect(rt, "memory"),
     }
 }
 
 /// The names of the files in order, with a mark where a file is an import.
-fn files_of<R: FileResolver>(alloc: Global, compiler: &Compiler<R>) -> Result<Text, Fail> {
+fn files_of<R: FileResolver>(rt: &impl Abort, alloc: Global, compiler: &Compiler<R>) -> String {
     let mut text = String::new(alloc);
     for file in compiler.files() {
         if !text.is_empty() {
-            text.push_str(" ")?;
+            push(rt, &mut text, " ");
         }
-        text.push_str(file.name())?;
+        push(rt, &mut text, file.name());
         if file.is_import() {
-            text.push_str("(import)")?;
+            push(rt, &mut text, "(import)");
         }
     }
-    Ok(Text::from_str(alloc, text.as_str())?)
+    text
 }
 
 fn name_of(record: &FileDescriptorProto) -> &str {
@@ -73,15 +105,15 @@ fn name_of(record: &FileDescriptorProto) -> &str {
 }
 
 /// The names of the records in order.
-fn records_of(alloc: Global, pool: &DescriptorPool) -> Result<Text, Fail> {
+fn records_of(rt: &impl Abort, alloc: Global, pool: &DescriptorPool) -> String {
     let mut text = String::new(alloc);
     for index in 0..pool.len() {
         if let Some(record) = pool.file_at(index) {
-            text.push_str(name_of(record))?;
-            text.push_str(";")?;
+            push(rt, &mut text, name_of(record));
+            push(rt, &mut text, ";");
         }
     }
-    Ok(Text::from_str(alloc, text.as_str())?)
+    text
 }
 
 /// Opens a path, and compares the answer and then the files.
@@ -90,13 +122,12 @@ fn expect<R: FileResolver>(
     alloc: Global,
     compiler: &mut Compiler<R>,
     step: Step<'_>,
-) -> Result<(), Fail> {
+) {
     let (path, answer, files) = step;
-    let got = said(alloc, &compiler.open_file(path))?;
+    let got = said(rt, alloc, &compiler.open_file(path));
     assert_eq!(rt; got.as_str(), answer, "at {path:?}");
-    let there = files_of(alloc, compiler)?;
+    let there = files_of(rt, alloc, compiler);
     assert_eq!(rt; there.as_str(), files, "after {path:?}");
-    Ok(())
 }
 
 /// Opens paths in order, each compared.
@@ -105,22 +136,16 @@ fn run<R: FileResolver>(
     alloc: Global,
     compiler: &mut Compiler<R>,
     steps: &[Step<'_>],
-) -> Result<(), Fail> {
+) {
     for step in steps {
-        expect(rt, alloc, compiler, *step)?;
+        expect(rt, alloc, compiler, *step);
     }
-    Ok(())
 }
 
 /// Opens paths in order over files of these imports, each compared.
-fn run_over(
-    rt: &impl Abort,
-    alloc: Global,
-    files: &[FileRow<'_>],
-    steps: &[Step<'_>],
-) -> Result<(), Fail> {
-    let mut compiler = compiler_of(alloc, resolver_of(alloc, files)?)?;
-    run(rt, alloc, &mut compiler, steps)
+fn run_over(rt: &impl Abort, alloc: Global, files: &[FileRow<'_>], steps: &[Step<'_>]) {
+    let mut compiler = compiler_over(rt, alloc, files);
+    run(rt, alloc, &mut compiler, steps);
 }
 
 /// Three files, of which each imports the next.
@@ -132,88 +157,86 @@ const CHAIN: [FileRow<'static>; 3] = [
 
 const CHAIN_DONE: &str = "dep2.proto(import) dep.proto(import) root.proto";
 
-#[test]
-fn imports_stand_before_their_importers(rt: HostRuntime) -> Result<(), Fail> {
-    let alloc = rt.alloc();
-    let files: [FileRow<'_>; 9] = [
-        ("root.proto", &["dep.proto"]),
-        ("dep.proto", &["dep2.proto"]),
-        ("dep2.proto", &[]),
-        ("both.proto", &["dep.proto", "dep2.proto"]),
-        ("turned.proto", &["dep2.proto", "dep.proto"]),
-        ("wide.proto", &["c.proto", "dir/b.proto"]),
-        ("c.proto", &["dir/b.proto"]),
-        ("dir/b.proto", &[]),
-        ("over.proto", &["c.proto", "dep2.proto"]),
-    ];
-    let rows: [&[Step<'_>]; 5] = [
-        &[
-            ("root.proto", "ok", CHAIN_DONE),
-            (
-                "dep2.proto",
-                "ok",
-                "dep2.proto dep.proto(import) root.proto",
-            ),
-            (
-                "dep2.proto",
-                "ok",
-                "dep2.proto dep.proto(import) root.proto",
-            ),
-        ],
-        &[(
-            "both.proto",
+/// Files whose imports meet again.
+const MEETING: [FileRow<'static>; 9] = [
+    ("root.proto", &["dep.proto"]),
+    ("dep.proto", &["dep2.proto"]),
+    ("dep2.proto", &[]),
+    ("both.proto", &["dep.proto", "dep2.proto"]),
+    ("turned.proto", &["dep2.proto", "dep.proto"]),
+    ("wide.proto", &["c.proto", "dir/b.proto"]),
+    ("c.proto", &["dir/b.proto"]),
+    ("dir/b.proto", &[]),
+    ("over.proto", &["c.proto", "dep2.proto"]),
+];
+
+/// Openings over the files that meet, each row over a compiler of its own.
+const MEETING_STEPS: [&[Step<'static>]; 5] = [
+    &[
+        ("root.proto", "ok", CHAIN_DONE),
+        (
+            "dep2.proto",
             "ok",
-            "dep2.proto(import) dep.proto(import) both.proto",
-        )],
-        &[(
-            "turned.proto",
+            "dep2.proto dep.proto(import) root.proto",
+        ),
+        (
+            "dep2.proto",
             "ok",
-            "dep2.proto(import) dep.proto(import) turned.proto",
-        )],
-        &[
-            (
-                "wide.proto",
-                "ok",
-                "dir/b.proto(import) c.proto(import) wide.proto",
-            ),
-            (
-                "dir//./b.proto/",
-                "ok",
-                "dir/b.proto c.proto(import) wide.proto",
-            ),
-        ],
-        &[
-            ("dep.proto", "ok", "dep2.proto(import) dep.proto"),
-            (
-                "over.proto",
-                "ok",
-                "dep2.proto(import) dep.proto dir/b.proto(import) c.proto(import) over.proto",
-            ),
-        ],
-    ];
-    for steps in rows {
-        run_over(&rt, alloc, &files, steps)?;
-    }
-    Ok(())
-}
+            "dep2.proto dep.proto(import) root.proto",
+        ),
+    ],
+    &[(
+        "both.proto",
+        "ok",
+        "dep2.proto(import) dep.proto(import) both.proto",
+    )],
+    &[(
+        "turned.proto",
+        "ok",
+        "dep2.proto(import) dep.proto(import) turned.proto",
+    )],
+    &[
+        (
+            "wide.proto",
+            "ok",
+            "dir/b.proto(import) c.proto(import) wide.proto",
+        ),
+        (
+            "dir//./b.proto/",
+            "ok",
+            "dir/b.proto c.proto(import) wide.proto",
+        ),
+    ],
+    &[
+        ("dep.proto", "ok", "dep2.proto(import) dep.proto"),
+        (
+            "over.proto",
+            "ok",
+            "dep2.proto(import) dep.proto dir/b.proto(import) c.proto(import) over.proto",
+        ),
+    ],
+];
 
 #[test]
-fn pools_hold_the_records(rt: HostRuntime) -> Result<(), Fail> {
-    let alloc = rt.alloc();
-    let mut resolver = resolver_of(alloc, &CHAIN)?;
-    resolver.put("more.proto", source(alloc, &["dep.proto"])?.as_str())?;
-    let mut compiler = compiler_of(alloc, resolver)?;
-    assert!(rt; compiler.descriptor_pool().is_empty());
-    expect(&rt, alloc, &mut compiler, ("root.proto", "ok", CHAIN_DONE))?;
-    let pool = compiler.descriptor_pool();
-    compiler.open_file("more.proto").ok().ok_or("refused")?;
-    let before = records_of(alloc, &pool)?;
-    assert_eq!(rt; before.as_str(), "dep2.proto;dep.proto;root.proto;");
-    let after = records_of(alloc, &compiler.descriptor_pool())?;
-    assert_eq!(rt;
-        after.as_str(),
-        "dep2.proto;dep.proto;root.proto;more.proto;"
-    );
+fn imports_stand_before_their_importers(rt: HostRuntime) {
+    for steps in MEETING_STEPS {
+        run_over(&rt, rt.alloc(), &MEETING, steps);
+    }
+}
+
+/// The chain, and one more file over its second.
+fn more_than_a_chain(rt: &impl Abort, alloc: Global) -> Compiler<MemoryResolver> {
+    let mut resolver = resolver_of(rt, alloc, &CHAIN);
+    put_importing(rt, alloc, &mut resolver, "more.proto", &["dep.proto"]);
+    compiler_of(rt, alloc, resolver)
+}
+
+fn expect_records(rt: &impl Abort, alloc: Global, pool: &DescriptorPool, want: &str) {
+    let records = records_of(rt, alloc, pool);
+    assert_eq!(rt; records.as_str(), want);
+}
+
+fn expect_compiled(rt: &impl Abort, compiler: &Compiler<MemoryResolver>) {
     for (name, want) in [
         ("dep2.proto", true),
         ("more.proto", true),
@@ -222,19 +245,52 @@ fn pools_hold_the_records(rt: HostRuntime) -> Result<(), Fail> {
     ] {
         assert_eq!(rt; compiler.is_compiled(name), want, "at {name:?}");
     }
-    Ok(())
-}
-
-fn texts(alloc: Global, rows: &[&str]) -> Result<Texts, NoMemory> {
-    let mut texts = Texts::new(alloc);
-    for row in rows {
-        texts.add(Text::from_str(alloc, row)?)?;
-    }
-    Ok(texts)
 }
 
 #[test]
-fn paths_are_opened_up_to_a_refusal(rt: HostRuntime) -> Result<(), Fail> {
+fn pools_hold_the_records(rt: HostRuntime) {
+    let alloc = rt.alloc();
+    let before = "dep2.proto;dep.proto;root.proto;";
+    let after = "dep2.proto;dep.proto;root.proto;more.proto;";
+    let mut compiler = more_than_a_chain(&rt, alloc);
+    assert!(rt; compiler.descriptor_pool().is_empty());
+    expect(&rt, alloc, &mut compiler, ("root.proto", "ok", CHAIN_DONE));
+    let pool = compiler.descriptor_pool();
+    compiler.open_file("more.proto").expect(&rt, "accepted");
+    expect_records(&rt, alloc, &pool, before);
+    expect_records(&rt, alloc, &compiler.descriptor_pool(), after);
+    expect_compiled(&rt, &compiler);
+}
+
+fn texts(rt: &impl Abort, alloc: Global, rows: &[&str]) -> Texts {
+    let mut texts = Texts::new(alloc);
+    for row in rows {
+        texts.add(text_of(rt, alloc, row)).expect(rt, "memory");
+    }
+    texts
+}
+
+/// What opening these answers.
+fn said_of_all(
+    rt: &impl Abort,
+    alloc: Global,
+    compiler: &mut Compiler<MemoryResolver>,
+    paths: &[&str],
+) -> Text {
+    let paths = texts(rt, alloc, paths);
+    said(rt, alloc, &compiler.open_files(&paths))
+}
+
+/// Opens these over the chain, and compares the answer and then the files.
+fn open_all(rt: &impl Abort, alloc: Global, paths: &[&str], answer: &str, files: &str) {
+    let mut compiler = compiler_over(rt, alloc, &CHAIN);
+    let got = said_of_all(rt, alloc, &mut compiler, paths);
+    assert_eq!(rt; got.as_str(), answer);
+    assert_eq!(rt; files_of(rt, alloc, &compiler).as_str(), files);
+}
+
+#[test]
+fn paths_are_opened_up_to_a_refusal(rt: HostRuntime) {
     let alloc = rt.alloc();
     let rows: [(&[&str], &str, &str); 4] = [
         (&[], "ok", ""),
@@ -255,35 +311,50 @@ fn paths_are_opened_up_to_a_refusal(rt: HostRuntime) -> Result<(), Fail> {
         ),
     ];
     for (paths, answer, files) in rows {
-        let mut compiler = compiler_of(alloc, resolver_of(alloc, &CHAIN)?)?;
-        let got = said(alloc, &compiler.open_files(&texts(alloc, paths)?))?;
-        assert_eq!(rt; got.as_str(), answer);
-        assert_eq!(rt; files_of(alloc, &compiler)?.as_str(), files);
+        open_all(&rt, alloc, paths, answer, files);
     }
-    Ok(())
+}
+
+/// The name of the file of that number.
+fn numbered(rt: &impl Abort, alloc: Global, index: u32) -> String {
+    format!(in alloc; "{index}.proto").expect(rt, "memory")
+}
+
+/// Adds the file of that number, which imports the file of another.
+fn put_numbered(
+    rt: &impl Abort,
+    alloc: Global,
+    resolver: &mut MemoryResolver,
+    index: u32,
+    import: u32,
+) {
+    let name = numbered(rt, alloc, index);
+    let import = numbered(rt, alloc, import);
+    put_importing(rt, alloc, resolver, name.as_str(), &[import.as_str()]);
 }
 
 /// Files from 0 on, of which each imports the one before.
-fn long_chain(alloc: Global, count: u32) -> Result<MemoryResolver, Fail> {
+fn long_chain(rt: &impl Abort, alloc: Global, count: u32) -> MemoryResolver {
     let mut resolver = MemoryResolver::new(alloc);
-    resolver.put("0.proto", "syntax = \"proto3\";")?;
+    put_importing(rt, alloc, &mut resolver, "0.proto", &[]);
     for index in 1..count {
-        let name = format!(in alloc; "{index}.proto")?;
-        let import = format!(in alloc; "{}.proto", index - 1)?;
-        resolver.put(name.as_str(), source(alloc, &[import.as_str()])?.as_str())?;
+        put_numbered(rt, alloc, &mut resolver, index, index - 1);
     }
-    Ok(resolver)
+    resolver
+}
+
+/// The records after the last of that many files is opened.
+fn long_pool(rt: &impl Abort, alloc: Global, count: u32, last: &str) -> DescriptorPool {
+    let mut compiler = compiler_of(rt, alloc, long_chain(rt, alloc, count));
+    compiler.open_file(last).expect(rt, "accepted");
+    compiler.descriptor_pool()
 }
 
 #[test]
-fn a_long_chain_is_finished(rt: HostRuntime) -> Result<(), Fail> {
-    let alloc = rt.alloc();
-    let mut compiler = compiler_of(alloc, long_chain(alloc, 4096)?)?;
-    compiler.open_file("4095.proto").ok().ok_or("refused")?;
-    let pool = compiler.descriptor_pool();
+fn a_long_chain_is_finished(rt: HostRuntime) {
+    let pool = long_pool(&rt, rt.alloc(), 4096, "4095.proto");
     assert_eq!(rt; pool.len(), 4096);
     for (index, name) in [(0, "0.proto"), (256, "256.proto"), (4095, "4095.proto")] {
         assert_eq!(rt; pool.file_at(index).map(name_of), Some(name));
     }
-    Ok(())
 }

@@ -1,7 +1,7 @@
 //! Files and resolvers, asked with ample memory.
 
 use pbx_desc::FileDescriptorProto;
-use pbx_wire::{NoMemory, Text};
+use pbx_wire::Text;
 use protox_file::{
     Error, File, FileMetadata, FileResolver, IncludeFileResolver, MemoryResolver, looked_up_once,
     names_name_themselves, path_to_file_name,
@@ -9,45 +9,48 @@ use protox_file::{
 use protox_io::MemoryDisk;
 use std::alloc::Global;
 use std::process::Abort;
-use std::test::Fail;
 
 const EMPTY: &str = "syntax = \"proto3\";";
 
 const SOURCE: &str = "syntax = \"proto3\"; message M { int32 foo = 1; }";
 
+fn text(rt: &impl Abort, alloc: Global, words: &str) -> Text {
+    Text::from_str(alloc, words).expect(rt, "memory")
+}
+
 /// A record of this name, and of nothing else.
-fn named(alloc: Global, name: &str) -> Result<FileDescriptorProto, NoMemory> {
+fn named(rt: &impl Abort, alloc: Global, name: &str) -> FileDescriptorProto {
     let mut record = FileDescriptorProto::new(alloc);
-    record.name = Some(Text::from_str(alloc, name)?);
-    Ok(record)
+    record.name = Some(text(rt, alloc, name));
+    record
 }
 
 /// What an answer says: the source of a file or else its name, the file of a fault of its text, or else the long line.
-fn said(alloc: Global, answer: &Result<File, Error>) -> Result<Text, NoMemory> {
+fn said(rt: &impl Abort, alloc: Global, answer: &Result<File, Error>) -> Text {
     match answer {
         Ok(file) => match file.source() {
-            Some(source) => Text::from_str(alloc, source),
-            None => Text::from_str(alloc, file.name()),
+            Some(source) => text(rt, alloc, source),
+            None => text(rt, alloc, file.name()),
         },
         Err(error) => match error.kind() {
             protox_file::ErrorKind::Parse(error) => {
-                Text::from_str(alloc, error.file().unwrap_or("no file"))
+                text(rt, alloc, error.file().unwrap_or("no file"))
             }
-            _ => error.long_line(alloc),
+            _ => error.long_line(alloc).expect(rt, "memory"),
         },
     }
 }
 
 /// What a resolver answers to a name.
-fn open<R: FileResolver>(resolver: &mut R, alloc: Global, name: &str) -> Result<Text, NoMemory> {
-    said(alloc, &resolver.open_file(alloc, name))
+fn open<R: FileResolver>(rt: &impl Abort, resolver: &mut R, alloc: Global, name: &str) -> Text {
+    said(rt, alloc, &resolver.open_file(alloc, name))
 }
 
 /// What a resolver makes of a path.
-fn resolve<R: FileResolver>(resolver: &R, alloc: Global, path: &str) -> Result<Text, NoMemory> {
-    match resolver.resolve_path(alloc, path)? {
-        Some(name) => Ok(name),
-        None => Text::from_str(alloc, "none"),
+fn resolve<R: FileResolver>(rt: &impl Abort, resolver: &R, alloc: Global, path: &str) -> Text {
+    match resolver.resolve_path(alloc, path).expect(rt, "memory") {
+        Some(name) => name,
+        None => text(rt, alloc, "none"),
     }
 }
 
@@ -69,21 +72,20 @@ fn is_source(rt: &impl Abort, file: &File) {
 }
 
 #[test]
-fn sources_are_files(rt: HostRuntime) -> Result<(), Fail> {
+fn sources_are_files(rt: HostRuntime) {
     let alloc = rt.alloc();
     looked_up_once();
-    let file = File::from_source(alloc, "m.proto", SOURCE)?;
+    let file = File::from_source(alloc, "m.proto", SOURCE).expect(&rt, "a file");
     is_source(&rt, &file);
-    is_source(&rt, &file.copy(alloc)?);
+    is_source(&rt, &file.copy(alloc).expect(&rt, "memory"));
     let refused = File::from_source(alloc, "m.proto", "message {");
     assert_eq!(rt; faulty_file(&refused), Some("m.proto"));
-    Ok(())
 }
 
 #[test]
-fn records_are_files(rt: HostRuntime) -> Result<(), Fail> {
+fn records_are_files(rt: HostRuntime) {
     let alloc = rt.alloc();
-    let file = File::from_file_descriptor_proto(named(alloc, "m.proto")?);
+    let file = File::from_file_descriptor_proto(named(&rt, alloc, "m.proto"));
     assert_eq!(rt; file.name(), "m.proto");
     assert_eq!(rt; file.path(), None);
     assert_eq!(rt; file.source(), None);
@@ -97,39 +99,53 @@ fn records_are_files(rt: HostRuntime) -> Result<(), Fail> {
     assert_eq!(rt; unnamed.name(), "");
     let record = FileDescriptorProto::from(unnamed);
     assert!(rt; record.name.is_none());
-    Ok(())
 }
 
 #[test]
-fn metadata_has_a_mark(rt: HostRuntime) -> Result<(), Fail> {
+fn metadata_has_a_mark(rt: HostRuntime) {
     let alloc = rt.alloc();
-    let name = Text::from_str(alloc, "m.proto")?;
-    let path = Text::from_str(alloc, "./m.proto")?;
+    let name = text(&rt, alloc, "m.proto");
+    let path = text(&rt, alloc, "./m.proto");
     let mut metadata = FileMetadata::new(name, Some(path), true);
     assert!(rt; metadata.is_import());
     metadata.set_import(false);
     assert!(rt; !metadata.is_import());
     assert_eq!(rt; metadata.name(), "m.proto");
     assert_eq!(rt; metadata.path(), Some("./m.proto"));
-    Ok(())
+}
+
+fn put(rt: &impl Abort, resolver: &mut MemoryResolver, name: &str, source: &str) {
+    resolver.put(name, source).expect(rt, "memory");
+}
+
+/// Puts a file whose record has another name.
+fn put_named(
+    rt: &impl Abort,
+    resolver: &mut MemoryResolver,
+    alloc: Global,
+    name: &str,
+    declared: &str,
+) {
+    let file = File::from(named(rt, alloc, declared));
+    resolver.put_file(name, file).expect(rt, "memory");
 }
 
 /// Files under five names.
-fn filled(alloc: Global) -> Result<MemoryResolver, Fail> {
+fn filled(rt: &impl Abort, alloc: Global) -> MemoryResolver {
     let mut resolver = MemoryResolver::new(alloc);
-    resolver.put("m.proto", EMPTY)?;
-    resolver.put("bad.proto", "message {")?;
-    resolver.put("m.proto", SOURCE)?;
-    resolver.put_file("a.proto", File::from(named(alloc, "b.proto")?))?;
-    resolver.put("c.proto", SOURCE)?;
-    resolver.put_file("c.proto", File::from(named(alloc, "later.proto")?))?;
-    Ok(resolver)
+    put(rt, &mut resolver, "m.proto", EMPTY);
+    put(rt, &mut resolver, "bad.proto", "message {");
+    put(rt, &mut resolver, "m.proto", SOURCE);
+    put_named(rt, &mut resolver, alloc, "a.proto", "b.proto");
+    put(rt, &mut resolver, "c.proto", SOURCE);
+    put_named(rt, &mut resolver, alloc, "c.proto", "later.proto");
+    resolver
 }
 
 /// Opens each name in turn, of which the listed one fails.
-fn opens_but_one(rt: &impl Abort, alloc: Global, listed: u64) -> Result<(), Fail> {
-    let mut resolver = filled(alloc)?;
-    resolver.fail_at(listed)?;
+fn opens_but_one(rt: &impl Abort, alloc: Global, listed: u64) {
+    let mut resolver = filled(rt, alloc);
+    resolver.fail_at(listed).expect(rt, "memory");
     let rows: [(u64, &str, &str); 5] = [
         (0, "m.proto", SOURCE),
         (1, "absent.proto", "file 'absent.proto' not found"),
@@ -143,76 +159,80 @@ fn opens_but_one(rt: &impl Abort, alloc: Global, listed: u64) -> Result<(), Fail
         } else {
             answer
         };
-        let got = open(&mut resolver, alloc, name)?;
+        let got = open(rt, &mut resolver, alloc, name);
         assert_eq!(rt; got.as_str(), want, "at {name}, where {listed} fails");
         assert!(rt; !resolver.spent());
     }
-    Ok(())
 }
 
 #[test]
-fn memory_answers_its_names(rt: HostRuntime) -> Result<(), Fail> {
+fn memory_answers_its_names(rt: HostRuntime) {
     for listed in [99, 0, 1, 2, 3, 4] {
-        opens_but_one(&rt, rt.alloc(), listed)?;
+        opens_but_one(&rt, rt.alloc(), listed);
     }
-    Ok(())
 }
 
 #[test]
-fn memory_counts_each_listed_open(rt: HostRuntime) -> Result<(), Fail> {
+fn memory_counts_each_listed_open(rt: HostRuntime) {
     let alloc = rt.alloc();
-    let mut resolver = filled(alloc)?;
-    resolver.fail_at(1)?;
-    resolver.fail_at(0)?;
+    let mut resolver = filled(&rt, alloc);
+    resolver.fail_at(1).expect(&rt, "memory");
+    resolver.fail_at(0).expect(&rt, "memory");
     for want in ["failed to load file!", "failed to load file!", SOURCE] {
-        let got = open(&mut resolver, alloc, "m.proto")?;
+        let got = open(&rt, &mut resolver, alloc, "m.proto");
         assert_eq!(rt; got.as_str(), want);
     }
-    Ok(())
 }
 
 /// Maps a path to a name that names itself.
-fn map(resolver: &mut MemoryResolver, alloc: Global, path: &str, name: &str) -> Result<(), Fail> {
+fn map(rt: &impl Abort, resolver: &mut MemoryResolver, alloc: Global, path: &str, name: &str) {
     names_name_themselves();
-    let name = path_to_file_name(alloc, name)?.ok_or("no name")?;
-    resolver.map(path, name.as_str())?;
-    Ok(())
+    let name = path_to_file_name(alloc, name).expect(rt, "memory");
+    let name = name.expect(rt, "no name");
+    resolver.map(path, name.as_str()).expect(rt, "memory");
 }
 
 #[test]
-fn memory_resolves_mapped_paths(rt: HostRuntime) -> Result<(), Fail> {
+fn memory_resolves_mapped_paths(rt: HostRuntime) {
     let alloc = rt.alloc();
-    let mut resolver = filled(alloc)?;
-    map(&mut resolver, alloc, "dir/m.proto", "a.proto")?;
-    map(&mut resolver, alloc, "/n.proto", "dir//n.proto")?;
-    map(&mut resolver, alloc, "dir/m.proto", "m.proto")?;
+    let mut resolver = filled(&rt, alloc);
+    map(&rt, &mut resolver, alloc, "dir/m.proto", "a.proto");
+    map(&rt, &mut resolver, alloc, "/n.proto", "dir//n.proto");
+    map(&rt, &mut resolver, alloc, "dir/m.proto", "m.proto");
     for (path, want) in [
         ("dir/m.proto", "m.proto"),
         ("/n.proto", "dir/n.proto"),
         ("./dir/m.proto", "none"),
         ("m.proto", "none"),
     ] {
-        let name = resolve(&resolver, alloc, path)?;
+        let name = resolve(&rt, &resolver, alloc, path);
         assert_eq!(rt; name.as_str(), want, "at {path}");
     }
-    Ok(())
 }
 
 /// The folder `.` of a disk with four files.
-fn folder(alloc: Global) -> Result<IncludeFileResolver<MemoryDisk>, Fail> {
+fn folder(rt: &impl Abort, alloc: Global) -> IncludeFileResolver<MemoryDisk> {
     let mut disk = MemoryDisk::new(alloc);
-    disk.put("m.proto", SOURCE.as_bytes())?;
-    disk.put("./g.proto", b"\xff")?;
-    disk.put("bad.proto", b"message {")?;
-    disk.put_oversized("big.proto")?;
-    disk.fail_at(5)?;
-    Ok(IncludeFileResolver::new(Text::from_str(alloc, ".")?, disk))
+    disk.put("m.proto", SOURCE.as_bytes()).expect(rt, "memory");
+    disk.put("./g.proto", b"\xff").expect(rt, "memory");
+    disk.put("bad.proto", b"message {").expect(rt, "memory");
+    disk.put_oversized("big.proto").expect(rt, "memory");
+    disk.fail_at(5).expect(rt, "memory");
+    IncludeFileResolver::new(text(rt, alloc, "."), disk)
+}
+
+/// The disk still has the source, and opens it under another name.
+fn is_kept(rt: &impl Abort, alloc: Global, mut disk: MemoryDisk) {
+    assert_eq!(rt; disk.get("m.proto"), Some(SOURCE.as_bytes()));
+    let file = File::open(alloc, &mut disk, "n.proto", "x/../m.proto").expect(rt, "a file");
+    assert_eq!(rt; file.name(), "n.proto");
+    assert_eq!(rt; file.path(), Some("x/../m.proto"));
 }
 
 #[test]
-fn folders_answer_their_names(rt: HostRuntime) -> Result<(), Fail> {
+fn folders_answer_their_names(rt: HostRuntime) {
     let alloc = rt.alloc();
-    let mut resolver = folder(alloc)?;
+    let mut resolver = folder(&rt, alloc);
     for (name, want) in [
         ("m.proto", SOURCE),
         ("absent.proto", "file 'absent.proto' not found"),
@@ -222,20 +242,15 @@ fn folders_answer_their_names(rt: HostRuntime) -> Result<(), Fail> {
         ("m.proto", "error opening file './m.proto': disk fault"),
         ("m.proto", SOURCE),
     ] {
-        let got = open(&mut resolver, alloc, name)?;
+        let got = open(&rt, &mut resolver, alloc, name);
         assert_eq!(rt; got.as_str(), want, "at {name}");
         assert!(rt; !resolver.spent());
     }
-    let mut disk = resolver.into_disk();
-    assert_eq!(rt; disk.get("m.proto"), Some(SOURCE.as_bytes()));
-    let file = File::open(alloc, &mut disk, "n.proto", "x/../m.proto")?;
-    assert_eq!(rt; file.name(), "n.proto");
-    assert_eq!(rt; file.path(), Some("x/../m.proto"));
-    Ok(())
+    is_kept(&rt, alloc, resolver.into_disk());
 }
 
 #[test]
-fn folders_resolve_paths_below(rt: HostRuntime) -> Result<(), Fail> {
+fn folders_resolve_paths_below(rt: HostRuntime) {
     let alloc = rt.alloc();
     let include = "/path/to/include";
     let rows: [(&str, &str, &str); 9] = [
@@ -251,9 +266,8 @@ fn folders_resolve_paths_below(rt: HostRuntime) -> Result<(), Fail> {
     ];
     for (folder, path, want) in rows {
         let disk = MemoryDisk::new(alloc);
-        let resolver = IncludeFileResolver::new(Text::from_str(alloc, folder)?, disk);
-        let name = resolve(&resolver, alloc, path)?;
+        let resolver = IncludeFileResolver::new(text(&rt, alloc, folder), disk);
+        let name = resolve(&rt, &resolver, alloc, path);
         assert_eq!(rt; name.as_str(), want, "at {path} below {folder}");
     }
-    Ok(())
 }

@@ -1,7 +1,9 @@
-//! Tests of `protox_file`, apart from it, since a crate with tests is proved twice.
+//! Tests of `protox_io` and `protox_file`, apart from them, since a crate with tests is proved twice.
 #![tactic(auto)]
 
 #[cfg(test)]
 mod errors;
 #[cfg(test)]
 mod files;
+#[cfg(test)]
+mod outside;

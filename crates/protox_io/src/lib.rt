@@ -8,8 +8,6 @@ mod memory_stream;
 mod read;
 mod real;
 mod stream;
-#[cfg(test)]
-mod tests;
 mod write;
 
 pub use disk::{Disk, DiskAnswer, DiskError};

@@ -6,6 +6,7 @@ ghost use Rattle.protox_file.specs.Told.{Absent};
 
 use crate::tests::{
     CHAIN, CHAIN_DONE, FileRow, Step, compiler_of, expect, files_of, resolver_of, run, said,
+    text_of,
 };
 use pbx_desc::FileDescriptorProto;
 use pbx_wire::{NoMemory, Text};
@@ -15,7 +16,7 @@ use protox_file::{
 };
 use protox_io::MemoryDisk;
 use std::alloc::Global;
-use std::test::Fail;
+use std::process::Abort;
 
 const FAULT: &str = "failed to load file!";
 
@@ -28,15 +29,16 @@ const WIDE: [FileRow<'static>; 4] = [
     ("c.proto", &[]),
 ];
 
-/// A compiler whose resolver fails at that call.
-fn failing(alloc: Global, call: u64) -> Result<Compiler<MemoryResolver>, Fail> {
-    let mut resolver = resolver_of(alloc, &WIDE)?;
-    resolver.fail_at(call)?;
-    compiler_of(alloc, resolver)
-}
-
-fn said_at_root(alloc: Global, compiler: &mut Compiler<MemoryResolver>) -> Result<Text, NoMemory> {
-    said(alloc, &compiler.open_file("root.proto"))
+/// A compiler over files of these imports whose resolver fails at that call.
+fn failing(
+    rt: &impl Abort,
+    alloc: Global,
+    files: &[FileRow<'_>],
+    call: u64,
+) -> Compiler<MemoryResolver> {
+    let mut resolver = resolver_of(rt, alloc, files);
+    resolver.fail_at(call).expect(rt, "memory");
+    compiler_of(rt, alloc, resolver)
 }
 
 /// Whether opening the root fails by a fault of the resolver.
@@ -47,8 +49,22 @@ fn fails_from_outside(compiler: &mut Compiler<MemoryResolver>) -> bool {
     }
 }
 
+/// Opens the root while the resolver fails, with these files after it.
+fn fail_at_root(
+    rt: &impl Abort,
+    alloc: Global,
+    compiler: &mut Compiler<MemoryResolver>,
+    call: u64,
+    files: &str,
+) {
+    let got = said(rt, alloc, &compiler.open_file("root.proto"));
+    assert_eq!(rt; got.as_str(), FAULT, "at {call}");
+    let there = files_of(rt, alloc, compiler);
+    assert_eq!(rt; there.as_str(), files, "at {call}");
+}
+
 #[test]
-fn failed_opens_keep_what_is_finished(rt: HostRuntime) -> Result<(), Fail> {
+fn failed_opens_keep_what_is_finished(rt: HostRuntime) {
     let alloc = rt.alloc();
     for (call, there) in [
         (0, ""),
@@ -56,35 +72,30 @@ fn failed_opens_keep_what_is_finished(rt: HostRuntime) -> Result<(), Fail> {
         (2, "a.proto(import)"),
         (3, "a.proto(import)"),
     ] {
-        let mut compiler = failing(alloc, call)?;
-        let got = said_at_root(alloc, &mut compiler)?;
-        assert_eq!(rt; got.as_str(), FAULT, "at {call}");
-        assert_eq!(rt; files_of(alloc, &compiler)?.as_str(), there, "at {call}");
-        expect(&rt, alloc, &mut compiler, ("root.proto", "ok", WIDE_DONE))?;
-        let mut again = failing(alloc, call)?;
+        let mut compiler = failing(&rt, alloc, &WIDE, call);
+        fail_at_root(&rt, alloc, &mut compiler, call, there);
+        expect(&rt, alloc, &mut compiler, ("root.proto", "ok", WIDE_DONE));
+        let mut again = failing(&rt, alloc, &WIDE, call);
         assert!(rt; fails_from_outside(&mut again), "at {call}");
     }
-    let mut compiler = failing(alloc, 4)?;
-    expect(&rt, alloc, &mut compiler, ("root.proto", "ok", WIDE_DONE))
+    let mut compiler = failing(&rt, alloc, &WIDE, 4);
+    expect(&rt, alloc, &mut compiler, ("root.proto", "ok", WIDE_DONE));
 }
 
 #[test]
-fn a_chain_fails_at_each_open(rt: HostRuntime) -> Result<(), Fail> {
+fn a_chain_fails_at_each_open(rt: HostRuntime) {
     let alloc = rt.alloc();
+    let steps: [Step<'_>; 2] = [("root.proto", FAULT, ""), ("root.proto", "ok", CHAIN_DONE)];
     for call in [0, 1, 2] {
-        let mut resolver = resolver_of(alloc, &CHAIN)?;
-        resolver.fail_at(call)?;
-        let mut compiler = compiler_of(alloc, resolver)?;
-        let steps: [Step<'_>; 2] = [("root.proto", FAULT, ""), ("root.proto", "ok", CHAIN_DONE)];
-        run(&rt, alloc, &mut compiler, &steps)?;
+        let mut compiler = failing(&rt, alloc, &CHAIN, call);
+        run(&rt, alloc, &mut compiler, &steps);
     }
-    Ok(())
 }
 
-fn refused_line(alloc: Global, resolver: &mut MemoryResolver) -> Result<Text, NoMemory> {
+fn refused_line(rt: &impl Abort, alloc: Global, resolver: &mut MemoryResolver) -> Text {
     match resolver.open_file(alloc, "dep.proto") {
-        Ok(_) => Text::from_str(alloc, "opened"),
-        Err(error) => error.long_line(alloc),
+        Ok(_) => text_of(rt, alloc, "opened"),
+        Err(error) => error.long_line(alloc).expect(rt, "memory"),
     }
 }
 
@@ -96,35 +107,31 @@ fn opens_dep(alloc: Global, resolver: &mut MemoryResolver) -> bool {
 }
 
 #[test]
-fn the_resolver_comes_back(rt: HostRuntime) -> Result<(), Fail> {
+fn the_resolver_comes_back(rt: HostRuntime) {
     let alloc = rt.alloc();
-    let mut resolver = resolver_of(alloc, &CHAIN)?;
-    resolver.fail_at(3)?;
-    let mut compiler = compiler_of(alloc, resolver)?;
-    expect(&rt, alloc, &mut compiler, ("root.proto", "ok", CHAIN_DONE))?;
+    let mut compiler = failing(&rt, alloc, &CHAIN, 3);
+    expect(&rt, alloc, &mut compiler, ("root.proto", "ok", CHAIN_DONE));
     let mut resolver = compiler.into_resolver();
-    let fourth = refused_line(alloc, &mut resolver)?;
+    let fourth = refused_line(&rt, alloc, &mut resolver);
     assert_eq!(rt; fourth.as_str(), FAULT);
     assert!(rt; opens_dep(alloc, &mut resolver));
-    Ok(())
 }
 
 /// A record of this name that imports these.
-fn importing(alloc: Global, name: &str, imports: &[&str]) -> Result<File, NoMemory> {
+fn importing(rt: &impl Abort, alloc: Global, name: &str, imports: &[&str]) -> File {
     let mut record = FileDescriptorProto::new(alloc);
-    record.name = Some(Text::from_str(alloc, name)?);
-    record.syntax = Some(Text::from_str(alloc, "proto3")?);
+    record.name = Some(text_of(rt, alloc, name));
+    record.syntax = Some(text_of(rt, alloc, "proto3"));
     for import in imports {
-        record.dependency.add(Text::from_str(alloc, import)?)?;
+        let import = text_of(rt, alloc, import);
+        record.dependency.add(import).expect(rt, "memory");
     }
-    Ok(File::from(record))
+    File::from(record)
 }
 
-/// Names with a space, a line break and letters beyond ASCII.
-#[test]
-fn names_may_have_any_characters(rt: HostRuntime) -> Result<(), Fail> {
-    let alloc = rt.alloc();
-    let mut resolver = resolver_of(alloc, &[("\u{e9}\u{6f22}.proto", &[])])?;
+/// A source and records whose names have any characters.
+fn any_names(rt: &impl Abort, alloc: Global) -> MemoryResolver {
+    let mut resolver = resolver_of(rt, alloc, &[("\u{e9}\u{6f22}.proto", &[])]);
     let rows: [FileRow<'_>; 4] = [
         ("a b.proto", &["c\nd.proto", "\u{e9}\u{6f22}.proto"]),
         ("c\nd.proto", &["\u{e9}\u{6f22}.proto"]),
@@ -132,8 +139,16 @@ fn names_may_have_any_characters(rt: HostRuntime) -> Result<(), Fail> {
         ("\u{1f600}", &["\u{1f600}"]),
     ];
     for (name, imports) in rows {
-        resolver.put_file(name, importing(alloc, name, imports)?)?;
+        let file = importing(rt, alloc, name, imports);
+        resolver.put_file(name, file).expect(rt, "memory");
     }
+    resolver
+}
+
+/// Names with a space, a line break and letters beyond ASCII.
+#[test]
+fn names_may_have_any_characters(rt: HostRuntime) {
+    let alloc = rt.alloc();
     let done = "\u{e9}\u{6f22}.proto(import) c\nd.proto(import) a b.proto";
     let steps: [Step<'_>; 3] = [
         ("a b.proto", "ok", done),
@@ -144,35 +159,50 @@ fn names_may_have_any_characters(rt: HostRuntime) -> Result<(), Fail> {
             done,
         ),
     ];
-    let mut compiler = compiler_of(alloc, resolver)?;
-    run(&rt, alloc, &mut compiler, &steps)
+    let mut compiler = compiler_of(&rt, alloc, any_names(&rt, alloc));
+    run(&rt, alloc, &mut compiler, &steps);
 }
 
 /// Maps a path to a name that names itself.
-fn map(resolver: &mut MemoryResolver, alloc: Global, path: &str, name: &str) -> Result<(), Fail> {
+fn map(rt: &impl Abort, alloc: Global, resolver: &mut MemoryResolver, path: &str, name: &str) {
     names_name_themselves();
-    let name = path_to_file_name(alloc, name)?.ok_or("no name")?;
-    resolver.map(path, name.as_str())?;
-    Ok(())
+    let name = path_to_file_name(alloc, name).expect(rt, "memory");
+    let name = name.expect(rt, "a name");
+    resolver.map(path, name.as_str()).expect(rt, "memory");
+}
+
+/// The file `foo.proto` of the path `include/foo.proto`.
+fn foo(rt: &impl Abort, alloc: Global) -> File {
+    let path = "include/foo.proto";
+    let mut disk = MemoryDisk::new(alloc);
+    disk.put(path, b"syntax = \"proto3\";").expect(rt, "memory");
+    File::open(alloc, &mut disk, "foo.proto", path).expect(rt, "accepted")
 }
 
 /// The file `foo.proto` of the path `include/foo.proto`, three paths of it, and a file that imports it.
-fn mapped(alloc: Global) -> Result<MemoryResolver, Fail> {
-    let path = "include/foo.proto";
-    let mut disk = MemoryDisk::new(alloc);
-    disk.put(path, b"syntax = \"proto3\";")?;
-    let mut resolver = resolver_of(alloc, &[("root.proto", &["foo.proto"])])?;
-    let file = File::open(alloc, &mut disk, "foo.proto", path).ok();
-    resolver.put_file("foo.proto", file.ok_or("refused")?)?;
-    map(&mut resolver, alloc, "./foo.proto", "foo.proto")?;
-    map(&mut resolver, alloc, "include/./foo.proto", "foo.proto")?;
-    map(&mut resolver, alloc, "/root", "root.proto")?;
-    map(&mut resolver, alloc, "/gone", "gone.proto")?;
-    Ok(resolver)
+fn mapped(rt: &impl Abort, alloc: Global) -> Compiler<MemoryResolver> {
+    let mut resolver = resolver_of(rt, alloc, &[("root.proto", &["foo.proto"])]);
+    let foo = foo(rt, alloc);
+    resolver.put_file("foo.proto", foo).expect(rt, "memory");
+    for (path, name) in [
+        ("./foo.proto", "foo.proto"),
+        ("include/./foo.proto", "foo.proto"),
+        ("/root", "root.proto"),
+        ("/gone", "gone.proto"),
+    ] {
+        map(rt, alloc, &mut resolver, path, name);
+    }
+    compiler_of(rt, alloc, resolver)
+}
+
+fn expect_paths(rt: &impl Abort, compiler: &Compiler<MemoryResolver>) {
+    let mut paths = compiler.files().map(|file| file.path());
+    assert_eq!(rt; paths.next(), Some(Some("include/foo.proto")));
+    assert_eq!(rt; paths.next(), Some(None));
 }
 
 #[test]
-fn paths_may_be_shadowed(rt: HostRuntime) -> Result<(), Fail> {
+fn paths_may_be_shadowed(rt: HostRuntime) {
     let alloc = rt.alloc();
     let shadowed = "path './foo.proto' is shadowed by 'include/foo.proto' in the include paths";
     let rows: [&[Step<'_>]; 4] = [
@@ -194,15 +224,12 @@ fn paths_may_be_shadowed(rt: HostRuntime) -> Result<(), Fail> {
         &[("/gone", "file '/gone' is not in any include path", "")],
     ];
     for steps in rows {
-        let mut compiler = compiler_of(alloc, mapped(alloc)?)?;
-        run(&rt, alloc, &mut compiler, steps)?;
+        let mut compiler = mapped(&rt, alloc);
+        run(&rt, alloc, &mut compiler, steps);
     }
-    let mut compiler = compiler_of(alloc, mapped(alloc)?)?;
-    compiler.open_file("root.proto").ok().ok_or("refused")?;
-    let mut paths = compiler.files().map(|file| file.path());
-    assert_eq!(rt; paths.next(), Some(Some("include/foo.proto")));
-    assert_eq!(rt; paths.next(), Some(None));
-    Ok(())
+    let mut compiler = mapped(&rt, alloc);
+    compiler.open_file("root.proto").expect(&rt, "accepted");
+    expect_paths(&rt, &compiler);
 }
 
 /// A resolver that gives the same source to the first name, and nothing to a later one.
@@ -271,11 +298,20 @@ impl FileResolver for Never {
     }
 }
 
-#[test]
-fn resolvers_need_not_tell(rt: HostRuntime) -> Result<(), Fail> {
-    let alloc = rt.alloc();
+fn run_once(rt: &impl Abort, alloc: Global, steps: &[Step<'_>]) {
     let once = Compiler::with_file_resolver(alloc, Once { given: false }).ok();
-    let mut compiler = once.ok_or("no memory")?;
+    let mut compiler = once.expect(rt, "memory");
+    run(rt, alloc, &mut compiler, steps);
+}
+
+fn run_never(rt: &impl Abort, alloc: Global, steps: &[Step<'_>]) {
+    let never = Compiler::with_file_resolver(alloc, Never).ok();
+    let mut compiler = never.expect(rt, "memory");
+    run(rt, alloc, &mut compiler, steps);
+}
+
+#[test]
+fn resolvers_need_not_tell(rt: HostRuntime) {
     let absent = "file 'b.proto' is not in any include path";
     let steps: [Step<'_>; 4] = [
         ("a.proto", "ok", "a.proto"),
@@ -283,9 +319,7 @@ fn resolvers_need_not_tell(rt: HostRuntime) -> Result<(), Fail> {
         ("a.proto", "ok", "a.proto"),
         ("b.proto", absent, "a.proto"),
     ];
-    run(&rt, alloc, &mut compiler, &steps)?;
-    let never = Compiler::with_file_resolver(alloc, Never).ok();
-    let mut compiler = never.ok_or("no memory")?;
+    run_once(&rt, rt.alloc(), &steps);
     let steps: [Step<'_>; 2] = [("a.proto", "no answer", ""), ("a.proto", "no answer", "")];
-    run(&rt, alloc, &mut compiler, &steps)
+    run_never(&rt, rt.alloc(), &steps);
 }

@@ -1,43 +1,46 @@
 //! Tokens of the public language specification's lexical elements, and where a fault lies.
 
-use crate::{LexError, Span, Token, Word, lex, stands_for, stands_for_text, unescape};
+use pbx_token::{LexError, Span, Token, Word, lex, stands_for, stands_for_text, unescape};
 use std::alloc::Global;
 use std::process::Abort;
-use std::test::Fail;
 
 // The source's tokens, each as text, or its fault with the number of bytes left.
-fn shown(rt: &impl Abort, alloc: Global, source: &str) -> Result<String, Fail> {
+fn shown(rt: &impl Abort, alloc: Global, source: &str) -> String {
     assert!(rt; source.len() < 2147483648);
-    let mut out = String::new(alloc);
     match lex(alloc, source) {
-        Ok(tokens) => {
-            for token in &tokens {
-                show(alloc, &mut out, *token)?;
-            }
-        }
+        Ok(tokens) => all_shown(rt, alloc, tokens.as_slice()),
         Err(LexError::Fault { left, begun, fault }) => {
-            out.push_str(format!(in alloc; "{left} of {begun} left, lacks {fault:?}")?.as_str())?;
+            let text = format!(in alloc; "{left} of {begun} left, lacks {fault:?}");
+            text.expect(rt, "memory")
         }
-        Err(LexError::NoMemory) => out.push_str("no memory")?,
+        Err(LexError::NoMemory) => panic!(rt; "no memory"),
     }
-    Ok(out)
 }
 
-fn show(alloc: Global, out: &mut String, token: Token<'_>) -> Result<(), Fail> {
-    match token.word {
-        Word::Ident(text) => out.push_str(format!(in alloc; " {text}")?.as_str())?,
-        Word::Int(value) => out.push_str(format!(in alloc; " #{value}")?.as_str())?,
-        Word::Str(text) => {
-            let bytes = unescape(alloc, text)?;
-            out.push_str(format!(in alloc; " {text} {bytes:?}")?.as_str())?;
-        }
-        Word::Mark(mark) => out.push_str(format!(in alloc; " {}", mark as char)?.as_str())?,
+fn all_shown(rt: &impl Abort, alloc: Global, tokens: &[Token<'_>]) -> String {
+    let mut out = String::new(alloc);
+    for token in tokens {
+        let text = token_shown(rt, alloc, *token);
+        out.push_str(text.as_str()).expect(rt, "memory");
     }
-    Ok(())
+    out
+}
+
+fn token_shown(rt: &impl Abort, alloc: Global, token: Token<'_>) -> String {
+    let text = match token.word {
+        Word::Ident(text) => format!(in alloc; " {text}"),
+        Word::Int(value) => format!(in alloc; " #{value}"),
+        Word::Str(text) => {
+            let bytes = unescape(alloc, text).expect(rt, "memory");
+            format!(in alloc; " {text} {bytes:?}")
+        }
+        Word::Mark(mark) => format!(in alloc; " {}", mark as char),
+    };
+    text.expect(rt, "memory")
 }
 
 #[test]
-fn reads_tokens(rt: HostRuntime) -> Result<(), Fail> {
+fn reads_tokens(rt: HostRuntime) {
     for (source, want) in [
         ("", ""),
         (" \t\n\r\u{b}\u{c}", ""),
@@ -73,15 +76,14 @@ fn reads_tokens(rt: HostRuntime) -> Result<(), Fail> {
         ("a + b", "3 of 3 left, lacks Token"),
         ("a \0", "1 of 1 left, lacks Token"),
     ] {
-        let got = shown(&rt, rt.alloc(), source)?;
+        let got = shown(&rt, rt.alloc(), source);
         assert_eq!(rt; got.as_str(), want, "at {source:?}");
     }
-    Ok(())
 }
 
 // Strings as written and the bytes that they stand for.
 #[test]
-fn reads_escapes(rt: HostRuntime) -> Result<(), Fail> {
+fn reads_escapes(rt: HostRuntime) {
     for (source, want) in [
         (
             r"'\n\r\t\a\b\f\v'",
@@ -111,25 +113,23 @@ fn reads_escapes(rt: HostRuntime) -> Result<(), Fail> {
         ("'\\\n'", "2 of 4 left, lacks Quote(39)"),
         ("'\\\0'", "2 of 4 left, lacks Quote(39)"),
     ] {
-        let got = shown(&rt, rt.alloc(), source)?;
+        let got = shown(&rt, rt.alloc(), source);
         assert_eq!(rt; got.as_str(), want, "at {source:?}");
     }
     assert!(rt; stands_for(r"proto\x33", b"proto3"));
     assert!(rt; !stands_for("proto2", b"proto3"));
     assert!(rt; stands_for_text(r"é\303\251\xf0\x9f\x98\x80"));
     assert!(rt; !stands_for_text(r"\xed\xa0\x80"));
-    Ok(())
 }
 
 #[test]
-fn keeps_places(rt: HostRuntime) -> Result<(), Fail> {
-    let tokens = lex(rt.alloc(), "a\r\n  bc /* é\n*/ 'd' // e\n;")?;
+fn keeps_places(rt: HostRuntime) {
+    let tokens = lex(rt.alloc(), "a\r\n  bc /* é\n*/ 'd' // e\n;").expect(&rt, "memory");
     let mut spans = Vec::new(rt.alloc());
     for token in &tokens {
-        spans.push(token.span)?;
+        spans.push(token.span).expect(&rt, "memory");
     }
     let at = |line, from, to| Span { line, from, to };
     let want = [at(0, 0, 1), at(1, 2, 4), at(2, 3, 6), at(3, 0, 1)];
     assert_eq!(rt; spans.as_slice(), want.as_slice());
-    Ok(())
 }

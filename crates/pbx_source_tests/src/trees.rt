@@ -1,16 +1,15 @@
 //! The options of `descriptor.proto`, and what may be set where.
 
-use crate::{
+use pbx_token::Span;
+use pbx_tree::{
     Allowed, Constant, EnumItem, Expected, Item, Kind, KnownOption, Literal, MethodItem, Name,
     Number, OptionKind, OptionPlace, Scalar, Separated, ServiceItem, Setting, Settings, Statement,
     Top, TypeName, Unfit, enum_settings, file_settings, key_fits, kind_fits, known_option, listed,
     message_settings, method_settings, optimize_mode, packages_fit, service_settings, settings_fit,
     text_fits, type_fits,
 };
-use pbx_token::Span;
-use std::alloc::{AllocError, Global};
+use std::alloc::Global;
 use std::process::Abort;
-use std::test::Fail;
 
 #[test]
 fn options_have_their_numbers(rt: HostRuntime) {
@@ -184,6 +183,18 @@ fn defaults_that_do_not_fit(rt: HostRuntime) {
     }
 }
 
+fn map_settings_that_do_not_fit(rt: &impl Abort) {
+    let default = [setting(1, "default", number())];
+    expect_refusal(rt, Allowed::Map, &default, 1, Expected::KnownOption);
+    let truth = word("true");
+    let twice = [
+        setting(1, "packed", truth),
+        setting(2, "deprecated", truth),
+        setting(3, "packed", truth),
+    ];
+    expect_refusal(rt, Allowed::Map, &twice, 3, Expected::UnsetOption);
+}
+
 #[test]
 fn settings_that_do_not_fit(rt: HostRuntime) {
     for (place, name, value, from, expected) in [
@@ -220,15 +231,7 @@ fn settings_that_do_not_fit(rt: HostRuntime) {
         let settings = [setting(1, name, value)];
         expect_refusal(&rt, Allowed::Option(place), &settings, from, expected);
     }
-    let default = [setting(1, "default", number())];
-    expect_refusal(&rt, Allowed::Map, &default, 1, Expected::KnownOption);
-    let truth = word("true");
-    let twice = [
-        setting(1, "packed", truth),
-        setting(2, "deprecated", truth),
-        setting(3, "packed", truth),
-    ];
-    expect_refusal(&rt, Allowed::Map, &twice, 3, Expected::UnsetOption);
+    map_settings_that_do_not_fit(&rt);
 }
 
 fn type_name<'a>(alloc: Global, dot: Option<Span>, text: &'a str) -> TypeName<'a> {
@@ -262,21 +265,47 @@ fn types_keys_and_texts(rt: HostRuntime) {
     assert!(rt; text_fits(&Literal::new("\\303é", place(1))).is_err());
 }
 
-fn listed_count(alloc: Global, statement: Statement<'_>) -> Result<usize, AllocError> {
+fn listed_count(rt: &impl Abort, alloc: Global, statement: Statement<'_>) -> usize {
     let settings = Separated {
         first: statement.setting,
         more: Vec::new(alloc),
     };
     let list = Some(Settings {
         open: place(0),
-        settings,
+        settings: Box::new(alloc, settings).expect(rt, "memory"),
         close: place(9),
     });
-    Ok(listed(alloc, &list)?.len())
+    listed(alloc, &list).expect(rt, "memory").len()
+}
+
+fn enum_count(rt: &impl Abort, alloc: Global, statement: Statement<'_>) -> usize {
+    let items = [EnumItem::Empty(place(5)), EnumItem::Option(statement)];
+    enum_settings(alloc, &items).expect(rt, "memory").len()
+}
+
+fn method_count(rt: &impl Abort, alloc: Global, statement: Statement<'_>) -> usize {
+    let items = [MethodItem::Option(statement), MethodItem::Empty(place(5))];
+    method_settings(alloc, &items).expect(rt, "memory").len()
+}
+
+fn service_count(rt: &impl Abort, alloc: Global, statement: Statement<'_>) -> usize {
+    let items = [ServiceItem::Empty(place(5)), ServiceItem::Option(statement)];
+    service_settings(alloc, &items).expect(rt, "memory").len()
+}
+
+fn message_count(rt: &impl Abort, alloc: Global, statement: Statement<'_>) -> usize {
+    let items = [Item::Empty(place(5)), Item::Option(statement)];
+    message_settings(alloc, &items).expect(rt, "memory").len()
+}
+
+fn file_count(rt: &impl Abort, alloc: Global, statement: Statement<'_>) -> usize {
+    let tops = [Top::Empty(place(5)), Top::Option(statement)];
+    assert_eq!(rt; packages_fit(&tops), Ok(()));
+    file_settings(alloc, &tops).expect(rt, "memory").len()
 }
 
 #[test]
-fn option_statements_are_gathered(rt: HostRuntime) -> Result<(), Fail> {
+fn option_statements_are_gathered(rt: HostRuntime) {
     let alloc = rt.alloc();
     let setting = setting(1, "deprecated", word("true"));
     let statement = Statement {
@@ -284,18 +313,10 @@ fn option_statements_are_gathered(rt: HostRuntime) -> Result<(), Fail> {
         setting,
         end: place(9),
     };
-    let empty = place(5);
-    let in_enum = [EnumItem::Empty(empty), EnumItem::Option(statement)];
-    assert_eq!(rt; enum_settings(alloc, &in_enum)?.len(), 1);
-    let in_method = [MethodItem::Option(statement), MethodItem::Empty(empty)];
-    assert_eq!(rt; method_settings(alloc, &in_method)?.len(), 1);
-    let in_service = [ServiceItem::Empty(empty), ServiceItem::Option(statement)];
-    assert_eq!(rt; service_settings(alloc, &in_service)?.len(), 1);
-    let in_message = [Item::Empty(empty), Item::Option(statement)];
-    assert_eq!(rt; message_settings(alloc, &in_message)?.len(), 1);
-    let tops = [Top::Empty(empty), Top::Option(statement)];
-    assert_eq!(rt; file_settings(alloc, &tops)?.len(), 1);
-    assert_eq!(rt; packages_fit(&tops), Ok(()));
-    assert_eq!(rt; listed_count(alloc, statement)?, 1);
-    Ok(())
+    assert_eq!(rt; enum_count(&rt, alloc, statement), 1);
+    assert_eq!(rt; method_count(&rt, alloc, statement), 1);
+    assert_eq!(rt; service_count(&rt, alloc, statement), 1);
+    assert_eq!(rt; message_count(&rt, alloc, statement), 1);
+    assert_eq!(rt; file_count(&rt, alloc, statement), 1);
+    assert_eq!(rt; listed_count(&rt, alloc, statement), 1);
 }

@@ -1,14 +1,13 @@
 //! That calls succeed with ample memory, and what they answer. Expected values follow the language guide ("Importing Definitions",
 //! "Assigning Field Numbers"), "ProtoJSON Format", and "Encoding" with the numbers of `descriptor.proto`.
 
-use crate::{
+use pbx_desc::{DescriptorProto, FieldDescriptorProto, FileDescriptorProto};
+use pbx_link::{
     DescriptorError, DescriptorPool, find_message, linked_is_linked, pooled_stand_behind, shape_of,
 };
-use pbx_desc::{DescriptorProto, FieldDescriptorProto, FileDescriptorProto};
-use pbx_wire::{NoMemory, Text};
+use pbx_wire::Text;
 use std::alloc::Global;
 use std::process::Abort;
-use std::test::Fail;
 
 mod built;
 
@@ -18,68 +17,70 @@ type FieldRow<'a> = (&'a str, Option<i32>);
 /// A message's name and fields.
 type MessageRow<'a> = (&'a str, &'a [FieldRow<'a>]);
 
-fn text(alloc: Global, text: &str) -> Result<Option<Text>, NoMemory> {
-    Ok(Some(Text::from_str(alloc, text)?))
+fn text(rt: &impl Abort, alloc: Global, text: &str) -> Option<Text> {
+    Some(Text::from_str(alloc, text).expect(rt, "memory"))
 }
 
 /// An optional `int32`.
-fn field(alloc: Global, row: FieldRow<'_>) -> Result<FieldDescriptorProto, NoMemory> {
+fn field(rt: &impl Abort, alloc: Global, row: FieldRow<'_>) -> FieldDescriptorProto {
     let mut field = FieldDescriptorProto::new(alloc);
-    field.name = text(alloc, row.0)?;
+    field.name = text(rt, alloc, row.0);
     field.number = row.1;
     field.label = Some(1);
     field.kind = Some(5);
-    Ok(field)
+    field
 }
 
-fn message(alloc: Global, row: MessageRow<'_>) -> Result<DescriptorProto, NoMemory> {
+fn message(rt: &impl Abort, alloc: Global, row: MessageRow<'_>) -> DescriptorProto {
     let mut message = DescriptorProto::new(alloc);
-    message.name = text(alloc, row.0)?;
+    message.name = text(rt, alloc, row.0);
     for one in row.1 {
-        message.field.add(field(alloc, *one)?)?;
+        message
+            .field
+            .add(field(rt, alloc, *one))
+            .expect(rt, "memory");
     }
-    Ok(message)
+    message
 }
 
 /// A file of proto3.
 fn file(
+    rt: &impl Abort,
     alloc: Global,
     name: &str,
     messages: &[MessageRow<'_>],
-) -> Result<FileDescriptorProto, NoMemory> {
+) -> FileDescriptorProto {
     let mut file = FileDescriptorProto::new(alloc);
-    file.name = text(alloc, name)?;
-    file.syntax = text(alloc, "proto3")?;
+    file.name = text(rt, alloc, name);
+    file.syntax = text(rt, alloc, "proto3");
     for row in messages {
-        file.message_type.add(message(alloc, *row)?)?;
+        file.message_type
+            .add(message(rt, alloc, *row))
+            .expect(rt, "memory");
     }
-    Ok(file)
+    file
 }
 
-fn import(file: &mut FileDescriptorProto, alloc: Global, names: &[&str]) -> Result<(), NoMemory> {
+fn import(rt: &impl Abort, file: &mut FileDescriptorProto, alloc: Global, names: &[&str]) {
     for name in names {
-        file.dependency.add(Text::from_str(alloc, name)?)?;
+        file.dependency
+            .add(Text::from_str(alloc, name).expect(rt, "memory"))
+            .expect(rt, "memory");
     }
-    Ok(())
 }
 
 /// The pool of `a.proto` with the message `A`.
-fn pool(alloc: Global) -> Result<DescriptorPool, DescriptorError> {
-    let mut pool = DescriptorPool::new(alloc)?;
+fn pool(rt: &impl Abort, alloc: Global) -> DescriptorPool {
+    let mut pool = DescriptorPool::new(alloc).expect(rt, "memory");
     let rows: [MessageRow<'_>; 1] = [("A", &[("x", Some(1))])];
-    pool.add_file_descriptor_proto(file(alloc, "a.proto", &rows)?)?;
-    Ok(pool)
+    pool.add_file_descriptor_proto(file(rt, alloc, "a.proto", &rows))
+        .expect(rt, "memory");
+    pool
 }
 
 /// That the pool of `a.proto` refuses the file by the rule at the place, and stays as it was.
-fn expect_rule(
-    rt: &impl Abort,
-    alloc: Global,
-    file: FileDescriptorProto,
-    rule: u8,
-    place: &[i32],
-) -> Result<(), DescriptorError> {
-    let mut pool = pool(alloc)?;
+fn expect_rule(rt: &impl Abort, alloc: Global, file: FileDescriptorProto, rule: u8, place: &[i32]) {
+    let mut pool = pool(rt, alloc);
     let refused = pool.add_file_descriptor_proto(file);
     match &refused {
         Err(
@@ -95,19 +96,17 @@ fn expect_rule(
         _ => assert!(rt; false),
     }
     assert_eq!(rt; pool.len(), 1);
-    Ok(())
 }
 
 /// A file's name, its imports, its messages, and the rule that refuses it with its place.
 type Refused<'a> = (&'a str, &'a [&'a str], &'a [MessageRow<'a>], u8, &'a [i32]);
 
-fn refuse(rt: &impl Abort, alloc: Global, rows: &[Refused<'_>]) -> Result<(), DescriptorError> {
+fn refuse(rt: &impl Abort, alloc: Global, rows: &[Refused<'_>]) {
     for row in rows {
-        let mut file = file(alloc, row.0, row.2)?;
-        import(&mut file, alloc, row.1)?;
-        expect_rule(rt, alloc, file, row.3, row.4)?;
+        let mut file = file(rt, alloc, row.0, row.2);
+        import(rt, &mut file, alloc, row.1);
+        expect_rule(rt, alloc, file, row.3, row.4);
     }
-    Ok(())
 }
 
 const GOOD: FieldRow<'static> = ("x", Some(1));
@@ -138,47 +137,40 @@ const OF_TWO_RULES: [Refused<'static>; 4] = [
 ];
 
 #[test]
-fn rules_are_told_at_their_places(rt: HostRuntime) -> Result<(), Fail> {
-    refuse(&rt, rt.alloc(), &AT_THEIR_PLACES)?;
-    let mut nameless = file(rt.alloc(), "", &[])?;
+fn rules_are_told_at_their_places(rt: HostRuntime) {
+    refuse(&rt, rt.alloc(), &AT_THEIR_PLACES);
+    let mut nameless = file(&rt, rt.alloc(), "", &[]);
     nameless.name = None;
-    expect_rule(&rt, rt.alloc(), nameless, 4, &[1])?;
-    Ok(())
+    expect_rule(&rt, rt.alloc(), nameless, 4, &[1]);
 }
 
 #[test]
-fn the_least_rule_is_told(rt: HostRuntime) -> Result<(), Fail> {
-    refuse(&rt, rt.alloc(), &OF_TWO_RULES)?;
-    Ok(())
+fn the_least_rule_is_told(rt: HostRuntime) {
+    refuse(&rt, rt.alloc(), &OF_TWO_RULES);
 }
 
 /// That the file is refused as not built.
-fn expect_not_built(
-    rt: &impl Abort,
-    alloc: Global,
-    file: FileDescriptorProto,
-) -> Result<(), DescriptorError> {
-    let mut pool = pool(alloc)?;
+fn expect_not_built(rt: &impl Abort, alloc: Global, file: FileDescriptorProto) {
+    let mut pool = pool(rt, alloc);
     let refused = pool.add_file_descriptor_proto(file);
     match &refused {
         Err(DescriptorError::NotBuilt { file }) => assert_eq!(rt; file.as_str(), "a.proto"),
         _ => assert!(rt; false),
     }
     assert_eq!(rt; pool.len(), 1);
-    Ok(())
 }
 
 /// The file `a.proto` with one message of one field.
-fn with_field(alloc: Global, one: FieldDescriptorProto) -> Result<FileDescriptorProto, NoMemory> {
-    let mut file = file(alloc, "a.proto", &[])?;
-    let mut message = message(alloc, ("M", &[]))?;
-    message.field.add(one)?;
-    file.message_type.add(message)?;
-    Ok(file)
+fn with_field(rt: &impl Abort, alloc: Global, one: FieldDescriptorProto) -> FileDescriptorProto {
+    let mut file = file(rt, alloc, "a.proto", &[]);
+    let mut message = message(rt, alloc, ("M", &[]));
+    message.field.add(one).expect(rt, "memory");
+    file.message_type.add(message).expect(rt, "memory");
+    file
 }
 
 #[test]
-fn numbers_have_their_borders(rt: HostRuntime) -> Result<(), Fail> {
+fn numbers_have_their_borders(rt: HostRuntime) {
     let rows = [
         (0, false),
         (1, true),
@@ -190,12 +182,11 @@ fn numbers_have_their_borders(rt: HostRuntime) -> Result<(), Fail> {
         (536870912, false),
     ];
     for (number, fits) in rows {
-        let mut pool = DescriptorPool::new(rt.alloc())?;
-        let one = field(rt.alloc(), ("x", Some(number)))?;
-        let added = pool.add_file_descriptor_proto(with_field(rt.alloc(), one)?);
+        let mut pool = DescriptorPool::new(rt.alloc()).expect(&rt, "memory");
+        let one = field(&rt, rt.alloc(), ("x", Some(number)));
+        let added = pool.add_file_descriptor_proto(with_field(&rt, rt.alloc(), one));
         assert_eq!(rt; added.is_ok(), fits);
     }
-    Ok(())
 }
 
 /// The JSON name of the first field of the first message of the pool's first file.
@@ -209,7 +200,7 @@ fn json_name(pool: &DescriptorPool) -> Option<&str> {
 }
 
 #[test]
-fn fields_get_their_json_names(rt: HostRuntime) -> Result<(), Fail> {
+fn fields_get_their_json_names(rt: HostRuntime) {
     let rows = [
         ("foo_bar", "fooBar"),
         ("foo__bar", "fooBar"),
@@ -220,35 +211,37 @@ fn fields_get_their_json_names(rt: HostRuntime) -> Result<(), Fail> {
         ("FOO_BAR", "FOOBAR"),
     ];
     for (name, want) in rows {
-        let mut pool = DescriptorPool::new(rt.alloc())?;
-        let one = field(rt.alloc(), (name, Some(1)))?;
-        pool.add_file_descriptor_proto(with_field(rt.alloc(), one)?)?;
-        assert_eq!(rt; json_name(&pool).ok_or("no field")?, want);
+        let mut pool = DescriptorPool::new(rt.alloc()).expect(&rt, "memory");
+        let one = field(&rt, rt.alloc(), (name, Some(1)));
+        pool.add_file_descriptor_proto(with_field(&rt, rt.alloc(), one))
+            .expect(&rt, "memory");
+        assert_eq!(rt; json_name(&pool).expect(&rt, "no field"), want);
     }
-    let mut pool = DescriptorPool::new(rt.alloc())?;
-    let mut own = field(rt.alloc(), ("foo_bar", Some(1)))?;
-    own.json_name = text(rt.alloc(), "foo_bar")?;
-    pool.add_file_descriptor_proto(with_field(rt.alloc(), own)?)?;
-    assert_eq!(rt; json_name(&pool).ok_or("no field")?, "foo_bar");
-    Ok(())
+    let mut pool = DescriptorPool::new(rt.alloc()).expect(&rt, "memory");
+    let mut own = field(&rt, rt.alloc(), ("foo_bar", Some(1)));
+    own.json_name = text(&rt, rt.alloc(), "foo_bar");
+    pool.add_file_descriptor_proto(with_field(&rt, rt.alloc(), own))
+        .expect(&rt, "memory");
+    assert_eq!(rt; json_name(&pool).expect(&rt, "no field"), "foo_bar");
 }
 
-fn cloned<T: Clone>(item: &T) -> Result<T, Fail> {
-    Ok(item.clone()?)
+fn cloned<T: Clone>(rt: &impl Abort, item: &T) -> T {
+    item.clone().expect(rt, "memory")
 }
 
 #[test]
-fn a_copy_stays_as_it_is(rt: HostRuntime) -> Result<(), Fail> {
+fn a_copy_stays_as_it_is(rt: HostRuntime) {
     let alloc = rt.alloc();
-    let empty = DescriptorPool::new(alloc)?;
+    let empty = DescriptorPool::new(alloc).expect(&rt, "memory");
     assert!(rt; empty.is_empty());
-    let mut pool = pool(alloc)?;
+    let mut pool = pool(&rt, alloc);
     let before = pool.copy();
-    let clone = cloned(&pool)?;
-    let mut second = file(alloc, "b.proto", &[("B", &[])])?;
-    import(&mut second, alloc, &["a.proto"])?;
-    pool.add_file_descriptor_proto(second)?;
-    pool.add_file_descriptor_proto(file(alloc, "c.proto", &[])?)?;
+    let clone = cloned(&rt, &pool);
+    let mut second = file(&rt, alloc, "b.proto", &[("B", &[])]);
+    import(&rt, &mut second, alloc, &["a.proto"]);
+    pool.add_file_descriptor_proto(second).expect(&rt, "memory");
+    pool.add_file_descriptor_proto(file(&rt, alloc, "c.proto", &[]))
+        .expect(&rt, "memory");
     assert_eq!(rt; pool.len(), 3);
     assert_eq!(rt; before.len(), 1);
     assert_eq!(rt; clone.len(), 1);
@@ -256,74 +249,70 @@ fn a_copy_stays_as_it_is(rt: HostRuntime) -> Result<(), Fail> {
     assert!(rt; pool.get_file_by_name("b.proto").is_some());
     assert!(rt; pool.file_at(2).is_some());
     assert!(rt; pool.file_at(3).is_none());
-    Ok(())
 }
 
 /// That the pool has a message of the name, in the file.
-fn expect_message(
-    rt: &impl Abort,
-    pool: &DescriptorPool,
-    name: &str,
-    declared: &str,
-) -> Result<(), Fail> {
-    let message = pool.get_message_by_name(name).ok_or("not found")?;
+fn expect_message(rt: &impl Abort, pool: &DescriptorPool, name: &str, declared: &str) {
+    let message = pool.get_message_by_name(name).expect(rt, "not found");
     assert_eq!(rt; message.name(), name);
     assert_eq!(rt; message.full_name(), name);
     let file = message.parent_file();
     assert_eq!(rt; file.name(), declared);
     let parent = message.parent_pool();
     assert_eq!(rt; parent.len(), pool.len());
-    Ok(())
 }
 
 const TWO_MESSAGES: [MessageRow<'static>; 2] = [("B", &[]), ("Bb", &[])];
 
 #[test]
-fn messages_are_found_by_their_exact_names(rt: HostRuntime) -> Result<(), Fail> {
-    let mut pool = pool(rt.alloc())?;
-    pool.add_file_descriptor_proto(file(rt.alloc(), "b.proto", &TWO_MESSAGES)?)?;
-    expect_message(&rt, &pool, "A", "a.proto")?;
-    expect_message(&rt, &pool, "B", "b.proto")?;
-    expect_message(&rt, &pool, "Bb", "b.proto")?;
+fn messages_are_found_by_their_exact_names(rt: HostRuntime) {
+    let mut pool = pool(&rt, rt.alloc());
+    pool.add_file_descriptor_proto(file(&rt, rt.alloc(), "b.proto", &TWO_MESSAGES))
+        .expect(&rt, "memory");
+    expect_message(&rt, &pool, "A", "a.proto");
+    expect_message(&rt, &pool, "B", "b.proto");
+    expect_message(&rt, &pool, "Bb", "b.proto");
     for name in [".A", "a", "AA", ""] {
         assert!(rt; pool.get_message_by_name(name).is_none());
     }
     for name in ["A.proto", "a.prot", "./a.proto", ""] {
         assert!(rt; pool.get_file_by_name(name).is_none());
     }
-    Ok(())
 }
 
 #[test]
-fn files_come_in_order(rt: HostRuntime) -> Result<(), Fail> {
+fn files_come_in_order(rt: HostRuntime) {
     linked_is_linked();
     pooled_stand_behind();
-    let mut pool = pool(rt.alloc())?;
-    pool.add_file_descriptor_proto(file(rt.alloc(), "b.proto", &[])?)?;
+    let mut pool = pool(&rt, rt.alloc());
+    pool.add_file_descriptor_proto(file(&rt, rt.alloc(), "b.proto", &[]))
+        .expect(&rt, "memory");
     assert_eq!(rt; pool.files().len(), 2);
     assert_eq!(rt; pool.files().size_hint(), (2, Some(2)));
     let mut names = Vec::new(rt.alloc());
     for file in pool.files() {
-        let record = file.file_descriptor_proto(rt.alloc())?;
+        let record = file.file_descriptor_proto(rt.alloc()).expect(&rt, "memory");
         match &record.name {
             Some(name) => assert_eq!(rt; name.as_str(), file.name()),
             None => assert!(rt; false),
         }
         assert_eq!(rt; file.parent_pool().len(), 2);
-        names.push(Text::from_str(rt.alloc(), file.name())?)?;
+        names
+            .push(Text::from_str(rt.alloc(), file.name()).expect(&rt, "memory"))
+            .expect(&rt, "memory");
     }
     assert_eq!(rt; names.len(), 2);
     assert_eq!(rt; names[0].as_str(), "a.proto");
     assert_eq!(rt; names[1].as_str(), "b.proto");
-    Ok(())
 }
 
 #[test]
-fn shapes_are_sorted_by_number(rt: HostRuntime) -> Result<(), Fail> {
-    let mut pool = pool(rt.alloc())?;
+fn shapes_are_sorted_by_number(rt: HostRuntime) {
+    let mut pool = pool(&rt, rt.alloc());
     let rows: [MessageRow<'_>; 1] = [("B", &[("late_one", Some(7)), ("early", Some(3))])];
-    pool.add_file_descriptor_proto(file(rt.alloc(), "b.proto", &rows)?)?;
-    let shape = shape_of(rt.alloc(), &pool)?;
+    pool.add_file_descriptor_proto(file(&rt, rt.alloc(), "b.proto", &rows))
+        .expect(&rt, "memory");
+    let shape = shape_of(rt.alloc(), &pool).expect(&rt, "memory");
     assert_eq!(rt; find_message(&shape, "A"), Some(0));
     assert_eq!(rt; find_message(&shape, "B"), Some(1));
     assert_eq!(rt; find_message(&shape, "C"), None);
@@ -333,12 +322,11 @@ fn shapes_are_sorted_by_number(rt: HostRuntime) -> Result<(), Fail> {
     assert_eq!(rt; fields[1].number, 7);
     assert_eq!(rt; fields[1].name.as_str(), "late_one");
     assert_eq!(rt; fields[1].json_name.as_str(), "lateOne");
-    Ok(())
 }
 
 #[test]
-fn a_pool_is_written_as_a_set(rt: HostRuntime) -> Result<(), Fail> {
-    let bytes = pool(rt.alloc())?.encode_to_vec()?;
+fn a_pool_is_written_as_a_set(rt: HostRuntime) {
+    let bytes = pool(&rt, rt.alloc()).encode_to_vec().expect(&rt, "memory");
     #[rattlefmt::skip]
     let want = [
         0x0a, 36, 0x0a, 7, b'a', b'.', b'p', b'r', b'o', b't', b'o',
@@ -347,22 +335,21 @@ fn a_pool_is_written_as_a_set(rt: HostRuntime) -> Result<(), Fail> {
         0x62, 6, b'p', b'r', b'o', b't', b'o', b'3',
     ];
     assert_eq!(rt; bytes.as_slice(), want.as_slice());
-    Ok(())
 }
 
 #[test]
-fn a_file_may_have_many_messages(rt: HostRuntime) -> Result<(), Fail> {
+fn a_file_may_have_many_messages(rt: HostRuntime) {
     let alloc = rt.alloc();
-    let mut many = file(alloc, "b.proto", &[])?;
+    let mut many = file(&rt, alloc, "b.proto", &[]);
     for index in 0..2000 {
-        let name = format!(in alloc; "M{index}")?;
+        let name = format!(in alloc; "M{index}").expect(&rt, "memory");
         let fields: [FieldRow<'_>; 1] = [("x", Some(1))];
         many.message_type
-            .add(message(alloc, (name.as_str(), &fields))?)?;
+            .add(message(&rt, alloc, (name.as_str(), &fields)))
+            .expect(&rt, "memory");
     }
-    let mut pool = pool(alloc)?;
-    pool.add_file_descriptor_proto(many)?;
+    let mut pool = pool(&rt, alloc);
+    pool.add_file_descriptor_proto(many).expect(&rt, "memory");
     assert!(rt; pool.get_message_by_name("M1999").is_some());
     assert!(rt; pool.get_message_by_name("M2000").is_none());
-    Ok(())
 }

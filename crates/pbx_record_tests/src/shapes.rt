@@ -1,9 +1,8 @@
 //! That the shape is made with ample memory. The rows are those that Python's `google.protobuf` 3.21
 //! tells of the descriptors in `descriptor_pb2`.
 
-use crate::{descriptor_shape, place};
 use pbx_content::Shape;
-use pbx_wire::NoMemory;
+use pbx_desc_shape::{descriptor_shape, place};
 use std::process::Abort;
 
 fn expect_field(
@@ -24,8 +23,8 @@ fn expect_field(
 }
 
 #[test]
-fn types_have_their_fields(rt: HostRuntime) -> Result<(), NoMemory> {
-    let shape = descriptor_shape(rt.alloc())?;
+fn types_have_their_fields(rt: HostRuntime) {
+    let shape = descriptor_shape(rt.alloc()).expect(&rt, "memory");
     let rows: [(usize, u32, &str, &str); 6] = [
         (place::FILE, 9, "source_code_info", "sourceCodeInfo"),
         (place::MESSAGE, 8, "oneof_decl", "oneofDecl"),
@@ -37,14 +36,12 @@ fn types_have_their_fields(rt: HostRuntime) -> Result<(), NoMemory> {
     for (type_at, number, name, json_name) in rows {
         expect_field(&rt, &shape, type_at, number, name, json_name);
     }
-    Ok(())
 }
 
 #[test]
-fn options_keep_their_order(rt: HostRuntime) -> Result<(), NoMemory> {
-    let shape = descriptor_shape(rt.alloc())?;
+fn options_keep_their_order(rt: HostRuntime) {
+    let shape = descriptor_shape(rt.alloc()).expect(&rt, "memory");
     assert!(rt; shape.keeps_order(place::FILE_OPTIONS));
     assert!(rt; shape.keeps_order(place::METHOD_OPTIONS));
     assert!(rt; !shape.keeps_order(place::LOCATION));
-    Ok(())
 }

@@ -1,10 +1,11 @@
-use crate::{
+use pbx_wire::Blob;
+use protox_io::{
     Disk, DiskAnswer, DiskError, Failed, MemoryDisk, MemorySink, MemorySource, ReadFault, RealDisk,
     RealSink, RealSource, Sink, SinkError, Source, read_to_end, write_all, write_pieces,
 };
-use pbx_wire::Blob;
+use std::alloc::Global;
 use std::io::{Read, Write};
-use std::test::Fail;
+use std::process::Abort;
 use std::{fs, io};
 
 /// What an answer says, as bytes.
@@ -18,15 +19,21 @@ fn said(answer: &Result<DiskAnswer, DiskError>) -> &[u8] {
     }
 }
 
-#[test]
-fn a_disk_files_by_key(rt: HostRuntime) -> Result<(), Fail> {
-    let alloc = rt.alloc();
+/// A disk with five files.
+fn filled(rt: &impl Abort, alloc: Global) -> MemoryDisk {
     let mut disk = MemoryDisk::new(alloc);
-    disk.put("a/m.proto", b"old")?;
-    disk.put("./a//x/../m.proto", b"new")?;
-    disk.put("/m.proto", b"rooted")?;
-    disk.put("../../up", b"above")?;
-    disk.put_oversized("big/.")?;
+    disk.put("a/m.proto", b"old").expect(rt, "memory");
+    disk.put("./a//x/../m.proto", b"new").expect(rt, "memory");
+    disk.put("/m.proto", b"rooted").expect(rt, "memory");
+    disk.put("../../up", b"above").expect(rt, "memory");
+    disk.put_oversized("big/.").expect(rt, "memory");
+    disk
+}
+
+#[test]
+fn a_disk_files_by_key(rt: HostRuntime) {
+    let alloc = rt.alloc();
+    let mut disk = filled(&rt, alloc);
     let rows: [(&str, &str, bool); 9] = [
         ("a/m.proto", "new", true),
         ("b/../a/./m.proto", "new", true),
@@ -44,16 +51,21 @@ fn a_disk_files_by_key(rt: HostRuntime) -> Result<(), Fail> {
         let bytes = if stored { Some(want.as_bytes()) } else { None };
         assert_eq!(rt; disk.get(path), bytes, "at {path}");
     }
-    Ok(())
+}
+
+/// A disk with one file, of which two calls are listed.
+fn failing(rt: &impl Abort, alloc: Global) -> MemoryDisk {
+    let mut disk = MemoryDisk::new(alloc);
+    disk.put("m", b"before").expect(rt, "memory");
+    disk.fail_at(3).expect(rt, "memory");
+    disk.fail_at(1).expect(rt, "memory");
+    disk
 }
 
 #[test]
-fn a_disk_fails_at_its_listed_calls(rt: HostRuntime) -> Result<(), Fail> {
+fn a_disk_fails_at_its_listed_calls(rt: HostRuntime) {
     let alloc = rt.alloc();
-    let mut disk = MemoryDisk::new(alloc);
-    disk.put("m", b"before")?;
-    disk.fail_at(3)?;
-    disk.fail_at(1)?;
+    let mut disk = failing(&rt, alloc);
     assert_eq!(rt; said(&disk.read_file(alloc, "m")), "before".as_bytes());
     assert_eq!(rt; said(&disk.read_file(alloc, "m")), "disk fault".as_bytes());
     assert!(rt; disk.write_file(alloc, "m", b"after").is_ok());
@@ -63,13 +75,17 @@ fn a_disk_fails_at_its_listed_calls(rt: HostRuntime) -> Result<(), Fail> {
     }
     assert_eq!(rt; said(&disk.read_file(alloc, "./m")), "after".as_bytes());
     assert!(rt; !disk.spent());
-    Ok(())
+}
+
+fn source_of(rt: &impl Abort, alloc: Global, bytes: &[u8], fail_at: Option<u64>) -> MemorySource {
+    let blob = Blob::from_slice(alloc, bytes).expect(rt, "memory");
+    MemorySource::new(blob, fail_at)
 }
 
 #[test]
-fn a_source_comes_in_parts(rt: HostRuntime) -> Result<(), Fail> {
+fn a_source_comes_in_parts(rt: HostRuntime) {
     let alloc = rt.alloc();
-    let mut source = MemorySource::new(Blob::from_slice(alloc, b"abcdef")?, Some(1));
+    let mut source = source_of(&rt, alloc, b"abcdef", Some(1));
     let mut buf = [0u8; 4];
     assert_eq!(rt; source.read(&mut buf), Ok(4));
     assert_eq!(rt; buf.as_slice(), b"abcd".as_slice());
@@ -78,13 +94,28 @@ fn a_source_comes_in_parts(rt: HostRuntime) -> Result<(), Fail> {
     assert_eq!(rt; &buf[..2], b"ef".as_slice());
     assert_eq!(rt; source.read(&mut buf), Ok(0));
     assert!(rt; !source.spent());
-    Ok(())
+}
+
+/// The answer is that fault, or else it is these bytes.
+fn is_read(
+    rt: &impl Abort,
+    answer: &Result<Blob, ReadFault>,
+    bytes: &[u8],
+    fault: Option<ReadFault>,
+) {
+    match answer {
+        Ok(read) => {
+            assert_eq!(rt; fault, None);
+            assert_eq!(rt; read.as_slice(), bytes);
+        }
+        Err(why) => assert_eq!(rt; fault, Some(*why)),
+    }
 }
 
 #[test]
-fn a_source_is_read_to_its_end(rt: HostRuntime) -> Result<(), Fail> {
+fn a_source_is_read_to_its_end(rt: HostRuntime) {
     let alloc = rt.alloc();
-    let long = vec![in alloc; 7u8; 70000]?;
+    let long = vec![in alloc; 7u8; 70000].expect(&rt, "memory");
     let rows: [(&[u8], usize, Option<u64>, Option<ReadFault>); 6] = [
         (b"", 3, None, None),
         (b"abc", 3, None, None),
@@ -94,16 +125,9 @@ fn a_source_is_read_to_its_end(rt: HostRuntime) -> Result<(), Fail> {
         (long.as_slice(), 70000, None, None),
     ];
     for (bytes, limit, fail_at, fault) in rows {
-        let mut source = MemorySource::new(Blob::from_slice(alloc, bytes)?, fail_at);
-        match read_to_end(alloc, &mut source, limit) {
-            Ok(read) => {
-                assert_eq!(rt; fault, None);
-                assert_eq!(rt; read.as_slice(), bytes);
-            }
-            Err(why) => assert_eq!(rt; fault, Some(why)),
-        }
+        let mut source = source_of(&rt, alloc, bytes, fail_at);
+        is_read(&rt, &read_to_end(alloc, &mut source, limit), bytes, fault);
     }
-    Ok(())
 }
 
 #[test]
@@ -160,21 +184,25 @@ impl Write for Broken {
     }
 }
 
-#[test]
-fn real_streams_reach_files(rt: HostRuntime) -> Result<(), Fail> {
-    let mut sink = RealSink::new(fs::create(&rt, "bytes")?);
-    assert_eq!(rt; write_all(&mut sink, b"written"), Ok(()));
-    assert!(rt; !sink.spent());
-    let mut source = RealSource::new(fs::open(&rt, "bytes")?);
-    match read_to_end(rt.alloc(), &mut source, 7) {
-        Ok(read) => assert_eq!(rt; read.as_slice(), b"written".as_slice()),
-        Err(why) => assert!(rt; false, "{why:?}"),
-    }
-    assert!(rt; !source.spent());
+/// Streams that break tell it.
+fn broken_streams_fail(rt: &impl Abort) {
     let mut source = RealSource::new(Broken);
     assert_eq!(rt; source.read(&mut [0u8; 4]), Err(Failed));
     let mut sink = RealSink::new(Broken);
     assert_eq!(rt; sink.write(b""), Ok(0));
     assert_eq!(rt; sink.write(b"lost"), Err(SinkError::Failed));
-    Ok(())
+}
+
+#[test]
+fn real_streams_reach_files(rt: HostRuntime) {
+    let mut sink = RealSink::new(fs::create(&rt, "bytes").expect(&rt, "a file"));
+    assert_eq!(rt; write_all(&mut sink, b"written"), Ok(()));
+    assert!(rt; !sink.spent());
+    let mut source = RealSource::new(fs::open(&rt, "bytes").expect(&rt, "a file"));
+    match read_to_end(rt.alloc(), &mut source, 7) {
+        Ok(read) => assert_eq!(rt; read.as_slice(), b"written".as_slice()),
+        Err(why) => assert!(rt; false, "{why:?}"),
+    }
+    assert!(rt; !source.spent());
+    broken_streams_fail(&rt);
 }
