@@ -164,6 +164,13 @@ map_record m = record (untyped_field (pos 3) m.tail) { type_name = Some (entry_n
 abbrev pub entry_field : List ℕ → ℤ → Option ℤ → Option (List ℕ) → FieldDescriptorProto
 entry_field name number kind type_name = record no_field { name = Some name; number = Some number; label = Some (pos 1); kind = kind; type_name = type_name }
 
+-- the key and the value of an entry
+abbrev pub entry_fields : MapField → List FieldDescriptorProto
+entry_fields m =
+    entry_field (codes "key") (pos 1) (Some (pos (type_number m.key))) None
+    ∷ entry_field (codes "value") (pos 2) (kind_number m.value) (kind_name m.value)
+    ∷ []
+
 -- `map_entry` is true
 abbrev pub entry_options : Options
 entry_options = record { recs = rec.Varint 7 1 ∷ [] }
@@ -172,10 +179,7 @@ entry_options = record { recs = rec.Varint 7 1 ∷ [] }
 unfoldable pub entry_record : MapField → DescriptorProto
 entry_record m = roll-DescriptorProto (record {
   name = Some (entry_name m.tail.name.text);
-  field =
-      entry_field (codes "key") (pos 1) (Some (pos (type_number m.key))) None
-      ∷ entry_field (codes "value") (pos 2) (kind_number m.value) (kind_name m.value)
-      ∷ [];
+  field = entry_fields m;
   nested_type = [];
   enum_type = [];
   extension_range = [];

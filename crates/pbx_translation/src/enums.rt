@@ -1,30 +1,35 @@
 //! Records of enums.
 
-ghost use Rattle.std.specs.Prelude.{◌≡◌, pos, IfOk};
+ghost use Rattle.std.specs.Prelude.{◌≡◌, map, pos, IfOk};
+ghost use Rattle.std.specs.List.{filter_map};
+ghost use Rattle.pbx_tree.specs.declared.options.OptionPlace.TheVariants as places;
+ghost use Rattle.pbx_tree.specs.Conditions.{enum_setting};
 ghost use Rattle.pbx_tree.specs.View.{literal_of, range_of, enum_number_of, value_of, enum_item_of, enum_of};
 ghost use Rattle.pbx_translation.specs.Texts.{string_text as string_text_of};
+ghost use Rattle.pbx_translation.specs.Settings.{options_of};
 ghost use Rattle.pbx_translation.specs.Enums.{last_number as last_number_of, value_record as value_record_of, value_records, enum_range, range_records, reserved_names_in, enum_record as enum_record_of};
 
 use crate::passes::{Becomes, Gives, add_each, all_given};
 use crate::settings::{listed_options, options};
 use crate::texts::{signed, string_text};
-use pbx_desc::{EnumDescriptorProto, EnumReservedRange, EnumValueDescriptorProto};
+use pbx_desc::{EnumDescriptorProto, EnumReservedRange, EnumValueDescriptorProto, Options};
 use pbx_tree::{
     Enum, EnumItem, EnumNumber, Literal, OptionPlace, Range, RangeEnd, Reserved, Value, Version,
     enum_settings,
 };
-use pbx_wire::{List, NoMemory, Text};
+use pbx_wire::{List, NoMemory, Recs, Text};
 use std::alloc::Global;
 
 #[tactic(auto, unfolding(crate::specs::Enums::value_record))]
 fn value_record(alloc: Global, value: &Value<'_>) -> Result<EnumValueDescriptorProto, NoMemory>
     ensures { IfOk result (λ it. it ≡ value_record_of (value_of value.now)) }
 {
-    let mut record = EnumValueDescriptorProto::new(alloc);
-    record.name = Some(Text::from_str(alloc, value.name.text)?);
-    record.number = Some(signed(&value.number));
-    record.options = listed_options(alloc, OptionPlace::EnumValue, &value.settings)?;
-    Ok(record)
+    Ok(EnumValueDescriptorProto {
+        name: Some(Text::from_str(alloc, value.name.text)?),
+        number: Some(signed(&value.number)),
+        options: listed_options(alloc, OptionPlace::EnumValue, &value.settings)?,
+        unknown: Recs::new(alloc),
+    })
 }
 
 impl Gives<EnumValueDescriptorProto> for EnumItem<'_> {
@@ -106,6 +111,14 @@ impl Gives<Text> for EnumItem<'_> {
     }
 }
 
+/// The options record of an enum.
+fn enum_options(alloc: Global, items: &[EnumItem<'_>]) -> Result<Option<Options>, NoMemory>
+    ensures { IfOk result (λ set. set ≡ options_of places.Enum (filter_map enum_setting (map enum_item_of items.now))) }
+{
+    let settings = enum_settings(alloc, items)?;
+    options(alloc, OptionPlace::Enum, settings.as_slice())
+}
+
 /// The record of an enum.
 #[tactic(auto, unfolding(crate::specs::Enums::enum_record))]
 pub(crate) fn enum_record(
@@ -116,12 +129,12 @@ pub(crate) fn enum_record(
     ensures { IfOk result (λ it. it ≡ enum_record_of (enum_of item.now)) }
 {
     let items = item.items.as_slice();
-    let settings = enum_settings(alloc, items)?;
-    let mut record = EnumDescriptorProto::new(alloc);
-    record.name = Some(Text::from_str(alloc, item.name.text)?);
-    record.value = all_given(alloc, version, items)?;
-    record.options = options(alloc, OptionPlace::Enum, settings.as_slice())?;
-    record.reserved_range = all_given(alloc, version, items)?;
-    record.reserved_name = all_given(alloc, version, items)?;
-    Ok(record)
+    Ok(EnumDescriptorProto {
+        name: Some(Text::from_str(alloc, item.name.text)?),
+        value: all_given(alloc, version, items)?,
+        options: enum_options(alloc, items)?,
+        reserved_range: all_given(alloc, version, items)?,
+        reserved_name: all_given(alloc, version, items)?,
+        unknown: Recs::new(alloc),
+    })
 }

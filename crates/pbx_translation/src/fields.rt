@@ -6,7 +6,7 @@ ghost use Rattle.pbx_token.specs.Escapes.{unescaped};
 ghost use Rattle.pbx_tree.specs.Conditions.{settings_of as some_settings_of};
 ghost use Rattle.pbx_tree.specs.View.{constant_of, settings_of, type_of, kind_of, tail_of, field_of, map_of, member_of, extension_of, extend_of};
 ghost use Rattle.pbx_translation.specs.Texts.{escaped as escaped_of};
-ghost use Rattle.pbx_translation.specs.Fields.{label_of, type_number as type_number_of, kind_number as kind_number_of, kind_name as kind_name_of, default_text as default_text_of, default_of, json_name_of, untyped_field as untyped_field_of, typed_field as typed_field_of, labelled_field as labelled_field_of, is_proto3_optional as is_proto3_optional_of, field_record as field_record_of, member_records, extension_record as extension_record_of, extension_records, extend_records, map_record as map_record_of, entry_field as entry_field_of, entry_options as entry_options_of, entry_record as entry_record_of};
+ghost use Rattle.pbx_translation.specs.Fields.{label_of, type_number as type_number_of, kind_number as kind_number_of, kind_name as kind_name_of, default_text as default_text_of, default_of, json_name_of, untyped_field as untyped_field_of, typed_field as typed_field_of, labelled_field as labelled_field_of, is_proto3_optional as is_proto3_optional_of, field_record as field_record_of, member_records, extension_record as extension_record_of, extension_records, extend_records, map_record as map_record_of, entry_field as entry_field_of, entry_fields as entry_fields_of, entry_options as entry_options_of, entry_record as entry_record_of};
 
 use crate::settings::{listed_options, set_to};
 use crate::texts::{entry_name, escaped, number_text, string_text, type_text};
@@ -141,12 +141,15 @@ fn untyped_field(
 ) -> Result<FieldDescriptorProto, NoMemory>
     ensures { IfOk result (λ it. it ≡ untyped_field_of label (tail_of tail.now)) }
 {
+    let name = Text::from_str(alloc, tail.name.text)?;
+    let options = listed_options(alloc, OptionPlace::Field, &tail.settings)?;
+    let json_name = json_name(alloc, &tail.settings)?;
     let mut record = FieldDescriptorProto::new(alloc);
-    record.name = Some(Text::from_str(alloc, tail.name.text)?);
+    record.name = Some(name);
     record.number = Some(tail.number.value as i32);
     record.label = Some(label);
-    record.options = listed_options(alloc, OptionPlace::Field, &tail.settings)?;
-    record.json_name = json_name(alloc, &tail.settings)?;
+    record.options = options;
+    record.json_name = json_name;
     Ok(record)
 }
 
@@ -160,10 +163,12 @@ fn typed_field(
 ) -> Result<FieldDescriptorProto, NoMemory>
     ensures { IfOk result (λ it. it ≡ typed_field_of label (kind_of kind.now) (tail_of tail.now)) }
 {
+    let type_name = kind_name(alloc, kind)?;
+    let default_value = default_value(alloc, kind, &tail.settings)?;
     let mut record = untyped_field(alloc, label, tail)?;
     record.kind = kind_number(kind);
-    record.type_name = kind_name(alloc, kind)?;
-    record.default_value = default_value(alloc, kind, &tail.settings)?;
+    record.type_name = type_name;
+    record.default_value = default_value;
     Ok(record)
 }
 
@@ -205,11 +210,13 @@ pub(crate) fn field_record(
 ) -> Result<FieldDescriptorProto, NoMemory>
     ensures { IfOk result (λ it. it ≡ field_record_of version made (field_of field.now)) }
 {
-    let mut record = labelled_field(alloc, field)?;
-    if is_proto3_optional(version, &field.label) {
-        record.oneof_index = Some(index(made)?);
-        record.proto3_optional = Some(true);
+    if !is_proto3_optional(version, &field.label) {
+        return labelled_field(alloc, field);
     }
+    let oneof_index = index(made)?;
+    let mut record = labelled_field(alloc, field)?;
+    record.oneof_index = Some(oneof_index);
+    record.proto3_optional = Some(true);
     Ok(record)
 }
 
@@ -226,8 +233,9 @@ fn add_member(
     match member {
         Member::Empty(_) => Ok(()),
         Member::Field(kind, tail) => {
+            let oneof_index = index(oneof)?;
             let mut record = typed_field(alloc, LABEL_OPTIONAL, kind, tail)?;
-            record.oneof_index = Some(index(oneof)?);
+            record.oneof_index = Some(oneof_index);
             records.add(record)
         }
     }
@@ -257,8 +265,9 @@ fn extension_record(
 ) -> Result<FieldDescriptorProto, NoMemory>
     ensures { IfOk result (λ it. it ≡ extension_record_of version (type_of extendee.now) (field_of field.now)) }
 {
+    let extendee = type_text(alloc, extendee)?;
     let mut record = labelled_field(alloc, field)?;
-    record.extendee = Some(type_text(alloc, extendee)?);
+    record.extendee = Some(extendee);
     if is_proto3_optional(version, &field.label) {
         record.proto3_optional = Some(true);
     }
@@ -306,8 +315,9 @@ pub(crate) fn map_record(
 ) -> Result<FieldDescriptorProto, NoMemory>
     ensures { IfOk result (λ it. it ≡ map_record_of (map_of map.now)) }
 {
+    let type_name = entry_name(alloc, map.tail.name.text)?;
     let mut record = untyped_field(alloc, LABEL_REPEATED, &map.tail)?;
-    record.type_name = Some(entry_name(alloc, map.tail.name.text)?);
+    record.type_name = Some(type_name);
     Ok(record)
 }
 
@@ -321,13 +331,30 @@ fn entry_field(
 ) -> Result<FieldDescriptorProto, NoMemory>
     ensures { IfOk result (λ it. it ≡ entry_field_of name.now number kind type_name) }
 {
+    let name = Text::from_str(alloc, name)?;
     let mut record = FieldDescriptorProto::new(alloc);
-    record.name = Some(Text::from_str(alloc, name)?);
+    record.name = Some(name);
     record.number = Some(number);
     record.label = Some(LABEL_OPTIONAL);
     record.kind = kind;
     record.type_name = type_name;
     Ok(record)
+}
+
+/// The key and the value of an entry.
+fn entry_fields(
+    alloc: Global,
+    map: &MapField<'_>,
+) -> Result<List<FieldDescriptorProto>, NoMemory>
+    ensures { IfOk result (λ fields. fields ≡ entry_fields_of (map_of map.now)) }
+{
+    let key = entry_field(alloc, "key", 1, Some(type_number(map.key)), None)?;
+    let mut fields = List::new(alloc);
+    fields.add(key)?;
+    let type_name = kind_name(alloc, &map.value)?;
+    let value = entry_field(alloc, "value", 2, kind_number(&map.value), type_name)?;
+    fields.add(value)?;
+    Ok(fields)
 }
 
 /// The options of an entry.
@@ -344,13 +371,12 @@ fn entry_options(alloc: Global) -> Result<Options, NoMemory>
 pub(crate) fn entry_record(alloc: Global, map: &MapField<'_>) -> Result<DescriptorProto, NoMemory>
     ensures { IfOk result (λ it. it ≡ entry_record_of (map_of map.now)) }
 {
-    let key = entry_field(alloc, "key", 1, Some(type_number(map.key)), None)?;
-    let type_name = kind_name(alloc, &map.value)?;
-    let value = entry_field(alloc, "value", 2, kind_number(&map.value), type_name)?;
+    let name = entry_name(alloc, map.tail.name.text)?;
+    let field = entry_fields(alloc, map)?;
+    let options = entry_options(alloc)?;
     let mut record = DescriptorProto::new(alloc);
-    record.name = Some(entry_name(alloc, map.tail.name.text)?);
-    record.field.add(key)?;
-    record.field.add(value)?;
-    record.options = Some(entry_options(alloc)?);
+    record.name = Some(name);
+    record.field = field;
+    record.options = Some(options);
     Ok(record)
 }

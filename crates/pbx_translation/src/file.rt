@@ -2,6 +2,7 @@
 
 ghost use Rattle.std.specs.Prelude.{◌≡◌, ◌++◌, [], map, option_map, unwrap_or, IfOk, OnOk};
 ghost use Rattle.std.specs.List.{flat_map, filter_map};
+ghost use Rattle.pbx_tree.specs.declared.tree.Modifier.TheVariants as modifiers;
 ghost use Rattle.pbx_tree.specs.declared.tree.Version.TheVariants as versions;
 ghost use Rattle.pbx_tree.specs.declared.options.OptionPlace.TheVariants as places;
 ghost use Rattle.pbx_tree.specs.Conditions.{version_of, packages, top_setting};
@@ -22,7 +23,7 @@ use pbx_desc::{
 };
 use pbx_token::stands_for;
 use pbx_tree::{File, Import, Modifier, OptionPlace, Syntax, Top, Version, file_settings};
-use pbx_wire::{List, NoMemory, Text, Texts};
+use pbx_wire::{List, NoMemory, Recs, Text, Texts};
 use std::alloc::Global;
 
 impl Gives<DescriptorProto> for Top<'_> {
@@ -241,6 +242,60 @@ fn all_declared(
     Ok(all)
 }
 
+/// What a file says of its imports.
+#[derive(Drop)]
+struct ImportLists {
+    names: Texts,
+    public: List<i32>,
+    weak: List<i32>,
+}
+
+/// The names of the files that are imported, and the indexes of those that have a modifier.
+fn import_lists(alloc: Global, tops: &[Top<'_>]) -> Result<ImportLists, NoMemory>
+    ensures names { IfOk result (λ lists. lists.names ≡ map import_name (flat_map imports_in (map top_of tops.now))) }
+    ensures public { IfOk result (λ lists. lists.public ≡ indexes_from 0 modifiers.Public (flat_map imports_in (map top_of tops.now))) }
+    ensures weak { IfOk result (λ lists. lists.weak ≡ indexes_from 0 modifiers.Weak (flat_map imports_in (map top_of tops.now))) }
+{
+    let all = imports(alloc, tops)?;
+    let imports = all.as_slice();
+    let names = import_names(alloc, imports)?;
+    let public = indexes(alloc, Modifier::Public, imports)?;
+    let weak = indexes(alloc, Modifier::Weak, imports)?;
+    Ok(ImportLists {
+        names,
+        public,
+        weak,
+    })
+}
+
+/// What a file says of itself.
+#[derive(Drop)]
+struct Head {
+    name: Text,
+    package: Option<Text>,
+    options: Option<Options>,
+    syntax: Option<Text>,
+}
+
+/// The name, the package, the options record and the version's name.
+fn file_head(alloc: Global, name: &str, version: Version, tops: &[Top<'_>]) -> Result<Head, NoMemory>
+    ensures name { IfOk result (λ head. head.name ≡ name.now) }
+    ensures package_name { IfOk result (λ head. head.«package» ≡ package_name_of (packages (map top_of tops.now))) }
+    ensures options { IfOk result (λ head. head.options ≡ options_of places.File (filter_map top_setting (map top_of tops.now))) }
+    ensures syntax_name { IfOk result (λ head. head.syntax ≡ syntax_name_of version) }
+{
+    let name = Text::from_str(alloc, name)?;
+    let package = package_name(alloc, tops)?;
+    let options = file_options(alloc, tops)?;
+    let syntax = syntax_name(alloc, version)?;
+    Ok(Head {
+        name,
+        package,
+        options,
+        syntax,
+    })
+}
+
 /// The descriptor record of a file of this name, with these locations. The only error is want of memory.
 pub fn translate(
     alloc: Global,
@@ -252,20 +307,22 @@ pub fn translate(
 {
     let version = version(&file.syntax);
     let tops = file.tops.as_slice();
-    let imports = imports(alloc, tops)?;
-    let mut record = FileDescriptorProto::new(alloc);
-    record.name = Some(Text::from_str(alloc, name)?);
-    record.package = package_name(alloc, tops)?;
-    record.dependency = import_names(alloc, imports.as_slice())?;
-    record.options = file_options(alloc, tops)?;
-    record.source_code_info = Some(source_code_info(alloc, locations));
-    record.public_dependency = indexes(alloc, Modifier::Public, imports.as_slice())?;
-    record.weak_dependency = indexes(alloc, Modifier::Weak, imports.as_slice())?;
-    record.syntax = syntax_name(alloc, version)?;
+    let imports = import_lists(alloc, tops)?;
+    let head = file_head(alloc, name, version, tops)?;
     let declared = all_declared(alloc, version, file.tops)?;
-    record.message_type = declared.messages;
-    record.enum_type = declared.enums;
-    record.service = declared.services;
-    record.extension = declared.extensions;
-    Ok(record)
+    Ok(FileDescriptorProto {
+        name: Some(head.name),
+        package: head.package,
+        dependency: imports.names,
+        message_type: declared.messages,
+        enum_type: declared.enums,
+        service: declared.services,
+        extension: declared.extensions,
+        options: head.options,
+        source_code_info: Some(source_code_info(alloc, locations)),
+        public_dependency: imports.public,
+        weak_dependency: imports.weak,
+        syntax: head.syntax,
+        unknown: Recs::new(alloc),
+    })
 }

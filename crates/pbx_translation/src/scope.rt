@@ -152,8 +152,9 @@ fn free_name(alloc: Global, scope: &Scope, name: String) -> Result<String, NoMem
 pub(crate) fn oneof_record(alloc: Global, name: &str) -> Result<OneofDescriptorProto, NoMemory>
     ensures { IfOk result (λ it. it ≡ oneof_record_of name.now) }
 {
+    let name = Text::from_str(alloc, name)?;
     let mut record = OneofDescriptorProto::new(alloc);
-    record.name = Some(Text::from_str(alloc, name)?);
+    record.name = Some(name);
     Ok(record)
 }
 

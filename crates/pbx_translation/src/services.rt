@@ -1,19 +1,23 @@
 //! Records of services.
 
 ghost use Rattle.std.specs.Prelude.{◌≡◌, map, IfOk};
+ghost use Rattle.std.specs.List.{filter_map};
+ghost use Rattle.pbx_tree.specs.declared.options.OptionPlace.TheVariants as places;
+ghost use Rattle.pbx_tree.specs.Conditions.{service_setting};
 ghost use Rattle.pbx_tree.specs.View.{setting_of, method_end_of, method_of, service_item_of, service_of};
+ghost use Rattle.pbx_translation.specs.Settings.{options_of};
 ghost use Rattle.pbx_translation.specs.Services.{streaming as streaming_of, method_settings as method_settings_of, method_record as method_record_of, method_records, service_record as service_record_of};
 
 use crate::passes::{Gives, all_given};
 use crate::settings::options;
 use crate::texts::type_text;
-use pbx_desc::{MethodDescriptorProto, ServiceDescriptorProto};
+use pbx_desc::{MethodDescriptorProto, Options, ServiceDescriptorProto};
 use pbx_token::Span;
 use pbx_tree::{
     Method, MethodEnd, OptionPlace, Service, ServiceItem, Setting, Version, method_settings,
     service_settings,
 };
-use pbx_wire::{List, NoMemory, Text};
+use pbx_wire::{List, NoMemory, Recs, Text};
 use std::alloc::{AllocError, Global};
 
 /// Whether `stream` is written.
@@ -36,19 +40,27 @@ fn end_settings<'a>(alloc: Global, end: &'a MethodEnd<'_>) -> Result<Vec<Setting
     }
 }
 
+/// The options record of a method.
+fn method_options(alloc: Global, end: &MethodEnd<'_>) -> Result<Option<Options>, NoMemory>
+    ensures { IfOk result (λ set. set ≡ options_of places.Method (method_settings_of (method_end_of end.now))) }
+{
+    let settings = end_settings(alloc, end)?;
+    options(alloc, OptionPlace::Method, settings.as_slice())
+}
+
 #[tactic(auto, unfolding(crate::specs::Services::method_record))]
 fn method_record(alloc: Global, method: &Method<'_>) -> Result<MethodDescriptorProto, NoMemory>
     ensures { IfOk result (λ it. it ≡ method_record_of (method_of method.now)) }
 {
-    let settings = end_settings(alloc, &method.end)?;
-    let mut record = MethodDescriptorProto::new(alloc);
-    record.name = Some(Text::from_str(alloc, method.name.text)?);
-    record.input_type = Some(type_text(alloc, &method.input.name)?);
-    record.output_type = Some(type_text(alloc, &method.output.name)?);
-    record.options = options(alloc, OptionPlace::Method, settings.as_slice())?;
-    record.client_streaming = streaming(method.input.stream);
-    record.server_streaming = streaming(method.output.stream);
-    Ok(record)
+    Ok(MethodDescriptorProto {
+        name: Some(Text::from_str(alloc, method.name.text)?),
+        input_type: Some(type_text(alloc, &method.input.name)?),
+        output_type: Some(type_text(alloc, &method.output.name)?),
+        options: method_options(alloc, &method.end)?,
+        client_streaming: streaming(method.input.stream),
+        server_streaming: streaming(method.output.stream),
+        unknown: Recs::new(alloc),
+    })
 }
 
 impl Gives<MethodDescriptorProto> for ServiceItem<'_> {
@@ -67,6 +79,14 @@ impl Gives<MethodDescriptorProto> for ServiceItem<'_> {
     }
 }
 
+/// The options record of a service.
+fn service_options(alloc: Global, items: &[ServiceItem<'_>]) -> Result<Option<Options>, NoMemory>
+    ensures { IfOk result (λ set. set ≡ options_of places.Service (filter_map service_setting (map service_item_of items.now))) }
+{
+    let settings = service_settings(alloc, items)?;
+    options(alloc, OptionPlace::Service, settings.as_slice())
+}
+
 /// The record of a service.
 #[tactic(auto, unfolding(crate::specs::Services::service_record))]
 pub(crate) fn service_record(
@@ -77,10 +97,10 @@ pub(crate) fn service_record(
     ensures { IfOk result (λ it. it ≡ service_record_of (service_of service.now)) }
 {
     let items = service.items.as_slice();
-    let settings = service_settings(alloc, items)?;
-    let mut record = ServiceDescriptorProto::new(alloc);
-    record.name = Some(Text::from_str(alloc, service.name.text)?);
-    record.method = all_given(alloc, version, items)?;
-    record.options = options(alloc, OptionPlace::Service, settings.as_slice())?;
-    Ok(record)
+    Ok(ServiceDescriptorProto {
+        name: Some(Text::from_str(alloc, service.name.text)?),
+        method: all_given(alloc, version, items)?,
+        options: service_options(alloc, items)?,
+        unknown: Recs::new(alloc),
+    })
 }

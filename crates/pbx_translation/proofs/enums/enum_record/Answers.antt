@@ -8,7 +8,7 @@ use Rattle.pbx_wire.specs.declared.rec.Rec.{Rec}
 use Rattle.pbx_tree.specs.declared.options.OptionPlace.TheVariants as places
 use Rattle.pbx_tree.specs.Conditions.{enum_setting}
 use Rattle.pbx_tree.specs.Tree.{Enum}
-use Rattle.pbx_tree.specs.View.{enum_item_of, enum_of, setting_of}
+use Rattle.pbx_tree.specs.View.{enum_item_of, enum_of}
 use Rattle.pbx_translation.specs.Settings.{options_of}
 use Rattle.pbx_translation.specs.Enums.{enum_record, value_records, range_records, reserved_names_in}
 use Rattle.pbx_translation.proofs.Lists.{flat_seen}
@@ -39,10 +39,10 @@ returns c =
     let seen = c.as_slice-items.result.now in
     let all = c.args.item.now.items.items in
     let are : seen ≡ all = c.as_slice-items.ensures.value in
-    from_parts (enum_of c.args.item.now) c.in_ok-from_str.field-0 c.in_ok-record.field-0 c.in_ok-record-2.field-0 c.in_ok-record-3.field-0 c.in_ok-record-4.field-0 c.new-record.result.unknown
+    from_parts (enum_of c.args.item.now) c.in_ok-from_str.field-0 c.in_ok-all_given.field-0 c.in_ok-enum_options.field-0 c.in_ok-all_given-2.field-0 c.in_ok-all_given-3.field-0 c.new.result
     c.in_ok-from_str.ensures
-    (c.in_ok-record.ensures ∙ flat_seen value_records enum_item_of seen ∙ ap (λ xs. flat_map value_records (map enum_item_of xs)) are)
-    (c.in_ok-record-2.ensures ∙ ap (options_of places.Enum) (ap (map setting_of) c.as_slice.ensures.value ∙ c.in_ok-settings.ensures ∙ ap (λ xs. filter_map enum_setting (map enum_item_of xs)) are))
-    (c.in_ok-record-3.ensures ∙ flat_seen range_records enum_item_of seen ∙ ap (λ xs. flat_map range_records (map enum_item_of xs)) are)
-    (c.in_ok-record-4.ensures ∙ flat_seen reserved_names_in enum_item_of seen ∙ ap (λ xs. flat_map reserved_names_in (map enum_item_of xs)) are)
-    (ap (λ r. r.unknown) c.new-record.ensures)
+    (c.in_ok-all_given.ensures ∙ flat_seen value_records enum_item_of seen ∙ ap (λ xs. flat_map value_records (map enum_item_of xs)) are)
+    (c.in_ok-enum_options.ensures ∙ ap (λ xs. options_of places.Enum (filter_map enum_setting (map enum_item_of xs))) are)
+    (c.in_ok-all_given-2.ensures ∙ flat_seen range_records enum_item_of seen ∙ ap (λ xs. flat_map range_records (map enum_item_of xs)) are)
+    (c.in_ok-all_given-3.ensures ∙ flat_seen reserved_names_in enum_item_of seen ∙ ap (λ xs. flat_map reserved_names_in (map enum_item_of xs)) are)
+    c.new.ensures

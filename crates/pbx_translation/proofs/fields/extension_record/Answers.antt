@@ -19,9 +19,9 @@ returns c =
     elim c.if-is_proto3_optional.branch [
       | then-is_proto3_optional w ↦
           let has : presence optional ≡ Some true = ap presence (sym c.is_proto3_optional.ensures ∙ w.if-is_proto3_optional.true) in
-          cc (w.record-is, has, c.in_ok-record.ensures, c.in_ok-type_text.ensures)
+          cc (w.record-is, has, c.in_ok-record.ensures, c.in_ok-extendee.ensures)
       | else-is_proto3_optional w ↦
           let has : presence optional ≡ None = ap presence (sym c.is_proto3_optional.ensures ∙ w.if-is_proto3_optional.false) in
           let kept : c.in_ok-record.record.proto3_optional ≡ None = ap (λ r. r.proto3_optional) c.in_ok-record.ensures ∙ without_presence f in
-          cc (w.record-is, has, kept, c.in_ok-record.ensures, c.in_ok-type_text.ensures)
+          cc (w.record-is, has, kept, c.in_ok-record.ensures, c.in_ok-extendee.ensures)
     ]

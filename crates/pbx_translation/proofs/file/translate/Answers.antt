@@ -14,31 +14,32 @@ returns c =
     let xs = c.args.file.tops.items in
     let tops = c.as_slice-tops.result.now in
     let same : tops ≡ xs = c.as_slice-tops.ensures.value in
-    let imports : map import_of c.in_ok-imports.imports.items ≡ flat_map imports_in (map top_of xs) = c.in_ok-imports.ensures ∙ ap (λ ts. flat_map imports_in (map top_of ts)) same in
+    let imports = c.in_ok-imports.imports in
+    let head = c.in_ok-head.head in
     let all = c.in_ok-declared.declared in
-    file_made c.args.name.now c.in_ok-from_str.field-0 (file_of c.args.file) c.args.locations
-    c.in_ok-record.field-0
-    c.in_ok-record-2.field-0
+    file_made c.args.name.now head.name (file_of c.args.file) c.args.locations
+    head.«package»
+    imports.names
     all.messages
     all.enums
     all.services
     all.extensions
-    c.in_ok-record-3.field-0
+    head.options
     c.source_code_info.result
-    c.in_ok-record-4.field-0
-    c.in_ok-record-5.field-0
-    c.in_ok-record-6.field-0
-    c.new-record.result.unknown
-    c.in_ok-from_str.ensures
-    (c.in_ok-record.ensures ∙ ap (λ ts. package_name (packages (map top_of ts))) same)
-    (c.in_ok-record-2.ensures ∙ ap (map import_name) (ap (map import_of) c.as_slice.ensures.value ∙ imports))
+    imports.public
+    imports.weak
+    head.syntax
+    c.new.result
+    c.in_ok-head.ensures.name
+    (c.in_ok-head.ensures.package_name ∙ ap (λ ts. package_name (packages (map top_of ts))) same)
+    (c.in_ok-imports.ensures.names ∙ ap (λ ts. map import_name (flat_map imports_in (map top_of ts))) same)
     (c.in_ok-declared.ensures.messages ∙ ap (λ w. flat_map (messages_in w) (map top_of xs)) c.version-version.ensures)
     c.in_ok-declared.ensures.enums
     c.in_ok-declared.ensures.services
     (c.in_ok-declared.ensures.extensions ∙ ap (λ w. flat_map (extensions_in w) (map top_of xs)) c.version-version.ensures)
-    (c.in_ok-record-3.ensures ∙ ap (λ ts. options_of places.File (filter_map top_setting (map top_of ts))) same)
+    (c.in_ok-head.ensures.options ∙ ap (λ ts. options_of places.File (filter_map top_setting (map top_of ts))) same)
     c.source_code_info.ensures
-    (c.in_ok-record-4.ensures ∙ ap (indexes_from 0 modifiers.Public) (ap (map import_of) c.as_slice-2.ensures.value ∙ imports))
-    (c.in_ok-record-5.ensures ∙ ap (indexes_from 0 modifiers.Weak) (ap (map import_of) c.as_slice-3.ensures.value ∙ imports))
-    (c.in_ok-record-6.ensures ∙ ap syntax_name c.version-version.ensures)
-    (ap (λ r. r.unknown) c.new-record.ensures)
+    (c.in_ok-imports.ensures.public ∙ ap (λ ts. indexes_from 0 modifiers.Public (flat_map imports_in (map top_of ts))) same)
+    (c.in_ok-imports.ensures.weak ∙ ap (λ ts. indexes_from 0 modifiers.Weak (flat_map imports_in (map top_of ts))) same)
+    (c.in_ok-head.ensures.syntax_name ∙ ap syntax_name c.version-version.ensures)
+    c.new.ensures

@@ -2,7 +2,7 @@ use Rattle.std.proofs.Common.{◌≡◌, map, ap, ◌∙◌}
 use Rattle.std.specs.List.{flat_map, filter_map}
 use Rattle.pbx_tree.specs.declared.options.OptionPlace.TheVariants as places
 use Rattle.pbx_tree.specs.Conditions.{service_setting}
-use Rattle.pbx_tree.specs.View.{setting_of, service_item_of, service_of}
+use Rattle.pbx_tree.specs.View.{service_item_of, service_of}
 use Rattle.pbx_translation.specs.Settings.{options_of}
 use Rattle.pbx_translation.specs.Services.{method_records}
 use Rattle.pbx_translation.proofs.Lists.{flat_seen}
@@ -12,9 +12,8 @@ use Rattle.pbx_translation.proofs.services.service_record.Goals as goal
 pub returns : goal.returns
 returns c =
     let all = c.args.service.now.items.items in
-    let methods : c.in_ok-record.field-0 ≡ flat_map method_records (map service_item_of all) =
-    c.in_ok-record.ensures ∙ ap (flat_map (λ i. method_records (service_item_of i))) c.as_slice-items.ensures.value ∙ flat_seen method_records service_item_of all in
-    let options : c.in_ok-record-2.field-0 ≡ options_of places.Service (filter_map service_setting (map service_item_of all)) =
-    c.in_ok-record-2.ensures
-    ∙ ap (options_of places.Service) (ap (map setting_of) c.as_slice.ensures.value ∙ c.in_ok-settings.ensures ∙ ap (λ is. filter_map service_setting (map service_item_of is)) c.as_slice-items.ensures.value) in
-    service_made (service_of c.args.service.now) c.in_ok-from_str.field-0 c.in_ok-record.field-0 c.in_ok-record-2.field-0 c.new-record.result.unknown c.in_ok-from_str.ensures methods options (ap (λ r. r.unknown) c.new-record.ensures)
+    let methods : c.in_ok-all_given.field-0 ≡ flat_map method_records (map service_item_of all) =
+    c.in_ok-all_given.ensures ∙ ap (flat_map (λ i. method_records (service_item_of i))) c.as_slice-items.ensures.value ∙ flat_seen method_records service_item_of all in
+    let options : c.in_ok-service_options.field-0 ≡ options_of places.Service (filter_map service_setting (map service_item_of all)) =
+    c.in_ok-service_options.ensures ∙ ap (λ is. options_of places.Service (filter_map service_setting (map service_item_of is))) c.as_slice-items.ensures.value in
+    service_made (service_of c.args.service.now) c.in_ok-from_str.field-0 c.in_ok-all_given.field-0 c.in_ok-service_options.field-0 c.new.result c.in_ok-from_str.ensures methods options c.new.ensures
