@@ -1,4 +1,4 @@
-ghost use Rattle.std.specs.Prelude.{◌≡◌, IfOk};
+ghost use Rattle.std.specs.Prelude.{◌≡◌, IfOk, OnOk};
 
 use crate::enumeration::{EnumDescriptorProto, EnumReservedRange, EnumValueDescriptorProto};
 use crate::field::{FieldDescriptorProto, OneofDescriptorProto};
@@ -14,6 +14,15 @@ use std::alloc::Global;
 pub(crate) trait Duplicate: Drop + Sized {
     fn duplicate(&self, alloc: Global) -> Result<Self, NoMemory>
         ensures { IfOk result (λ copy. copy ≡ self.now) };
+}
+
+/// Puts an equal value in place of the other. A record is copied part by part in this way: nothing that is owned lives where
+/// memory runs out.
+pub(crate) fn copy_to<T: Duplicate>(from: &T, to: &mut T, alloc: Global) -> Result<(), NoMemory>
+    ensures { OnOk result (to.new ≡ from.now) }
+{
+    *to = from.duplicate(alloc)?;
+    Ok(())
 }
 
 impl Duplicate for i32 {

@@ -1,9 +1,9 @@
-ghost use Rattle.std.specs.Prelude.{◌≡◌, None, [], IfOk};
+ghost use Rattle.std.specs.Prelude.{◌≡◌, None, [], IfOk, OnOk};
 ghost use Rattle.pbx_desc_shape.specs.Shape.{descriptor_shape};
 ghost use Rattle.pbx_desc.specs.Content.{field_content, oneof_content};
 
 use crate::contents::{FieldList, HasContents};
-use crate::copy::Duplicate;
+use crate::copy::{Duplicate, copy_to};
 use crate::encoding::{Message, record_bytes};
 use crate::options::Options;
 use pbx_content::Contents;
@@ -78,20 +78,27 @@ impl FieldDescriptorProto {
     pub fn copy(&self, alloc: Global) -> Result<FieldDescriptorProto, NoMemory>
         ensures { IfOk result (λ copy. copy ≡ self.now) }
     {
-        Ok(FieldDescriptorProto {
-            name: self.name.duplicate(alloc)?,
-            extendee: self.extendee.duplicate(alloc)?,
-            number: self.number,
-            label: self.label,
-            kind: self.kind,
-            type_name: self.type_name.duplicate(alloc)?,
-            default_value: self.default_value.duplicate(alloc)?,
-            options: self.options.duplicate(alloc)?,
-            oneof_index: self.oneof_index,
-            json_name: self.json_name.duplicate(alloc)?,
-            proto3_optional: self.proto3_optional,
-            unknown: copy_recs(&self.unknown, alloc)?,
-        })
+        let mut copy = FieldDescriptorProto::new(alloc);
+        self.copy_parts(&mut copy, alloc)?;
+        Ok(copy)
+    }
+
+    fn copy_parts(&self, to: &mut FieldDescriptorProto, alloc: Global) -> Result<(), NoMemory>
+        ensures { OnOk result (to.new ≡ self.now) }
+    {
+        copy_to(&self.name, &mut to.name, alloc)?;
+        copy_to(&self.extendee, &mut to.extendee, alloc)?;
+        to.number = self.number;
+        to.label = self.label;
+        to.kind = self.kind;
+        copy_to(&self.type_name, &mut to.type_name, alloc)?;
+        copy_to(&self.default_value, &mut to.default_value, alloc)?;
+        copy_to(&self.options, &mut to.options, alloc)?;
+        to.oneof_index = self.oneof_index;
+        copy_to(&self.json_name, &mut to.json_name, alloc)?;
+        to.proto3_optional = self.proto3_optional;
+        to.unknown = copy_recs(&self.unknown, alloc)?;
+        Ok(())
     }
 }
 

@@ -5,7 +5,7 @@ ghost use Rattle.pbx_desc.specs.Content.{file_set_content, file_content};
 ghost use Rattle.pbx_desc.specs.Sound.{IsSoundIfShort};
 
 use crate::contents::{FieldList, HasContents};
-use crate::copy::Duplicate;
+use crate::copy::{Duplicate, copy_to};
 use crate::encoding::{Message, record_bytes};
 use crate::enumeration::EnumDescriptorProto;
 use crate::field::FieldDescriptorProto;
@@ -146,21 +146,28 @@ impl FileDescriptorProto {
     pub fn copy(&self, alloc: Global) -> Result<FileDescriptorProto, NoMemory>
         ensures { IfOk result (λ copy. copy ≡ self.now) }
     {
-        Ok(FileDescriptorProto {
-            name: self.name.duplicate(alloc)?,
-            package: self.package.duplicate(alloc)?,
-            dependency: self.dependency.duplicate(alloc)?,
-            message_type: self.message_type.duplicate(alloc)?,
-            enum_type: self.enum_type.duplicate(alloc)?,
-            service: self.service.duplicate(alloc)?,
-            extension: self.extension.duplicate(alloc)?,
-            options: self.options.duplicate(alloc)?,
-            source_code_info: self.source_code_info.duplicate(alloc)?,
-            public_dependency: self.public_dependency.duplicate(alloc)?,
-            weak_dependency: self.weak_dependency.duplicate(alloc)?,
-            syntax: self.syntax.duplicate(alloc)?,
-            unknown: copy_recs(&self.unknown, alloc)?,
-        })
+        let mut copy = FileDescriptorProto::new(alloc);
+        self.copy_parts(&mut copy, alloc)?;
+        Ok(copy)
+    }
+
+    fn copy_parts(&self, to: &mut FileDescriptorProto, alloc: Global) -> Result<(), NoMemory>
+        ensures { OnOk result (to.new ≡ self.now) }
+    {
+        copy_to(&self.name, &mut to.name, alloc)?;
+        copy_to(&self.package, &mut to.package, alloc)?;
+        copy_to(&self.dependency, &mut to.dependency, alloc)?;
+        copy_to(&self.message_type, &mut to.message_type, alloc)?;
+        copy_to(&self.enum_type, &mut to.enum_type, alloc)?;
+        copy_to(&self.service, &mut to.service, alloc)?;
+        copy_to(&self.extension, &mut to.extension, alloc)?;
+        copy_to(&self.options, &mut to.options, alloc)?;
+        copy_to(&self.source_code_info, &mut to.source_code_info, alloc)?;
+        copy_to(&self.public_dependency, &mut to.public_dependency, alloc)?;
+        copy_to(&self.weak_dependency, &mut to.weak_dependency, alloc)?;
+        copy_to(&self.syntax, &mut to.syntax, alloc)?;
+        to.unknown = copy_recs(&self.unknown, alloc)?;
+        Ok(())
     }
 
     /// What the file holds as a message of its type. The only error is want of memory.
