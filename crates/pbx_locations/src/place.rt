@@ -78,9 +78,10 @@ fn add_location(
 ) -> Result<(), NoMemory>
     ensures { OnOk result (out.new ≡ out.old ++ place path from to ∷ []) }
 {
+    let span = span(alloc, from, to)?;
     let mut location = Location::new(alloc);
     location.path = path;
-    location.span = span(alloc, from, to)?;
+    location.span = span;
     out.add(location)
 }
 
