@@ -342,10 +342,7 @@ fn entry_field(
 }
 
 /// The key and the value of an entry.
-fn entry_fields(
-    alloc: Global,
-    map: &MapField<'_>,
-) -> Result<List<FieldDescriptorProto>, NoMemory>
+fn entry_fields(alloc: Global, map: &MapField<'_>) -> Result<List<FieldDescriptorProto>, NoMemory>
     ensures { IfOk result (λ fields. fields ≡ entry_fields_of (map_of map.now)) }
 {
     let key = entry_field(alloc, "key", 1, Some(type_number(map.key)), None)?;

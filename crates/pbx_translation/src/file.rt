@@ -278,7 +278,12 @@ struct Head {
 }
 
 /// The name, the package, the options record and the version's name.
-fn file_head(alloc: Global, name: &str, version: Version, tops: &[Top<'_>]) -> Result<Head, NoMemory>
+fn file_head(
+    alloc: Global,
+    name: &str,
+    version: Version,
+    tops: &[Top<'_>],
+) -> Result<Head, NoMemory>
     ensures name { IfOk result (λ head. head.name ≡ name.now) }
     ensures package_name { IfOk result (λ head. head.«package» ≡ package_name_of (packages (map top_of tops.now))) }
     ensures options { IfOk result (λ head. head.options ≡ options_of places.File (filter_map top_setting (map top_of tops.now))) }
