@@ -1,14 +1,14 @@
 -- How an opening is refused.
-use Rattle.std.proofs.Common.{◌≡◌, ◌<◌, ◌++◌, inl, inr, [], ℕ, List, Bool, true, false, refl, ap, ◌∙◌, sym, subst, length, take, drop, get_or, drop-cons}
+use Rattle.std.proofs.Common.{◌≡◌, ◌<◌, ◌++◌, inl, inr, [], ℕ, List, Bool, true, false, refl, sym, subst, length, take, drop, get_or, drop-cons}
 use Rattle.std.proofs.Math.ListN.{set}
 use Rattle.std.proofs.lemmas.List.{set_split}
 use Rattle.std.specs.Prelude.{if◌then◌else◌, Option, Some, None, Result, IfErr}
 use Rattle.std.specs.Str.{bytes_eq}
 use Rattle.pbx_parse.specs.declared.error.ParseError.TheVariants as parse
-use Rattle.protox_file.specs.Told.{Told, Lookup}
+use Rattle.protox_file.specs.Told.{Lookup}
 use Rattle.protox_file.specs.declared.error.ErrorKind.{ErrorKind}
 use Rattle.protox_file.specs.declared.error.ErrorKind.TheVariants.{Parse, Check, OpenFile, FileTooLarge, FileInvalidUtf8, FileNotFound, ImportNotFound, CircularImport, FileNotIncluded, FileShadowed, DuplicateImport, Custom, NameMismatch, FileLimit, Undecodable, NoMemory}
-use Rattle.protox_compile.specs.Walk.{Done, Visited, Finished, Missing, Shadowed, is_done, visits}
+use Rattle.protox_compile.specs.Walk.{Done, Finished, Missing, Shadowed, is_done, visits}
 use Rattle.protox_paths.specs.Paths.{path_equal}
 use Rattle.protox_compile.specs.State.{IsShadowedBy, IsLeftOut, IsRoot}
 use Rattle.protox_compile.specs.Refusals.{Walk, Extends, Ends, OrNoMemory, IsToldBy, is_absent, RefusesWith, HasStepCause, HasOpeningCause}

@@ -1,18 +1,18 @@
 -- What is known of files, and the records of a pool.
-use Rattle.std.proofs.Common.{◌≡◌, ◌+◌, ◌<◌, take, drop, get_or, drop-cons, ◌∷◌, ◌++◌, ◌∙◌, [], ℕ, List, Bool, true, false, refl, sym, ap, subst, length, map, append_assoc, zero, suc, OnErr, Contains, arith, rules}
+use Rattle.std.proofs.Common.{◌≡◌, ◌+◌, ◌<◌, take, drop, get_or, drop-cons, ◌∷◌, ◌++◌, ◌∙◌, [], ℕ, List, Bool, true, false, refl, sym, ap, subst, length, map, suc, Contains, rules}
 use Rattle.std.proofs.Math.ListN.{set}
 use Rattle.std.proofs.lemmas.List.{set_split}
-use Rattle.std.specs.Prelude.{◌||◌, ◌&&◌, ◌==◌, not, nat_lt, if◌then◌else◌, Option, Some, None}
-use Rattle.std.specs.List.{list_any, list_all, filter_map, enumerate_from}
+use Rattle.std.specs.Prelude.{◌||◌, ◌&&◌, ◌==◌, not, if◌then◌else◌, Option, Some, None}
+use Rattle.std.specs.List.{list_any, filter_map, enumerate_from}
 use Rattle.std.specs.Str.{bytes_eq}
 use Rattle.pbx_desc.specs.declared.file.FileDescriptorProto.{FileDescriptorProto}
 use Rattle.pbx_link.specs.Linked.{linked}
 use Rattle.pbx_link.specs.declared.error.DescriptorError.{DescriptorError}
 use Rattle.pbx_link.specs.declared.error.DescriptorError.TheVariants as check
 use Rattle.pbx_link.specs.Built.{is_built}
-use Rattle.pbx_link.specs.Pool.{is_linkable, ArePooled, IsRefused, BreaksFirst}
+use Rattle.pbx_link.specs.Pool.{is_linkable, ArePooled, IsRefused}
 use Rattle.protox_file.specs.Errors.{of_descriptor}
-use Rattle.pbx_link.specs.Rules.{Place, among, is_named, has_file, file_twice, missing_imports, bad_file_name, in_messages, bad_names_in, breaches, is_none, keeps_rules, places_where}
+use Rattle.pbx_link.specs.Rules.{Place, has_file, file_twice, missing_imports, bad_file_name, in_messages, bad_names_in, breaches, is_none, keeps_rules}
 use Rattle.pbx_link.specs.Shapes.{text_or_empty}
 use Rattle.protox_file.specs.Metadata.{Metadata}
 use Rattle.protox_compile.specs.Walk.{Done, Open, is_done, records, done_as, declared_name}

@@ -1,17 +1,15 @@
 -- What is left of a walk whose open files stand on a stack.
-use Rattle.std.proofs.Common.{◌≡◌, ◌+◌, ◌-◌, ◌<◌, ◌≤◌, ◌∷◌, ◌++◌, ◌∙◌, [], ℕ, zero, suc, List, Bool, true, false, refl, length, take, drop, get_or, reverse, arith, drop-cons, length-take}
+use Rattle.std.proofs.Common.{◌≡◌, ◌+◌, ◌-◌, ◌<◌, ◌≤◌, ◌∷◌, ◌++◌, [], ℕ, zero, suc, List, Bool, true, false, refl, length, take, drop, get_or, reverse, arith, drop-cons, length-take}
 use Rattle.std.proofs.Math.Seq.{take-suc}
 use Rattle.std.specs.Prelude.{nat_lt, if◌then◌else◌, Option, Some, None}
 use Rattle.std.specs.Str.{bytes_eq}
 use Rattle.std.proofs.lemmas.Bool.{lt-ltb, le-ltb}
-use Rattle.pbx_desc.specs.declared.file.FileDescriptorProto.{FileDescriptorProto}
-use Rattle.pbx_link.specs.Linked.{linked}
 use Rattle.pbx_link.specs.Pool.{is_linkable}
 use Rattle.pbx_link.specs.Rules.{among}
 use Rattle.protox_file.specs.Told.{Entry, Lookup, NoFile, IsFile, TextFault}
 use Rattle.protox_compile.specs.Places.{place_of_import}
 use Rattle.protox_compile.specs.Resume.{names_of, imports_left, go_on, resume}
-use Rattle.protox_compile.specs.Walk.{Done, Fault, Limit, Text, Mismatch, Duplicate, Circular, NoImport, Unlinked, Visited, Finished, Missing, Faulted, Open, records, imports_of, declared_name, done_as, is_done, chain_text, after_visit, visit_imports, finish, visit_lookup, visit, visits}
+use Rattle.protox_compile.specs.Walk.{Done, Fault, Limit, Text, Mismatch, Duplicate, Circular, NoImport, Unlinked, Visited, Finished, Faulted, Open, records, imports_of, declared_name, done_as, is_done, chain_text, after_visit, visit_imports, finish, visit_lookup, visit, visits}
 
 visit_room : (lookups : List ℕ → Lookup) (limit room : ℕ) (chain : List (List ℕ)) (asked : Option (List ℕ)) (n : List ℕ) (done : List Done) → room ≡ limit - length chain
     → visit lookups limit room chain asked n done ≡ (if nat_lt limit (length done + length chain + 1) then (done, Faulted (Limit limit)) else visit_lookup n asked (lookups n) done (λ entry. finish n entry (visit_imports (λ d m. visits lookups limit (n ∷ chain) None m d) (n ∷ chain) n (place_of_import entry) [] (imports_of entry) done)))

@@ -1,16 +1,14 @@
 -- The visit of a root.
-use Rattle.std.proofs.Common.{◌≡◌, ◌+◌, ◌-◌, ◌≤◌, ◌∷◌, ◌++◌, ◌∙◌, [], ℕ, List, Bool, true, false, refl, sym, ap, length, arith}
+use Rattle.std.proofs.Common.{◌≡◌, ◌+◌, ◌-◌, ◌≤◌, ◌∷◌, ◌++◌, [], ℕ, List, Bool, true, false, refl, sym, length, arith}
 use Rattle.std.specs.Prelude.{nat_lt, if◌then◌else◌, Option, Some, None}
-use Rattle.std.specs.Str.{bytes_eq}
 use Rattle.std.proofs.lemmas.Bool.{lt-ltb, le-ltb}
 use Rattle.pbx_link.specs.Pool.{is_linkable}
 use Rattle.pbx_parse.specs.declared.error.ParseError.TheVariants as parse
-use Rattle.protox_paths.specs.Paths.{path_equal}
-use Rattle.protox_file.specs.Told.{Entry, Told, Lookup, NoFile, IsFile, TextFault, IsLookup, AreLookups}
+use Rattle.protox_file.specs.Told.{Entry, Told, Lookup, NoFile, IsLookup}
 use Rattle.protox_file.specs.declared.error.ErrorKind.{ErrorKind}
 use Rattle.protox_file.specs.declared.error.ErrorKind.TheVariants.{Parse, Check, OpenFile, FileTooLarge, FileInvalidUtf8, FileNotFound, ImportNotFound, CircularImport, FileNotIncluded, FileShadowed, DuplicateImport, Custom, NameMismatch, FileLimit, Undecodable, NoMemory}
 use Rattle.protox_compile.specs.Places.{place_of_import}
-use Rattle.protox_compile.specs.Walk.{Done, Fault, Open, Visited, Finished, Faulted, Limit, Text, Mismatch, Shadowed, Unlinked, records, imports_of, declared_name, done_as, visit_imports, finish, unless_shadowed, visits}
+use Rattle.protox_compile.specs.Walk.{Done, Fault, Open, Visited, Finished, Faulted, Limit, Unlinked, records, imports_of, done_as, visit_imports, finish, unless_shadowed, visits}
 use Rattle.protox_compile.specs.Resume.{resume, go_on, Follows}
 use Rattle.protox_compile.specs.Refusals.{Walk, without, Extends, Ends, StopsOpening, IsOpenOf, IsUnshadowed}
 use Rattle.protox_compile.proofs.Extends.{visit_extends}

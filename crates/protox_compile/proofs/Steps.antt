@@ -1,21 +1,20 @@
 -- How a step of the stack goes on or ends a walk.
-use Rattle.std.proofs.Common.{◌≡◌, ◌+◌, ◌<◌, ◌≤◌, ◌∙◌, inl, inr, ◌∷◌, ◌++◌, [], ℕ, List, Bool, true, false, refl, sym, ap, subst, length, take, reverse, arith, add-one}
-use Rattle.std.specs.Prelude.{nat_lt, Option, Some, None}
-use Rattle.std.specs.Str.{bytes_eq}
+use Rattle.std.proofs.Common.{◌≡◌, ◌+◌, ◌<◌, ◌≤◌, ◌∙◌, inl, inr, ◌∷◌, ◌++◌, [], ℕ, List, Bool, true, false, refl, sym, ap, length, take, reverse, arith, add-one}
+use Rattle.std.specs.Prelude.{nat_lt, None}
 use Rattle.pbx_link.specs.declared.error.DescriptorError.{DescriptorError}
 use Rattle.pbx_link.specs.Pool.{is_linkable, IsRefused}
 use Rattle.pbx_link.specs.Rules.{among}
 use Rattle.pbx_parse.specs.declared.error.ParseError.TheVariants as parse
-use Rattle.protox_file.specs.Told.{Told, Lookup, NoFile, IsFile, TextFault, IsLookup, AreLookups}
+use Rattle.protox_file.specs.Told.{Told, Lookup, NoFile, IsLookup, AreLookups}
 use Rattle.protox_file.specs.declared.error.ErrorKind.{ErrorKind}
 use Rattle.protox_file.specs.declared.error.ErrorKind.TheVariants.{Parse, Check, OpenFile, FileTooLarge, FileInvalidUtf8, FileNotFound, ImportNotFound, CircularImport, FileNotIncluded, FileShadowed, DuplicateImport, Custom, NameMismatch, FileLimit, Undecodable, NoMemory}
 use Rattle.std.proofs.lemmas.List.{length-map}
 use Rattle.protox_compile.specs.Places.{place_of_import}
-use Rattle.protox_compile.specs.Walk.{Done, Open, Visited, Faulted, Limit, Unlinked, records, imports_of, done_as, is_done, chain_text}
+use Rattle.protox_compile.specs.Walk.{Done, Open, Visited, records, imports_of, done_as, is_done, chain_text}
 use Rattle.protox_compile.specs.Resume.{names_of, resume, past, import_of, IsVisit, AreRightAt, Follows, EndsWalks, LeadsTo}
 use Rattle.protox_compile.specs.Refusals.{Walk, without, Extends, Ends, OrNoMemory, IsToldBy, StopsOpening, IsOpenOf, is_absent}
 use Rattle.protox_compile.proofs.Extends.{resume_extends}
-use Rattle.protox_compile.proofs.Measure.{finishes, stops_unlinked, all_finished}
+use Rattle.protox_compile.proofs.Measure.{finishes, stops_unlinked}
 use Rattle.protox_compile.proofs.Resume.{resume_duplicate, resume_circular, resume_skip, resume_limit, resume_missing, resume_text, resume_mismatch, resume_visit}
 use Rattle.protox_compile.proofs.Right.{right_all, right_without, absent_there, closed_both, right_below, right_top, right_finished}
 

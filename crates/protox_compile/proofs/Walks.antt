@@ -1,7 +1,6 @@
 -- The turns of a walk.
 use Rattle.std.proofs.Common.{◌≡◌, ◌∷◌, ◌∙◌, [], ℕ, List, false, length, subst, sym, OnOk, IfErr}
 use Rattle.std.specs.Prelude.{nat_lt, Result, Ok, Err}
-use Rattle.pbx_link.specs.Pool.{is_linkable}
 use Rattle.protox_file.specs.Told.{Told, Lookup, AreLookups}
 use Rattle.protox_file.specs.declared.error.ErrorKind.{ErrorKind}
 use Rattle.protox_file.specs.declared.error.ErrorKind.TheVariants.{Check, NoMemory}

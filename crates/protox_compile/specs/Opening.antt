@@ -1,5 +1,5 @@
 -- What opening a path does to the finished files and their marks.
-use Rattle.std.specs.Prelude.{◌∷◌, ◌++◌, [], ℕ, List, Bool, true, false, if◌then◌else◌, Option, Some, None}
+use Rattle.std.specs.Prelude.{◌∷◌, [], ℕ, List, Bool, true, false, if◌then◌else◌, Option, Some, None}
 use Rattle.std.specs.Str.{bytes_eq}
 use Rattle.protox_paths.specs.Paths.{name_of, path_equal}
 use Rattle.protox_file.specs.Told.{Lookup}

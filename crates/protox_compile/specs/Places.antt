@@ -2,7 +2,6 @@
 use Rattle.std.specs.Prelude.{ℕ, ◌+◌, ◌==◌, ◌&&◌, ℤ, pos, List, [], ◌∷◌, Bool, false, if◌then◌else◌, Option, Some, None, option_and_then}
 use Rattle.std.specs.Option.{option_or}
 use Rattle.pbx_desc.specs.declared.source.Location.{Location}
-use Rattle.pbx_desc.specs.declared.source.SourceCodeInfo.{SourceCodeInfo}
 use Rattle.protox_file.specs.Told.{Entry}
 
 -- the path is that of the import of this index: `dependency` is the field 3 of a file

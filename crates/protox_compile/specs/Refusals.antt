@@ -10,7 +10,7 @@ use Rattle.protox_paths.specs.Paths.{path_equal}
 use Rattle.protox_file.specs.Told.{Entry, Lookup, NoFile, IsFile, TextFault}
 use Rattle.protox_file.specs.declared.error.ErrorKind.{ErrorKind}
 use Rattle.protox_file.specs.declared.error.ErrorKind.TheVariants.{Parse, Check, OpenFile, FileTooLarge, FileInvalidUtf8, FileNotFound, ImportNotFound, CircularImport, FileNotIncluded, FileShadowed, DuplicateImport, Custom, NameMismatch, FileLimit, Undecodable, NoMemory}
-use Rattle.protox_compile.specs.Walk.{Open, Done, Fault, Limit, Text, Mismatch, Shadowed, Duplicate, Circular, NoImport, Unlinked, Visited, Missing, Faulted, records, declared_name}
+use Rattle.protox_compile.specs.Walk.{Open, Done, Limit, Text, Mismatch, Shadowed, Duplicate, Circular, NoImport, Unlinked, Visited, Missing, Faulted, records, declared_name}
 use Rattle.protox_compile.specs.Opening.{Opened, NotIncluded, Refused}
 
 -- a walk, by what looking names up comes to

@@ -13,6 +13,7 @@ use pbx_wire::{NoMemory, Text};
 use protox_file::{Error, File, FileMetadata};
 use std::alloc::Global;
 use std::marker::Model;
+use std::mem::drop;
 
 /// Compiled files in order: what is known of each, and the pool of their records.
 #[derive(Drop)]
@@ -99,8 +100,10 @@ impl Compiled {
         ensures err { OnErr result (self.new ≡ self.old) }
     {
         let (name, file) = frame.into_parts();
-        let path = copy_path(alloc, &file)?;
-        add(&mut self.files, FileMetadata::new(name, path, true))?;
+        if add_known(alloc, &mut self.files, name, &file).is_err() {
+            drop(file);
+            return Err(Error::from(NoMemory));
+        }
         match self
             .pool
             .add_file_descriptor_proto(file.into_file_descriptor_proto())
@@ -120,6 +123,20 @@ fn add(files: &mut Vec<FileMetadata>, file: FileMetadata) -> Result<(), NoMemory
 {
     files.push(file)?;
     Ok(())
+}
+
+/// Puts what is known of a file behind the others.
+fn add_known(
+    alloc: Global,
+    files: &mut Vec<FileMetadata>,
+    name: Text,
+    file: &File,
+) -> Result<(), NoMemory>
+    ensures ok { OnOk result (files.new.items ≡ files.old.items ++ record { name = name; path = file.now.path; is_import = true } ∷ []) }
+    ensures err { OnErr result (files.new.items ≡ files.old.items) }
+{
+    let path = copy_path(alloc, file)?;
+    add(files, FileMetadata::new(name, path, true))
 }
 
 fn copy_path(alloc: Global, file: &File) -> Result<Option<Text>, NoMemory>

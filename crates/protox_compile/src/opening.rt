@@ -13,6 +13,7 @@ use crate::refusal::{mismatch, shadowed};
 use pbx_wire::{NoMemory, Text};
 use protox_file::{Error, File, FileResolver, looked_up_once, path_eq};
 use std::alloc::Global;
+use std::mem::drop;
 
 /// The path of a file, where it is another than the one that was asked.
 pub(crate) fn shadow_of<'a>(own: Option<&'a str>, resolved: bool, path: &str) -> Option<&'a str>
@@ -62,14 +63,21 @@ pub(crate) fn open_frame<R: FileResolver>(
         Err(error) => return Err(error),
     };
     if !is_named(&file, name) {
-        return Err(mismatch(alloc, name, &file));
+        let error = mismatch(alloc, name, &file);
+        drop(file);
+        return Err(error);
     }
     if let Some(shadow) = shadow_of(file.path(), resolved, path) {
-        return Err(shadowed(alloc, name, path, shadow));
+        let error = shadowed(alloc, name, path, shadow);
+        drop(file);
+        return Err(error);
     }
     let _count = file.file_descriptor_proto().dependency.as_slice().len();
     match Text::from_str(alloc, name) {
         Ok(name) => Ok(Frame::new(name, file)),
-        Err(NoMemory) => Err(Error::from(NoMemory)),
+        Err(NoMemory) => {
+            drop(file);
+            Err(Error::from(NoMemory))
+        }
     }
 }

@@ -15,6 +15,7 @@ use crate::step::{Import, next_import, open_import};
 use pbx_wire::NoMemory;
 use protox_file::{Error, FileResolver};
 use std::alloc::Global;
+use std::mem::drop;
 
 /// Puts an open file among those that wait, past the import that it waits for.
 fn suspend(parents: &mut Stack, mut file: Frame) -> Result<(), NoMemory>
@@ -53,10 +54,10 @@ fn finish_all<R: FileResolver>(
     let mut parents = Stack::new(alloc);
     'walk: loop {
         if current.has_next() {
-            match next_import(alloc, done, &parents, &current)? {
-                Import::Finished => current.advance(),
-                Import::Visit(name) => {
-                    let child = open_import(
+            match next_import(alloc, done, &parents, &current) {
+                Ok(Import::Finished) => current.advance(),
+                Ok(Import::Visit(name)) => {
+                    let child = match open_import(
                         resolver,
                         alloc,
                         limit,
@@ -64,11 +65,22 @@ fn finish_all<R: FileResolver>(
                         &parents,
                         &current,
                         name.as_str(),
-                    )?;
+                    ) {
+                        Ok(child) => child,
+                        Err(error) => {
+                            drop(current);
+                            return Err(error);
+                        }
+                    };
                     if suspend(&mut parents, current).is_err() {
+                        drop(child);
                         return Err(Error::from(NoMemory));
                     }
                     current = child;
+                }
+                Err(error) => {
+                    drop(current);
+                    return Err(error);
                 }
             }
         } else {

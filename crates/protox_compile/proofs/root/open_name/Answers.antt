@@ -1,4 +1,4 @@
-use Rattle.std.proofs.Common.{◌≡◌, ◌∙◌, false, refl, rules, sym}
+use Rattle.std.proofs.Common.{◌≡◌, false, refl, rules}
 use Rattle.std.specs.Prelude.{Some}
 use Rattle.protox_compile.specs.Walk.{is_done}
 use Rattle.protox_compile.specs.Opening.{asked_path}

@@ -1,35 +1,30 @@
-use Rattle.std.proofs.Common.{◌≡◌, ◌+◌, ◌∙◌, sym, ◌∷◌, ◌++◌, [], ℕ, List, IsTrue, false, arith, rules, length, ap, refl}
+use Rattle.std.proofs.Common.{◌≡◌, ◌+◌, ◌∙◌, sym, ◌∷◌, ◌++◌, [], IsTrue, false, arith, rules, length, ap, refl}
 use Rattle.std.proofs.lemmas.List.{length_push}
 use Rattle.std.proofs.lemmas.Result.{err_from_is_err_and}
-use Rattle.protox_file.specs.Told.{Told}
 use Rattle.protox_compile.specs.Walk.{done_as, is_done}
-use Rattle.protox_compile.specs.Resume.{past, IsVisit, EndsWalks, LeadsTo}
-use Rattle.protox_compile.proofs.Fresh.{on_err, fresh_root, fresh_finish, fresh_past, fresh_visit}
+use Rattle.protox_compile.specs.Resume.{past, IsVisit}
+use Rattle.protox_compile.proofs.Fresh.{on_err, fresh_root, fresh_finish, fresh_visit}
 use Rattle.protox_compile.proofs.Extends.{grows_push}
-use Rattle.protox_compile.proofs.Measure.{all_finished, visit_smaller}
 use Rattle.protox_compile.proofs.Steps.{finish_leads, ends_memory}
 use Rattle.protox_compile.proofs.Walks.{advance_leads, to_visit, unlinked_ends, same_stack, fresh_next, ends_finished, ends_later, leads_later}
 use Rattle.protox_compile.proofs.walk.finish_all.Goals as goal
 
-pub returns-in_err-next_import-clause-root : goal.returns-in_err-next_import-clause-root
-returns-in_err-next_import-clause-root g c = on_err _ (fresh_root _ c.walk.current _ _ c.walk.invariant.fresh)
+pub returns-in-Err-clause-root : goal.returns-in-Err-clause-root
+returns-in-Err-clause-root g c = fresh_root _ c.walk.current _ _ c.walk.invariant.fresh
 
-pub returns-in_err-next_import-clause-err : goal.returns-in_err-next_import-clause-err
-returns-in_err-next_import-clause-err g c tells =
-    let p = err_from_is_err_and c.from_residual.result c.from_residual.ensures.1 in
-    rw (p.1, p.2) (λ walk follows. c.in_err-next_import.ensures.err (g.R.FileResolver.files c.args.resolver.now) c.args.limit walk (c.walk.invariant.leads tells walk follows))
+pub returns-in-Err-clause-err : goal.returns-in-Err-clause-err
+returns-in-Err-clause-err g c tells = λ walk follows. c.in-Err.ensures.err (g.R.FileResolver.files c.args.resolver.now) c.args.limit walk (c.walk.invariant.leads tells walk follows)
 
-pub returns-in_err-child-in-Visit-clause-root : goal.returns-in_err-child-in-Visit-clause-root
-returns-in_err-child-in-Visit-clause-root g c = on_err _ (fresh_root _ c.walk.current _ _ c.walk.invariant.fresh)
+pub returns-in-Err-open_import-clause-root : goal.returns-in-Err-open_import-clause-root
+returns-in-Err-open_import-clause-root g c = fresh_root _ c.walk.current _ _ c.walk.invariant.fresh
 
-pub returns-in_err-child-in-Visit-clause-err : goal.returns-in_err-child-in-Visit-clause-err
-returns-in_err-child-in-Visit-clause-err g c tells =
+pub returns-in-Err-open_import-clause-err : goal.returns-in-Err-open_import-clause-err
+returns-in-Err-open_import-clause-err g c tells =
     let told : IsTrue (g.R.FileResolver.tells c.walk.resolver) = rw c.walk.invariant.tells tells in
-    let p = err_from_is_err_and c.from_residual-in_err-child-in-Visit.result c.from_residual-in_err-child-in-Visit.ensures.1 in
-    rw (p.1, p.2) (λ walk follows. ends_later (g.R.FileResolver.files c.args.resolver.now) (g.R.FileResolver.files c.walk.resolver) c.args.limit (c.walk.current ∷ c.walk.parents) c.walk.done c.walk.done _ (c.walk.invariant.files tells) (c.in_err-child-in-Visit.ensures.err told) walk (c.walk.invariant.leads tells walk follows))
+    λ walk follows. ends_later (g.R.FileResolver.files c.args.resolver.now) (g.R.FileResolver.files c.walk.resolver) c.args.limit (c.walk.current ∷ c.walk.parents) c.walk.done c.walk.done _ (c.walk.invariant.files tells) (c.in-Err-open_import.ensures.err told) walk (c.walk.invariant.leads tells walk follows)
 
-pub walk-preserved-in-Finished : goal.walk-preserved-in-Finished
-walk-preserved-in-Finished g c =
+pub walk-preserved-in-Ok-Finished : goal.walk-preserved-in-Ok-Finished
+walk-preserved-in-Ok-Finished g c =
     let next : c.advance.new.self ≡ past c.walk.current = c.advance.ensures in
     record {
       tells = c.walk.invariant.tells;
@@ -39,30 +34,30 @@ walk-preserved-in-Finished g c =
       later = c.walk.invariant.later;
       leads = λ tells walk follows.
           same_stack (g.R.FileResolver.files c.args.resolver.now) walk c.args.limit (past c.walk.current ∷ c.walk.parents) (c.advance.new.self ∷ c.walk.parents) c.walk.done (ap (λ f. f ∷ c.walk.parents) (sym next))
-          (advance_leads c.walk.current c.walk.parents c.walk.done c.in_ok-next_import.field-0 (g.R.FileResolver.files c.args.resolver.now) c.args.limit c.in-Finished.is c.in_ok-next_import.ensures.ok walk (c.walk.invariant.leads tells walk follows));
+          (advance_leads c.walk.current c.walk.parents c.walk.done c.in-Ok-Finished.field-0 (g.R.FileResolver.files c.args.resolver.now) c.args.limit c.in-Ok-Finished.field-0-is c.in-Ok-Finished.ensures.ok walk (c.walk.invariant.leads tells walk follows));
       fresh = fresh_next c.args.root.name c.walk.current c.advance.new.self c.walk.parents c.walk.done next c.walk.invariant.fresh;
       grows = c.walk.invariant.grows;
       room = c.walk.invariant.room;
     }
 
-pub walk-preserved-in-Visit : goal.walk-preserved-in-Visit
-walk-preserved-in-Visit g c =
+pub walk-preserved-in-Ok-Visit : goal.walk-preserved-in-Ok-Visit
+walk-preserved-in-Ok-Visit g c =
     let pushed : c.suspend.new.parents ≡ past c.walk.current ∷ c.walk.parents = search rules in
-    let visit : IsVisit c.walk.current c.walk.parents c.walk.done c.in-Visit.name = to_visit c.walk.current c.walk.parents c.walk.done c.in_ok-next_import.field-0 c.in-Visit.name c.in-Visit.is c.in_ok-next_import.ensures.ok in
-    let named : c.in_ok-child-in-Visit.child.name ≡ c.in-Visit.name = c.in_ok-child-in-Visit.ensures.fresh.0 ∙ c.as_str.ensures in
+    let visit : IsVisit c.walk.current c.walk.parents c.walk.done c.in-Ok-Visit.name = to_visit c.walk.current c.walk.parents c.walk.done c.in-Ok-Visit.field-0 c.in-Ok-Visit.name c.in-Ok-Visit.field-0-is c.in-Ok-Visit.ensures.ok in
+    let named : c.in-Ok.child.name ≡ c.in-Ok-Visit.name = c.in-Ok.ensures.fresh.0 ∙ c.as_str.ensures in
     let same : (IsTrue (g.R.FileResolver.tells c.args.resolver.now)) → IsTrue (g.R.FileResolver.tells c.walk.resolver) = λ tells. rw c.walk.invariant.tells tells in
     record {
-      tells = c.in_ok-child-in-Visit.ensures.keeps_tells ∙ c.walk.invariant.tells;
-      files = λ tells. c.in_ok-child-in-Visit.ensures.keeps_files (same tells) ∙ c.walk.invariant.files tells;
-      resolves = λ tells. c.in_ok-child-in-Visit.ensures.keeps_resolves (same tells) ∙ c.walk.invariant.resolves tells;
-      disk = λ tells. c.in_ok-child-in-Visit.ensures.keeps_disk (same tells) ∙ c.walk.invariant.disk tells;
-      later = omega (arith, c.walk.invariant.later, c.in_ok-child-in-Visit.ensures.later);
+      tells = c.in-Ok.ensures.keeps_tells ∙ c.walk.invariant.tells;
+      files = λ tells. c.in-Ok.ensures.keeps_files (same tells) ∙ c.walk.invariant.files tells;
+      resolves = λ tells. c.in-Ok.ensures.keeps_resolves (same tells) ∙ c.walk.invariant.resolves tells;
+      disk = λ tells. c.in-Ok.ensures.keeps_disk (same tells) ∙ c.walk.invariant.disk tells;
+      later = omega (arith, c.walk.invariant.later, c.in-Ok.ensures.later);
       leads = λ tells walk follows.
-          same_stack (g.R.FileResolver.files c.args.resolver.now) walk c.args.limit (c.in_ok-child-in-Visit.child ∷ past c.walk.current ∷ c.walk.parents) (c.in_ok-child-in-Visit.child ∷ c.suspend.new.parents) c.walk.done (ap (λ fs. c.in_ok-child-in-Visit.child ∷ fs) (sym pushed))
-          (leads_later (g.R.FileResolver.files c.args.resolver.now) (g.R.FileResolver.files c.walk.resolver) c.args.limit (c.walk.current ∷ c.walk.parents) (c.in_ok-child-in-Visit.child ∷ past c.walk.current ∷ c.walk.parents) c.walk.done c.walk.done (c.walk.invariant.files tells) (c.in_ok-child-in-Visit.ensures.child (same tells)) walk (c.walk.invariant.leads tells walk follows));
-      fresh = fresh_visit _ c.in-Visit.name c.in_ok-child-in-Visit.child c.walk.current c.walk.parents c.suspend.new.parents c.walk.done pushed named visit c.walk.invariant.fresh;
+          same_stack (g.R.FileResolver.files c.args.resolver.now) walk c.args.limit (c.in-Ok.child ∷ past c.walk.current ∷ c.walk.parents) (c.in-Ok.child ∷ c.suspend.new.parents) c.walk.done (ap (λ fs. c.in-Ok.child ∷ fs) (sym pushed))
+          (leads_later (g.R.FileResolver.files c.args.resolver.now) (g.R.FileResolver.files c.walk.resolver) c.args.limit (c.walk.current ∷ c.walk.parents) (c.in-Ok.child ∷ past c.walk.current ∷ c.walk.parents) c.walk.done c.walk.done (c.walk.invariant.files tells) (c.in-Ok.ensures.child (same tells)) walk (c.walk.invariant.leads tells walk follows));
+      fresh = fresh_visit _ c.in-Ok-Visit.name c.in-Ok.child c.walk.current c.walk.parents c.suspend.new.parents c.walk.done pushed named visit c.walk.invariant.fresh;
       grows = c.walk.invariant.grows;
-      room = omega (arith, ap length pushed, c.in_ok-child-in-Visit.ensures.room);
+      room = omega (arith, ap length pushed, c.in-Ok.ensures.room);
     }
 
 pub walk-preserved : goal.walk-preserved
@@ -98,7 +93,7 @@ returns-in_err-finish-clause-root g c =
 
 pub returns-in_err-finish-clause-err : goal.returns-in_err-finish-clause-err
 returns-in_err-finish-clause-err g c tells =
-    let p = err_from_is_err_and c.from_residual-in_err-finish.result c.from_residual-in_err-finish.ensures.1 in
+    let p = err_from_is_err_and c.from_residual.result c.from_residual.ensures.1 in
     rw (p.1, p.2, c.in_err-finish.ensures.err) (λ walk follows. unlinked_ends (g.R.FileResolver.files c.args.resolver.now) c.args.limit c.walk.current c.walk.parents c.walk.done _ (sym c.has_next.ensures ∙ c.if-has_next.false) c.in_err-finish.ensures.refused walk (c.walk.invariant.leads tells walk follows))
 
 pub returns-in-None-clause-grows : goal.returns-in-None-clause-grows

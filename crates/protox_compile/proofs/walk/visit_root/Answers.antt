@@ -1,9 +1,6 @@
-use Rattle.std.proofs.Common.{◌≡◌, ◌≤◌, ◌+◌, ◌∷◌, [], rules, length, IsTrue}
-use Rattle.protox_compile.specs.Refusals.{IsUnshadowed}
+use Rattle.std.proofs.Common.{◌≤◌, ◌+◌, ◌∷◌, [], rules, length, IsTrue}
 use Rattle.protox_compile.specs.Resume.{Follows}
 use Rattle.protox_compile.specs.Opening.{asked_path}
-use Rattle.protox_compile.specs.Walk.{Open}
-use Rattle.protox_file.specs.Told.{Told}
 use Rattle.protox_compile.proofs.Roots.{root_limit, root_follows, root_stops, root_walk}
 use Rattle.protox_compile.proofs.Walks.{later_files, later_ends}
 use Rattle.protox_compile.proofs.walk.visit_root.Goals as goal

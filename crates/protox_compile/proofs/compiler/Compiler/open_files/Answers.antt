@@ -1,4 +1,4 @@
-use Rattle.std.proofs.Common.{◌≡◌, ◌∙◌, IsTrue, arith, rules}
+use Rattle.std.proofs.Common.{◌∙◌, IsTrue, arith, rules}
 use Rattle.protox_file.specs.Told.{AreLookups}
 use Rattle.protox_compile.specs.Closures.{StopsAt}
 use Rattle.protox_compile.proofs.Closures.{accepts, stops_at}
