@@ -1,9 +1,9 @@
-ghost use Rattle.std.specs.Prelude.{◌≡◌, None, [], IfOk};
+ghost use Rattle.std.specs.Prelude.{◌≡◌, None, [], IfOk, OnOk};
 ghost use Rattle.pbx_desc_shape.specs.Shape.{descriptor_shape};
 ghost use Rattle.pbx_desc.specs.Content.{enum_content, enum_reserved_range_content, enum_value_content};
 
 use crate::contents::{FieldList, HasContents};
-use crate::copy::Duplicate;
+use crate::copy::{Duplicate, copy_to};
 use crate::encoding::{Message, record_bytes};
 use crate::options::Options;
 use pbx_content::Contents;
@@ -54,14 +54,24 @@ impl EnumDescriptorProto {
     pub fn copy(&self, alloc: Global) -> Result<EnumDescriptorProto, NoMemory>
         ensures { IfOk result (λ copy. copy ≡ self.now) }
     {
-        Ok(EnumDescriptorProto {
-            name: self.name.duplicate(alloc)?,
-            value: self.value.duplicate(alloc)?,
-            options: self.options.duplicate(alloc)?,
-            reserved_range: self.reserved_range.duplicate(alloc)?,
-            reserved_name: self.reserved_name.duplicate(alloc)?,
-            unknown: copy_recs(&self.unknown, alloc)?,
-        })
+        let mut copy = EnumDescriptorProto::new(alloc);
+        if let Err(error) = self.copy_parts(&mut copy, alloc) {
+            drop(copy);
+            return Err(error);
+        }
+        Ok(copy)
+    }
+
+    fn copy_parts(&self, to: &mut EnumDescriptorProto, alloc: Global) -> Result<(), NoMemory>
+        ensures { OnOk result (to.new ≡ self.now) }
+    {
+        copy_to(&self.name, &mut to.name, alloc)?;
+        copy_to(&self.value, &mut to.value, alloc)?;
+        copy_to(&self.options, &mut to.options, alloc)?;
+        copy_to(&self.reserved_range, &mut to.reserved_range, alloc)?;
+        copy_to(&self.reserved_name, &mut to.reserved_name, alloc)?;
+        to.unknown = copy_recs(&self.unknown, alloc)?;
+        Ok(())
     }
 }
 

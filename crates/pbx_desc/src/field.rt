@@ -79,7 +79,10 @@ impl FieldDescriptorProto {
         ensures { IfOk result (λ copy. copy ≡ self.now) }
     {
         let mut copy = FieldDescriptorProto::new(alloc);
-        self.copy_parts(&mut copy, alloc)?;
+        if let Err(error) = self.copy_parts(&mut copy, alloc) {
+            drop(copy);
+            return Err(error);
+        }
         Ok(copy)
     }
 

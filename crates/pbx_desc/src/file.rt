@@ -147,7 +147,10 @@ impl FileDescriptorProto {
         ensures { IfOk result (λ copy. copy ≡ self.now) }
     {
         let mut copy = FileDescriptorProto::new(alloc);
-        self.copy_parts(&mut copy, alloc)?;
+        if let Err(error) = self.copy_parts(&mut copy, alloc) {
+            drop(copy);
+            return Err(error);
+        }
         Ok(copy)
     }
 

@@ -1,9 +1,9 @@
-ghost use Rattle.std.specs.Prelude.{◌≡◌, None, [], IfOk};
+ghost use Rattle.std.specs.Prelude.{◌≡◌, None, [], IfOk, OnOk};
 ghost use Rattle.pbx_desc_shape.specs.Shape.{descriptor_shape};
 ghost use Rattle.pbx_desc.specs.Content.{service_content, method_content};
 
 use crate::contents::{FieldList, HasContents};
-use crate::copy::Duplicate;
+use crate::copy::{Duplicate, copy_to};
 use crate::encoding::{Message, record_bytes};
 use crate::options::Options;
 use pbx_content::Contents;
@@ -125,15 +125,25 @@ impl MethodDescriptorProto {
     pub fn copy(&self, alloc: Global) -> Result<MethodDescriptorProto, NoMemory>
         ensures { IfOk result (λ copy. copy ≡ self.now) }
     {
-        Ok(MethodDescriptorProto {
-            name: self.name.duplicate(alloc)?,
-            input_type: self.input_type.duplicate(alloc)?,
-            output_type: self.output_type.duplicate(alloc)?,
-            options: self.options.duplicate(alloc)?,
-            client_streaming: self.client_streaming,
-            server_streaming: self.server_streaming,
-            unknown: copy_recs(&self.unknown, alloc)?,
-        })
+        let mut copy = MethodDescriptorProto::new(alloc);
+        if let Err(error) = self.copy_parts(&mut copy, alloc) {
+            drop(copy);
+            return Err(error);
+        }
+        Ok(copy)
+    }
+
+    fn copy_parts(&self, to: &mut MethodDescriptorProto, alloc: Global) -> Result<(), NoMemory>
+        ensures { OnOk result (to.new ≡ self.now) }
+    {
+        copy_to(&self.name, &mut to.name, alloc)?;
+        copy_to(&self.input_type, &mut to.input_type, alloc)?;
+        copy_to(&self.output_type, &mut to.output_type, alloc)?;
+        copy_to(&self.options, &mut to.options, alloc)?;
+        to.client_streaming = self.client_streaming;
+        to.server_streaming = self.server_streaming;
+        to.unknown = copy_recs(&self.unknown, alloc)?;
+        Ok(())
     }
 }
 

@@ -1,9 +1,9 @@
-ghost use Rattle.std.specs.Prelude.{◌≡◌, None, [], IfOk};
+ghost use Rattle.std.specs.Prelude.{◌≡◌, None, [], IfOk, OnOk};
 ghost use Rattle.pbx_desc_shape.specs.Shape.{descriptor_shape};
 ghost use Rattle.pbx_desc.specs.Content.{source_code_info_content, location_content};
 
 use crate::contents::{FieldList, HasContents};
-use crate::copy::Duplicate;
+use crate::copy::{Duplicate, copy_to};
 use crate::encoding::{Message, record_bytes};
 use pbx_content::Contents;
 use pbx_desc_shape::place;
@@ -111,14 +111,28 @@ impl Location {
     pub fn copy(&self, alloc: Global) -> Result<Location, NoMemory>
         ensures { IfOk result (λ copy. copy ≡ self.now) }
     {
-        Ok(Location {
-            path: self.path.duplicate(alloc)?,
-            span: self.span.duplicate(alloc)?,
-            leading_comments: self.leading_comments.duplicate(alloc)?,
-            trailing_comments: self.trailing_comments.duplicate(alloc)?,
-            leading_detached_comments: self.leading_detached_comments.duplicate(alloc)?,
-            unknown: copy_recs(&self.unknown, alloc)?,
-        })
+        let mut copy = Location::new(alloc);
+        if let Err(error) = self.copy_parts(&mut copy, alloc) {
+            drop(copy);
+            return Err(error);
+        }
+        Ok(copy)
+    }
+
+    fn copy_parts(&self, to: &mut Location, alloc: Global) -> Result<(), NoMemory>
+        ensures { OnOk result (to.new ≡ self.now) }
+    {
+        copy_to(&self.path, &mut to.path, alloc)?;
+        copy_to(&self.span, &mut to.span, alloc)?;
+        copy_to(&self.leading_comments, &mut to.leading_comments, alloc)?;
+        copy_to(&self.trailing_comments, &mut to.trailing_comments, alloc)?;
+        copy_to(
+            &self.leading_detached_comments,
+            &mut to.leading_detached_comments,
+            alloc,
+        )?;
+        to.unknown = copy_recs(&self.unknown, alloc)?;
+        Ok(())
     }
 }
 

@@ -115,7 +115,13 @@ impl DescriptorPool {
         ensures refused { IfErr result (IsRefused self.old file) }
         ensures unchanged { OnErr result (self.new ≡ self.old) }
     {
-        check(self.alloc, self.records(), &file)?;
+        match check(self.alloc, self.records(), &file) {
+            Ok(()) => {}
+            Err(error) => {
+                drop(file);
+                return Err(error);
+            }
+        }
         let file = linked_record(self.alloc, file)?;
         let (files, done) = with_record(self.alloc, self.files.take(), file);
         self.files = files;

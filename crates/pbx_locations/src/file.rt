@@ -161,20 +161,49 @@ fn add_syntax(
     }
 }
 
+/// Adds the locations of what stands at the top of a file, its syntax statement left out.
+fn add_tops(alloc: Global, out: &mut List<Location>, tops: &[Top<'_>]) -> Result<(), NoMemory>
+    ensures { OnOk result (out.new ≡ out.old
+        ++ flat_map package_location (map top_of tops.now)
+        ++ numbered import_at 0 (flat_map top_imports (map top_of tops.now))
+        ++ numbered message_at 0 (flat_map top_messages (map top_of tops.now))
+        ++ numbered (enum_at [] 5) 0 (flat_map top_enums (map top_of tops.now))
+        ++ numbered service_at 0 (flat_map top_services (map top_of tops.now))
+        ++ numbered (field_at [] 7) 0 (flat_map top_extensions (map top_of tops.now))) }
+{
+    add_package(alloc, out, tops)?;
+    add_imports(alloc, out, tops)?;
+    add_messages(alloc, out, tops)?;
+    add_enums(alloc, out, tops)?;
+    add_services(alloc, out, tops)?;
+    add_extension_blocks(alloc, out, tops)
+}
+
+/// Adds the locations of a file.
+fn add_file(
+    alloc: Global,
+    out: &mut List<Location>,
+    whole: Extent,
+    file: &File<'_>,
+) -> Result<(), NoMemory>
+    ensures { OnOk result (out.old ≡ [] → out.new ≡ locations_in whole (file_of file.now)) }
+{
+    add(alloc, out, &List::new(alloc), whole.from, whole.to)?;
+    add_tops(alloc, out, file.tops.as_slice())?;
+    add_syntax(alloc, out, &file.syntax)
+}
+
 /// The locations of a file, by their paths, which are those of descriptor.proto. The only error is want of memory, for
 /// which also stands a line, a column or an index that does not fit an `i32`: that takes a source of 2 GiB.
 pub fn locations(alloc: Global, whole: Extent, file: &File<'_>) -> Result<List<Location>, NoMemory>
     ensures { IfOk result (λ ls. ls ≡ locations_in whole (file_of file.now)) }
 {
-    let tops = file.tops.as_slice();
     let mut out = List::with_capacity(alloc, location_count(file))?;
-    add(alloc, &mut out, &List::new(alloc), whole.from, whole.to)?;
-    add_package(alloc, &mut out, tops)?;
-    add_imports(alloc, &mut out, tops)?;
-    add_messages(alloc, &mut out, tops)?;
-    add_enums(alloc, &mut out, tops)?;
-    add_services(alloc, &mut out, tops)?;
-    add_extension_blocks(alloc, &mut out, tops)?;
-    add_syntax(alloc, &mut out, &file.syntax)?;
-    Ok(out)
+    match add_file(alloc, &mut out, whole, file) {
+        Ok(()) => Ok(out),
+        Err(error) => {
+            drop(out);
+            Err(error)
+        }
+    }
 }

@@ -1,11 +1,11 @@
 //! The reader of a file.
 
-ghost use Rattle.std.specs.Prelude.{◌≡◌, List, [], map, true, IfOk};
+ghost use Rattle.std.specs.Prelude.{◌≡◌, ◌&&◌, List, [], length, map, nat_le, true, IfOk};
 ghost use Rattle.std.specs.List.{filter_map};
 ghost use Rattle.pbx_token.specs.View.{tokens_of};
 ghost use Rattle.pbx_tree.specs.Tree as tree;
 ghost use Rattle.pbx_tree.specs.Grammar.{list_then, top_then, file_then};
-ghost use Rattle.pbx_tree.specs.Conditions.{all_fit, option_fits, top_setting, tops_fit, Conditions};
+ghost use Rattle.pbx_tree.specs.Conditions.{all_fit, option_fits, packages, top_setting, tops_fit, Conditions};
 ghost use Rattle.pbx_tree.specs.View.{top_of, file_of};
 ghost use Rattle.pbx_reader.specs.View.{left, ReadsAs, Passes};
 
@@ -28,6 +28,15 @@ fn options_fit(alloc: Global, tops: &[Top<'_>]) -> Result<(), ReadError>
     Ok(())
 }
 
+/// A file has at most one package, and its options are its own, each set once.
+fn conditions_fit(alloc: Global, tops: &Vec<Top<'_>>) -> Result<(), ReadError>
+    ensures { Passes (nat_le (length (packages (map top_of tops.now.items))) 1 && all_fit (option_fits OptionPlace.File) (filter_map top_setting (map top_of tops.now.items))) result }
+{
+    let tops = tops.as_slice();
+    packages_fit(tops)?;
+    options_fit(alloc, tops)
+}
+
 /// What stands at the top of a file, to its end.
 fn tops<'a>(
     alloc: Global,
@@ -39,8 +48,7 @@ fn tops<'a>(
     ensures only { (ts : List tree.Top) → tops_fit version ts ≡ true → left cursor.old ≡ list_then top_then ts [] → ReadsAs (λ x. map top_of x.items) ts result }
 {
     let tops = all(alloc, cursor, version)?;
-    packages_fit(tops.as_slice())?;
-    options_fit(alloc, tops.as_slice())?;
+    conditions_fit(alloc, &tops)?;
     Ok(tops)
 }
 

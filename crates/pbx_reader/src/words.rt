@@ -17,64 +17,44 @@ use pbx_tree::{Label, Modifier, Scalar};
 fn scalar_named(text: &str) -> Option<Scalar>
     ensures { MatchOption result (is_scalar_word text.now ≡ false) (λ s. text.now ≡ scalar_word s) }
 {
-    if text == "double" {
-        Some(Scalar::Double)
-    } else if text == "float" {
-        Some(Scalar::Float)
-    } else if text == "int32" {
-        Some(Scalar::Int32)
-    } else if text == "int64" {
-        Some(Scalar::Int64)
-    } else if text == "uint32" {
-        Some(Scalar::Uint32)
-    } else if text == "uint64" {
-        Some(Scalar::Uint64)
-    } else if text == "sint32" {
-        Some(Scalar::Sint32)
-    } else if text == "sint64" {
-        Some(Scalar::Sint64)
-    } else if text == "fixed32" {
-        Some(Scalar::Fixed32)
-    } else if text == "fixed64" {
-        Some(Scalar::Fixed64)
-    } else if text == "sfixed32" {
-        Some(Scalar::Sfixed32)
-    } else if text == "sfixed64" {
-        Some(Scalar::Sfixed64)
-    } else if text == "bool" {
-        Some(Scalar::Bool)
-    } else if text == "string" {
-        Some(Scalar::String)
-    } else if text == "bytes" {
-        Some(Scalar::Bytes)
-    } else {
-        None
+    match text {
+        "double" => Some(Scalar::Double),
+        "float" => Some(Scalar::Float),
+        "int32" => Some(Scalar::Int32),
+        "int64" => Some(Scalar::Int64),
+        "uint32" => Some(Scalar::Uint32),
+        "uint64" => Some(Scalar::Uint64),
+        "sint32" => Some(Scalar::Sint32),
+        "sint64" => Some(Scalar::Sint64),
+        "fixed32" => Some(Scalar::Fixed32),
+        "fixed64" => Some(Scalar::Fixed64),
+        "sfixed32" => Some(Scalar::Sfixed32),
+        "sfixed64" => Some(Scalar::Sfixed64),
+        "bool" => Some(Scalar::Bool),
+        "string" => Some(Scalar::String),
+        "bytes" => Some(Scalar::Bytes),
+        _ => None,
     }
 }
 
 fn label_named(text: &str) -> Option<Label>
     ensures { MatchOption result (is_label_word text.now ≡ false) (λ l. text.now ≡ label_word l) }
 {
-    if text == "optional" {
-        Some(Label::Optional)
-    } else if text == "required" {
-        Some(Label::Required)
-    } else if text == "repeated" {
-        Some(Label::Repeated)
-    } else {
-        None
+    match text {
+        "optional" => Some(Label::Optional),
+        "required" => Some(Label::Required),
+        "repeated" => Some(Label::Repeated),
+        _ => None,
     }
 }
 
 fn modifier_named(text: &str) -> Option<Modifier>
     ensures { MatchOption result ((m : Modifier) → text.now ≡ modifier_word m → ⊥) (λ m. text.now ≡ modifier_word m) }
 {
-    if text == "public" {
-        Some(Modifier::Public)
-    } else if text == "weak" {
-        Some(Modifier::Weak)
-    } else {
-        None
+    match text {
+        "public" => Some(Modifier::Public),
+        "weak" => Some(Modifier::Weak),
+        _ => None,
     }
 }
 

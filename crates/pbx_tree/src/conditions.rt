@@ -154,21 +154,24 @@ fn fitting(fits: bool, place: Span, expected: Expected) -> Result<(), Unfit>
 fn is_scalar_word(text: &str) -> bool
     ensures { result ≡ is_scalar_word_of text.now }
 {
-    text == "double"
-        || text == "float"
-        || text == "int32"
-        || text == "int64"
-        || text == "uint32"
-        || text == "uint64"
-        || text == "sint32"
-        || text == "sint64"
-        || text == "fixed32"
-        || text == "fixed64"
-        || text == "sfixed32"
-        || text == "sfixed64"
-        || text == "bool"
-        || text == "string"
-        || text == "bytes"
+    matches!(
+        text,
+        "double"
+            | "float"
+            | "int32"
+            | "int64"
+            | "uint32"
+            | "uint64"
+            | "sint32"
+            | "sint64"
+            | "fixed32"
+            | "fixed64"
+            | "sfixed32"
+            | "sfixed64"
+            | "bool"
+            | "string"
+            | "bytes"
+    )
 }
 
 /// The name of a scalar type is no other type's, unless a dot stands before it.

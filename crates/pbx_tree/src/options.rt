@@ -73,52 +73,34 @@ fn enum_option(name: &str) -> Option<KnownOption>
 fn file_text(name: &str) -> Option<KnownOption>
     ensures { result ≡ file_text_of name.now }
 {
-    if name == "java_package" {
-        known(1, OptionKind::Text)
-    } else if name == "java_outer_classname" {
-        known(8, OptionKind::Text)
-    } else if name == "go_package" {
-        known(11, OptionKind::Text)
-    } else if name == "objc_class_prefix" {
-        known(36, OptionKind::Text)
-    } else if name == "csharp_namespace" {
-        known(37, OptionKind::Text)
-    } else if name == "swift_prefix" {
-        known(39, OptionKind::Text)
-    } else if name == "php_class_prefix" {
-        known(40, OptionKind::Text)
-    } else if name == "php_namespace" {
-        known(41, OptionKind::Text)
-    } else if name == "php_metadata_namespace" {
-        known(44, OptionKind::Text)
-    } else if name == "ruby_package" {
-        known(45, OptionKind::Text)
-    } else {
-        None
+    match name {
+        "java_package" => known(1, OptionKind::Text),
+        "java_outer_classname" => known(8, OptionKind::Text),
+        "go_package" => known(11, OptionKind::Text),
+        "objc_class_prefix" => known(36, OptionKind::Text),
+        "csharp_namespace" => known(37, OptionKind::Text),
+        "swift_prefix" => known(39, OptionKind::Text),
+        "php_class_prefix" => known(40, OptionKind::Text),
+        "php_namespace" => known(41, OptionKind::Text),
+        "php_metadata_namespace" => known(44, OptionKind::Text),
+        "ruby_package" => known(45, OptionKind::Text),
+        _ => None,
     }
 }
 
 fn file_flag(name: &str) -> Option<KnownOption>
     ensures { result ≡ file_flag_of name.now }
 {
-    if name == "java_multiple_files" {
-        known(10, OptionKind::Bool)
-    } else if name == "cc_generic_services" {
-        known(16, OptionKind::Bool)
-    } else if name == "java_generic_services" {
-        known(17, OptionKind::Bool)
-    } else if name == "py_generic_services" {
-        known(18, OptionKind::Bool)
-    } else if name == "java_generate_equals_and_hash" {
-        known(20, OptionKind::Bool)
-    } else if name == "java_string_check_utf8" {
-        known(27, OptionKind::Bool)
-    } else if name == "cc_enable_arenas" {
-        known(31, OptionKind::Bool)
-    } else if name == "php_generic_services" {
-        known(42, OptionKind::Bool)
-    } else {
-        only_deprecated(23, name)
+    match name {
+        "java_multiple_files" => known(10, OptionKind::Bool),
+        "cc_generic_services" => known(16, OptionKind::Bool),
+        "java_generic_services" => known(17, OptionKind::Bool),
+        "py_generic_services" => known(18, OptionKind::Bool),
+        "java_generate_equals_and_hash" => known(20, OptionKind::Bool),
+        "java_string_check_utf8" => known(27, OptionKind::Bool),
+        "cc_enable_arenas" => known(31, OptionKind::Bool),
+        "php_generic_services" => known(42, OptionKind::Bool),
+        _ => only_deprecated(23, name),
     }
 }
 
@@ -153,13 +135,10 @@ pub fn known_option(place: OptionPlace, name: &str) -> Option<KnownOption>
 pub fn optimize_mode(name: &str) -> Option<u32>
     ensures { result ≡ optimize_mode_of name.now }
 {
-    if name == "SPEED" {
-        Some(1)
-    } else if name == "CODE_SIZE" {
-        Some(2)
-    } else if name == "LITE_RUNTIME" {
-        Some(3)
-    } else {
-        None
+    match name {
+        "SPEED" => Some(1),
+        "CODE_SIZE" => Some(2),
+        "LITE_RUNTIME" => Some(3),
+        _ => None,
     }
 }

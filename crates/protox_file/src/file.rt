@@ -93,10 +93,13 @@ impl File {
     pub fn copy(&self, alloc: Global) -> Result<File, NoMemory>
         ensures { IfOk result (λ copy. copy ≡ self.now) }
     {
+        let path = copy_text(alloc, &self.path)?;
+        let source = copy_text(alloc, &self.source)?;
+        let file = self.file.copy(alloc)?;
         Ok(File {
-            file: self.file.copy(alloc)?,
-            path: copy_text(alloc, &self.path)?,
-            source: copy_text(alloc, &self.source)?,
+            file,
+            path,
+            source,
             encoded: None,
         })
     }
@@ -196,12 +199,18 @@ fn read(alloc: Global, name: &str, source: &str, path: Option<Text>) -> Result<F
     ensures cause { IfErr result (HasCause name.now ⊥) }
 {
     match parse(alloc, name, source) {
-        Ok(file) => Ok(File {
-            file,
-            path,
-            source: Some(Text::from_str(alloc, source)?),
-            encoded: None,
-        }),
+        Ok(file) => match Text::from_str(alloc, source) {
+            Ok(source) => Ok(File {
+                file,
+                path,
+                source: Some(source),
+                encoded: None,
+            }),
+            Err(error) => {
+                drop(file);
+                Err(Error::from(error))
+            }
+        },
         Err(error) => Err(Error::from(error)),
     }
 }

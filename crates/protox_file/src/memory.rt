@@ -95,9 +95,16 @@ impl MemoryResolver {
         ensures faults { self.new.faults ≡ self.old.faults }
     {
         let alloc = *self.files.allocator();
-        let name = Text::from_str(alloc, name)?;
-        self.files.insert(0, (name, Put::File(file)))?;
-        Ok(())
+        match Text::from_str(alloc, name) {
+            Ok(name) => {
+                self.files.insert(0, (name, Put::File(file)))?;
+                Ok(())
+            }
+            Err(error) => {
+                drop(file);
+                Err(error)
+            }
+        }
     }
 
     /// Lets a path resolve to a name, in place of the name that it resolved to.
