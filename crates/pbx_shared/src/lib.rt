@@ -8,8 +8,6 @@ ghost use Rattle.std.specs.Prelude.{◌≡◌, ⊤, IfOk, IfErr};
 
 mod handle;
 mod node;
-#[cfg(test)]
-mod tests;
 mod unique;
 
 use handle::Handle;

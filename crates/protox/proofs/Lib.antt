@@ -4,5 +4,5 @@ pub mod Endings
 pub mod Built
 pub mod Judged
 pub mod Json
-pub mod Transcoded
+pub mod Transcoding
 pub mod Determined

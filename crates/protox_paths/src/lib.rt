@@ -3,7 +3,5 @@
 
 mod components;
 mod paths;
-#[cfg(test)]
-mod tests;
 
 pub use paths::{join_path, names_name_themselves, path_eq, path_to_file_name, strip_prefix};

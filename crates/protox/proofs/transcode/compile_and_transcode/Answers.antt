@@ -1,6 +1,6 @@
 use Rattle.serde_json.specs.View.{view}
 use Rattle.protox.proofs.Judged.{stopped, accepted, all_refused, all_given}
-use Rattle.protox.proofs.Transcoded.{ok_then, err_then}
+use Rattle.protox.proofs.Transcoding.{ok_then, err_then}
 use Rattle.std.proofs.Common.{subst, sym}
 use Rattle.protox.specs.Top.{Refuses}
 use Rattle.protox.specs.declared.error.TopError.{TopError}

@@ -3,7 +3,7 @@ use Rattle.serde_json.specs.View.{view}
 use Rattle.pbx_content.specs.Shape.{fields_of}
 use Rattle.pbx_link.specs.Shapes.{message_named}
 use Rattle.protox.specs.Top.{has_own_names}
-use Rattle.protox.proofs.Transcoded.{is_transcoded, is_refused}
+use Rattle.protox.proofs.Transcoding.{is_transcoded, is_refused}
 use Rattle.protox.proofs.transcode.transcode_in.Goals as goal
 
 pub returns-in-Ok-transcode_as-clause-ok : goal.returns-in-Ok-transcode_as-clause-ok

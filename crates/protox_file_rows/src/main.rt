@@ -1,0 +1,75 @@
+//! Answers rows of questions about paths, disks, streams, files, their errors and the walk over their imports.
+//!
+//! Each line of the input is a row: a name, what is asked, and fields. Of most questions the fields are steps, in pairs:
+//! what is done, and what it is done with. `stdin` has the rows, and `stdout` the answers that they must have.
+#![tactic(auto)]
+
+mod disks;
+mod errors;
+mod files;
+mod paths;
+mod resolvers;
+mod step;
+mod streams;
+mod told;
+mod untold;
+mod walk;
+
+use std::alloc::{AllocError, Global};
+use std::io;
+use std::rt::Files;
+use test_rows::{Row, answer_line};
+use told::Told;
+
+/// Answers a question about paths, errors, single files or streams.
+fn answer_alone(alloc: Global, row: &Row, told: &mut Told) {
+    match row.asked() {
+        "name of path" => paths::name(alloc, row, told),
+        "equal paths" => paths::equal(row, told),
+        "path below" => paths::below(row, told),
+        "path of name" => paths::joined(alloc, row, told),
+        "line" => errors::line(alloc, row, told),
+        "long line" => errors::long_line(alloc, row, told),
+        "file and sort" => errors::file_and_sort(alloc, row, told),
+        "file of source" => files::of_source(alloc, row, told),
+        "file of record" => files::of_record(alloc, row, told),
+        "record into file" => files::converted(alloc, row, told),
+        "metadata" => files::metadata(alloc, row, told),
+        "source" => streams::source(alloc, row, told),
+        "source to its end" => streams::source_to_end(alloc, row, told),
+        "sink" => streams::sink(alloc, row, told),
+        "broken streams" => streams::over_broken(told),
+        _ => told.say("no such question"),
+    }
+}
+
+/// Answers a row's question.
+fn answer<R: Files + AllocGlobal>(rt: &R, row: &Row, told: &mut Told) {
+    match row.asked() {
+        "walk" => walk::of_memory(rt.alloc(), row, told),
+        "walk over one" => untold::walk_over_one(rt.alloc(), row, told),
+        "walk over none" => untold::walk_over_none(rt.alloc(), row, told),
+        "resolver" => resolvers::of_memory(rt.alloc(), row, told),
+        "folder" => resolvers::of_folder(rt.alloc(), row, told),
+        "disk" => disks::of_memory(rt.alloc(), row, told),
+        "real disk" => disks::real(rt, row, told),
+        "real streams" => streams::real(rt, row, told),
+        _ => answer_alone(rt.alloc(), row, told),
+    }
+}
+
+/// The line that answers a row.
+fn answered<R: Files + AllocGlobal>(rt: &R, row: &Row) -> Result<String, AllocError> {
+    let mut told = Told::new(rt.alloc());
+    answer(rt, row, &mut told);
+    answer_line(rt.alloc(), row, told.text())
+}
+
+fn main(rt: HostRuntime) -> io::Result<()> {
+    for line in rt.lines(rt.alloc()) {
+        let row = Row::read(rt.alloc(), line?.as_str())?;
+        let answer = answered(&rt, &row)?;
+        println!(rt; "{answer}")?;
+    }
+    Ok(())
+}

@@ -1,0 +1,46 @@
+//! Rows of what `protox` and `protox_records` write, print and refuse, over files, input and output in memory.
+//!
+//! What is asked is one of these; each file is two fields, its name and its source, and the source `oversized` stands for
+//! a file of too many bytes:
+//!
+//! - `run`: words, input, which object fails (`disk`, `input`, `out` or `err`; or none), the number of its call that fails,
+//!   and the files. The answer is status, output, error output and the file `w` in hexadecimal digits, `-` where it is absent.
+//! - `records`: the same, where the words are names of files and the input is unused. The answer is status, error output
+//!   and the output in hexadecimal digits.
+//! - `set`: names of files, input, a type's name, and the files. The answer is the set of the files in hexadecimal digits.
+#![tactic(auto)]
+
+mod objects;
+mod runs;
+mod sets;
+
+use pbx_wire::NoMemory;
+use std::alloc::Global;
+use std::io;
+use test_rows::{Row, answer_line};
+
+fn answer(alloc: Global, row: &Row) -> Result<String, NoMemory> {
+    match row.asked() {
+        "run" => runs::run(alloc, row),
+        "records" => runs::records(alloc, row),
+        "set" => sets::set(alloc, row),
+        _ => Ok(String::from_str(alloc, "no such question")?),
+    }
+}
+
+/// The line of a row's answer.
+fn answered(alloc: Global, line: &str) -> Result<String, NoMemory> {
+    let row = Row::read(alloc, line)?;
+    let answer = answer(alloc, &row)?;
+    Ok(answer_line(alloc, &row, answer.as_str())?)
+}
+
+fn main(rt: HostRuntime) -> io::Result<()> {
+    for line in rt.lines(rt.alloc()) {
+        let Ok(answer) = answered(rt.alloc(), line?.as_str()) else {
+            return Err(io::Error::from(io::ErrorKind::OutOfMemory));
+        };
+        println!(rt; "{answer}")?;
+    }
+    Ok(())
+}

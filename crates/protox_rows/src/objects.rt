@@ -1,0 +1,71 @@
+//! The words, files, input and outputs of a row.
+
+use pbx_wire::{Blob, NoMemory, Text, Texts};
+use protox_io::{MemoryDisk, MemorySink, MemorySource};
+use std::alloc::Global;
+use test_rows::Row;
+
+const WORDS: usize = 0;
+
+const INPUT: usize = 1;
+
+const FAILING: usize = 2;
+
+const CALL: usize = 3;
+
+const FILES: usize = 4;
+
+/// The words of a row, a blank between each two.
+pub(crate) fn words(alloc: Global, row: &Row) -> Result<Texts, NoMemory> {
+    let mut words = Texts::new(alloc);
+    for word in row.text(WORDS).split(' ') {
+        words.add(Text::from_str(alloc, word)?)?;
+    }
+    Ok(words)
+}
+
+/// The number of the object's call that fails, if the row has that object fail.
+fn failing_call(row: &Row, object: &str) -> Option<u64> {
+    if row.text(FAILING) == object {
+        Some(row.number(CALL))
+    } else {
+        None
+    }
+}
+
+pub(crate) fn input(alloc: Global, row: &Row) -> Result<MemorySource, NoMemory> {
+    let bytes = Blob::from_slice(alloc, row.bytes(INPUT))?;
+    Ok(MemorySource::new(bytes, failing_call(row, "input")))
+}
+
+/// The sink of the name `out` or `err`.
+pub(crate) fn sink(alloc: Global, row: &Row, object: &str) -> MemorySink {
+    MemorySink::new(alloc, failing_call(row, object))
+}
+
+fn put(disk: &mut MemoryDisk, name: &str, source: &[u8]) -> Result<(), NoMemory> {
+    match source {
+        b"oversized" => disk.put_oversized(name),
+        _ => disk.put(name, source),
+    }
+}
+
+/// Puts the files of the row, and lists the call that fails.
+fn fill(disk: &mut MemoryDisk, row: &Row) -> Result<(), NoMemory> {
+    for at in (FILES..row.len()).step_by(2) {
+        put(disk, row.text(at), row.bytes(at.saturating_add(1)))?;
+    }
+    match failing_call(row, "disk") {
+        Some(call) => disk.fail_at(call),
+        None => Ok(()),
+    }
+}
+
+/// The disk with the files of the row.
+pub(crate) fn disk(alloc: Global, row: &Row) -> Result<MemoryDisk, NoMemory> {
+    let mut disk = MemoryDisk::new(alloc);
+    match fill(&mut disk, row) {
+        Ok(()) => Ok(disk),
+        Err(error) => Err(error),
+    }
+}

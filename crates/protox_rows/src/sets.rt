@@ -1,0 +1,56 @@
+//! The set of files that a transcoding gives.
+
+use crate::objects::words;
+use hex::encode;
+use pbx_wire::NoMemory;
+use protox::{TopError, Transcoded, compile_and_transcode};
+use protox_file::MemoryResolver;
+use serde_json::Value;
+use std::alloc::Global;
+use test_rows::Row;
+
+const INPUT: usize = 1;
+
+const TYPE: usize = 2;
+
+const FILES: usize = 3;
+
+/// Puts the files of the row.
+fn fill(files: &mut MemoryResolver, row: &Row) -> Result<(), NoMemory> {
+    for at in (FILES..row.len()).step_by(2) {
+        files.put(row.text(at), row.text(at.saturating_add(1)))?;
+    }
+    Ok(())
+}
+
+fn resolver(alloc: Global, row: &Row) -> Result<MemoryResolver, NoMemory> {
+    let mut files = MemoryResolver::new(alloc);
+    match fill(&mut files, row) {
+        Ok(()) => Ok(files),
+        Err(error) => Err(error),
+    }
+}
+
+/// The set in hexadecimal digits.
+fn digits(alloc: Global, came: &Result<Transcoded, TopError>) -> Result<String, NoMemory> {
+    match came {
+        Ok(done) => Ok(encode(alloc, done.set.as_slice())?),
+        Err(_) => Ok(String::from_str(alloc, "refused")?),
+    }
+}
+
+/// The set of the files, where the tree is transcoded as a message of the type.
+fn set_with(alloc: Global, row: &Row, tree: &Value) -> Result<String, NoMemory> {
+    let paths = words(alloc, row)?;
+    let files = resolver(alloc, row)?;
+    let attempt = compile_and_transcode(alloc, files, &paths, row.text(TYPE), tree);
+    digits(alloc, &attempt.result)
+}
+
+/// The set of the files, where the input is transcoded as a message of the type.
+pub(crate) fn set(alloc: Global, row: &Row) -> Result<String, NoMemory> {
+    match Value::from_slice(alloc, row.bytes(INPUT)) {
+        Ok(tree) => set_with(alloc, row, &tree),
+        Err(_) => Ok(String::from_str(alloc, "no JSON")?),
+    }
+}
