@@ -16,7 +16,7 @@ use Rattle.pbx_content.specs.declared.shape.Kind.TheVariants as kind
 use Rattle.pbx_content.specs.declared.shape.FieldShape.{FieldShape}
 use Rattle.pbx_json.specs.Names.{field_named}
 use Rattle.pbx_json.specs.Scalars.{Reading, int32_if, int32_of, number_as, text_as, scalar, is_plain, reads_as, tree_of, field_tree}
-use Rattle.pbx_json.specs.Stands.{entries, told_by, told, only, all_known, gathered, fields_for}
+use Rattle.pbx_json.specs.Stands.{entries, readings_with, told, only, all_known, gathered, fields_for}
 use Rattle.pbx_json.proofs.FieldsMore.{named_number}
 use Rattle.pbx_json.proofs.PerField.{said_for}
 
@@ -112,7 +112,7 @@ told_held gs n v (member k d ms) h = at (field_named k gs) refl h (told_held gs 
     alone [] r e = e
     alone (x ∷ rs) r e = absurd (cc)
 
-    at : (o : Option FieldShape) → field_named k gs ≡ o → only (told_by o n (record { key = k; says = reads_as d }) (told gs n (entries ms))) ≡ Some (Some v)
+    at : (o : Option FieldShape) → field_named k gs ≡ o → only (readings_with o n (record { key = k; says = reads_as d }) (told gs n (entries ms))) ≡ Some (Some v)
         → (only (told gs n (entries ms)) ≡ Some (Some v) → IsNamedHeld gs n v) → IsNamedHeld gs n v
     at None e j ih = ih j
     at (Some f) e j ih = deep (f.number == n) refl j

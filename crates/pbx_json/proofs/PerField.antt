@@ -8,7 +8,7 @@ use Rattle.pbx_json.proofs.Extensional.{ascending_put, same_fields}
 use Rattle.pbx_content.specs.declared.shape.FieldShape.{FieldShape}
 use Rattle.pbx_json.specs.Names.{field_named, or_else, json_name_is, name_is}
 use Rattle.pbx_json.specs.Scalars.{Reading}
-use Rattle.pbx_json.specs.Stands.{put, Entry, is_known, all_known, told_by, told, only, with_reading, gathered, fields_for, message_of}
+use Rattle.pbx_json.specs.Stands.{put, Entry, is_known, all_known, readings_with, told, only, with_reading, gathered, fields_for, message_of}
 use Rattle.pbx_json.specs.Walk.{State, start, noted, turn, walk, IsCovered}
 use Rattle.pbx_json.proofs.Covered.{covered_value}
 
@@ -156,7 +156,7 @@ get-after n (Some v) fs h = get-put n v fs
 
 module _ (m : List FieldShape) (e : Entry) (g : FieldShape) (s : State) (o : Option Val) (good : Good m s) (new : is_seen s g.number ≡ false) (says : e.says g ≡ Some o) where
   -- a key moves what is said from those that are left to those so far
-  moved : (n : ℕ) (rs : List Reading) → reading_from s (told_by (Some g) n e rs) n ≡ reading_from (after g.number o s) rs n
+  moved : (n : ℕ) (rs : List Reading) → reading_from s (readings_with (Some g) n e rs) n ≡ reading_from (after g.number o s) rs n
   moved n rs = rw (seen_more s.seen g.number n) (at (g.number == n) refl (is_seen s n) refl)
     where
       at : (b : Bool) → (g.number == n) ≡ b → (c : Bool) → is_seen s n ≡ c
@@ -231,16 +231,16 @@ walked : (allow : Bool) (m : List FieldShape) (es : List Entry) (s : State) → 
 walked allow m [] s good = sym (nothing_left m s good)
 walked allow m (e ∷ es) s good = named (walked allow m es) (field_named e.key m) refl
   where
-    told_fault : (g : FieldShape) → reading_from s (told_by (Some g) g.number e (told m g.number es)) g.number ≡ None
+    told_fault : (g : FieldShape) → reading_from s (readings_with (Some g) g.number e (told m g.number es)) g.number ≡ None
         → (o : Option FieldShape) → o ≡ Some g → list_any (λ x. x.number == g.number) m ≡ true
-        → None ≡ (if all_known allow m es then gathered (λ n. reading_from s (told_by (Some g) n e (told m n es)) n) m else None)
+        → None ≡ (if all_known allow m es then gathered (λ n. reading_from s (readings_with (Some g) n e (told m n es)) n) m else None)
     told_fault g bad o is known =
-        no_choice (all_known allow m es) _ (gathered_fault (λ n. reading_from s (told_by (Some g) n e (told m n es)) n) g.number m known bad)
+        no_choice (all_known allow m es) _ (gathered_fault (λ n. reading_from s (readings_with (Some g) n e (told m n es)) n) g.number m known bad)
 
-    seen_fault : (g : FieldShape) → is_seen s g.number ≡ true → reading_from s (told_by (Some g) g.number e (told m g.number es)) g.number ≡ None
+    seen_fault : (g : FieldShape) → is_seen s g.number ≡ true → reading_from s (readings_with (Some g) g.number e (told m g.number es)) g.number ≡ None
     seen_fault g seen = let here : (g.number == g.number) ≡ true = grind (arith, nat_tests) in rw (seen, here) refl
 
-    says_fault : (g : FieldShape) → is_seen s g.number ≡ false → e.says g ≡ None → reading_from s (told_by (Some g) g.number e (told m g.number es)) g.number ≡ None
+    says_fault : (g : FieldShape) → is_seen s g.number ≡ false → e.says g ≡ None → reading_from s (readings_with (Some g) g.number e (told m g.number es)) g.number ≡ None
     says_fault g new says =
         let here : (g.number == g.number) ≡ true = grind (arith, nat_tests) in
         rw (new, here) (ap (λ r. only (r ∷ told m g.number es)) says ∙ only_fault (told m g.number es))
@@ -248,7 +248,7 @@ walked allow m (e ∷ es) s good = named (walked allow m es) (field_named e.key 
     saying : ((t : State) → Good m t → found_by (walk allow m es t) ≡ (if all_known allow m es then gathered (reading_for m t es) m else None))
         → (g : FieldShape) → field_named e.key m ≡ Some g → is_seen s g.number ≡ false → (r : Reading) → e.says g ≡ r
         → found_by (option_and_then (walk allow m es) (noted g.number s r))
-        ≡ (if all_known allow m es then gathered (λ n. reading_from s (told_by (Some g) n e (told m n es)) n) m else None)
+        ≡ (if all_known allow m es then gathered (λ n. reading_from s (readings_with (Some g) n e (told m n es)) n) m else None)
     saying ih g is new None says = told_fault g (says_fault g new says) _ is (known_number e.key m g is)
     saying ih g is new (Some o) says =
         ap (λ t. found_by (option_and_then (walk allow m es) t)) (noted_after g.number s o)
@@ -258,7 +258,7 @@ walked allow m (e ∷ es) s good = named (walked allow m es) (field_named e.key 
     named : ((t : State) → Good m t → found_by (walk allow m es t) ≡ (if all_known allow m es then gathered (reading_for m t es) m else None))
         → (o : Option FieldShape) → field_named e.key m ≡ o
         → found_by (option_and_then (walk allow m es) (turn allow o e.says s))
-        ≡ (if is_known allow o && all_known allow m es then gathered (λ n. reading_from s (told_by o n e (told m n es)) n) m else None)
+        ≡ (if is_known allow o && all_known allow m es then gathered (λ n. reading_from s (readings_with o n e (told m n es)) n) m else None)
     named ih None is = at allow
       where
         at : (b : Bool) → found_by (option_and_then (walk allow m es) (if b then Some s else None))
@@ -268,7 +268,7 @@ walked allow m (e ∷ es) s good = named (walked allow m es) (field_named e.key 
     named ih (Some g) is = at (is_seen s g.number) refl
       where
         at : (b : Bool) → is_seen s g.number ≡ b → found_by (option_and_then (walk allow m es) (if b then None else noted g.number s (e.says g)))
-            ≡ (if all_known allow m es then gathered (λ n. reading_from s (told_by (Some g) n e (told m n es)) n) m else None)
+            ≡ (if all_known allow m es then gathered (λ n. reading_from s (readings_with (Some g) n e (told m n es)) n) m else None)
         at true b = told_fault g (seen_fault g b) _ is (known_number e.key m g is)
         at false b = saying ih g is b (e.says g) refl
 

@@ -8,13 +8,13 @@ use Rattle.serde_json.specs.Data.{Data, Members, no_members, member, put}
 use Rattle.pbx_content.specs.declared.shape.FieldShape.{FieldShape}
 use Rattle.pbx_json.specs.Names.{field_named}
 use Rattle.pbx_json.specs.Scalars.{Reading, reads_as}
-use Rattle.pbx_json.specs.Stands.{Entry, is_known, all_known, told_by, told, entries}
+use Rattle.pbx_json.specs.Stands.{Entry, is_known, all_known, readings_with, told, entries}
 
 same_key : (k l : List ℕ) → slice_cmp nat_cmp k l ≡ Equal → k ≡ l
 same_key k l e = (bytes_eq-Decides k l).0 (sym (is_eq-slice_cmp k l) ∙ ap is_eq e)
 
 -- nothing was said: neither by this key nor by the others
-nothing_said : (o : Option FieldShape) (n : ℕ) (e : Entry) (rs : List Reading) → told_by o n e rs ≡ [] → (rs ≡ []) × ((xs : List Reading) → told_by o n e xs ≡ xs)
+nothing_said : (o : Option FieldShape) (n : ℕ) (e : Entry) (rs : List Reading) → readings_with o n e rs ≡ [] → (rs ≡ []) × ((xs : List Reading) → readings_with o n e xs ≡ xs)
 nothing_said None n e rs h = (h, λ xs. refl)
 nothing_said (Some g) n e rs h = at (g.number == n) h
   where
@@ -27,7 +27,7 @@ module _ (allow : Bool) (m : List FieldShape) (key : List ℕ) (d : Data) (f : F
   entry_at l e = record { key = l; says = reads_as e }
 
   -- the key itself
-  own : (n : ℕ) (rs : List Reading) → told_by (field_named key m) n (entry_at key d) rs ≡ (if f.number == n then reads_as d f ∷ rs else rs)
+  own : (n : ℕ) (rs : List Reading) → readings_with (field_named key m) n (entry_at key d) rs ≡ (if f.number == n then reads_as d f ∷ rs else rs)
   own n rs = rw named refl
 
   pub told_other : (n : ℕ) → (f.number == n) ≡ false → (ms : Members) → told m n (entries (put key d ms)) ≡ told m n (entries ms)
@@ -39,15 +39,15 @@ module _ (allow : Bool) (m : List FieldShape) (key : List ℕ) (d : Data) (f : F
       at Less q ih = own n _ ∙ rw other refl
       at Equal q ih =
           let same : l ≡ key = sym (same_key key l q) in
-          let skips : (x : Data) → told_by (field_named l m) n (entry_at l x) (told m n (entries ms)) ≡ told m n (entries ms) = λ x. rw (same, named, other) refl in
+          let skips : (x : Data) → readings_with (field_named l m) n (entry_at l x) (told m n (entries ms)) ≡ told m n (entries ms) = λ x. rw (same, named, other) refl in
           skips d ∙ sym (skips e)
-      at Greater q ih = ap (told_by (field_named l m) n (entry_at l e)) ih
+      at Greater q ih = ap (readings_with (field_named l m) n (entry_at l e)) ih
 
   pub told_same : (n : ℕ) → (f.number == n) ≡ true → (ms : Members) → told m n (entries ms) ≡ [] → told m n (entries (put key d ms)) ≡ reads_as d f ∷ []
   told_same n same no_members h = own n [] ∙ rw same refl
   told_same n same (member l e ms) h = at (slice_cmp nat_cmp key l) refl (told_same n same ms)
     where
-      parts : (told m n (entries ms) ≡ []) × ((xs : List Reading) → told_by (field_named l m) n (entry_at l e) xs ≡ xs)
+      parts : (told m n (entries ms) ≡ []) × ((xs : List Reading) → readings_with (field_named l m) n (entry_at l e) xs ≡ xs)
       parts = nothing_said (field_named l m) n (entry_at l e) (told m n (entries ms)) h
 
       at : (o : Ordering) → slice_cmp nat_cmp key l ≡ o → (told m n (entries ms) ≡ [] → told m n (entries (put key d ms)) ≡ reads_as d f ∷ [])
@@ -55,10 +55,10 @@ module _ (allow : Bool) (m : List FieldShape) (key : List ℕ) (d : Data) (f : F
       at Less q ih = own n _ ∙ rw (same, h) refl
       at Equal q ih =
           let eq : l ≡ key = sym (same_key key l q) in
-          let skips : told_by (field_named l m) n (entry_at l e) (reads_as d f ∷ []) ≡ reads_as d f ∷ [] = parts.1 _ in
-          let says : told_by (field_named l m) n (entry_at l e) (reads_as d f ∷ []) ≡ reads_as e f ∷ (reads_as d f ∷ []) = rw (eq, named, same) refl in
+          let skips : readings_with (field_named l m) n (entry_at l e) (reads_as d f ∷ []) ≡ reads_as d f ∷ [] = parts.1 _ in
+          let says : readings_with (field_named l m) n (entry_at l e) (reads_as d f ∷ []) ≡ reads_as e f ∷ (reads_as d f ∷ []) = rw (eq, named, same) refl in
           absurd (cc)
-      at Greater q ih = ap (told_by (field_named l m) n (entry_at l e)) (ih parts.0) ∙ parts.1 _
+      at Greater q ih = ap (readings_with (field_named l m) n (entry_at l e)) (ih parts.0) ∙ parts.1 _
 
   pub known_put : (ms : Members) → all_known allow m (entries ms) ≡ true → all_known allow m (entries (put key d ms)) ≡ true
   known_put no_members h = rw named refl

@@ -28,14 +28,14 @@ is_known allow (Some f) = true
 abbrev pub all_known : Bool → List FieldShape → List Entry → Bool
 all_known allow fs es = list_all (λ e. is_known allow (field_named e.key fs)) es
 
-abbrev pub told_by : Option FieldShape → ℕ → Entry → List Reading → List Reading
-told_by None n e rs = rs
-told_by (Some f) n e rs = if f.number == n then e.says f ∷ rs else rs
+abbrev pub readings_with : Option FieldShape → ℕ → Entry → List Reading → List Reading
+readings_with None n e rs = rs
+readings_with (Some f) n e rs = if f.number == n then e.says f ∷ rs else rs
 
 -- what the keys that name a number's field say for it
 abbrev pub told : List FieldShape → ℕ → List Entry → List Reading
 told fs n [] = []
-told fs n (e ∷ es) = told_by (field_named e.key fs) n e (told fs n es)
+told fs n (e ∷ es) = readings_with (field_named e.key fs) n e (told fs n es)
 
 -- no key is absent, and two keys are a fault
 abbrev pub only : List Reading → Reading

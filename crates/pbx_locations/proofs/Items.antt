@@ -1,4 +1,4 @@
--- The items of a message as the pieces of its body.
+-- The items of a message as items of its body.
 use Rattle.std.proofs.Common.{◌≡◌, ℕ, ◌+◌, ◌<◌, ◌≤◌, ℤ, List, [], ◌∷◌, ◌++◌, length, drop, get_or, refl, sym, ap, ◌∙◌, append_assoc, append-nil, add-zero, add-one, drop-cons}
 use Rattle.std.proofs.lemmas.List.{drop_all}
 use Rattle.std.specs.List.{flat_map}
@@ -16,55 +16,55 @@ use Rattle.pbx_tree.specs.declared.tree.Item.{Item, out-Item, roll-Item, roll-ou
 use Rattle.pbx_tree.specs.declared.tree.Item.TheVariants.{rolls-Map, rolls-Oneof, rolls-Message, rolls-Enum, rolls-Extend, outs-Map, outs-Oneof, outs-Message, outs-Enum, outs-Extend}
 use Rattle.pbx_tree.specs.Tree.{item_map, item_oneof, item_enum, item_extend, Body, end}
 use Rattle.pbx_tree.specs.Tree as tree
-use Rattle.pbx_tree.specs.View.{head_of, map_of, oneof_of, enum_of, extend_of, Piece, plain, nested, add, all_before, item_step, item_of, body_of}
+use Rattle.pbx_tree.specs.View.{head_of, map_of, oneof_of, enum_of, extend_of, BodyItem, plain, nested, add, all_before, item_step, item_of, body_of}
 use Rattle.pbx_desc.specs.declared.source.Location.{Location}
 use Rattle.pbx_locations.specs.Locations.{element, of_items, item_enums, item_extensions, item_oneofs, nested_from, message_locations}
-use Rattle.pbx_locations.specs.Pieces.{of_piece}
+use Rattle.pbx_locations.specs.BodyItems.{of_body_item}
 
 -- an item by its outermost layer
-abbrev layer : layers.Item-F Item → Piece
-layer l = item_step (map-Item Item Piece item_of l)
+abbrev layer : layers.Item-F Item → BodyItem
+layer l = item_step (map-Item Item BodyItem item_of l)
 
 layer_of : (x : Item) → item_of x ≡ layer (out-Item x)
-layer_of x = fold_out-Item Piece item_step x
+layer_of x = fold_out-Item BodyItem item_step x
 
-pub piece_of_map : (m : code_map.MapField) → item_of (items.Map m) ≡ plain (item_map (map_of m))
-piece_of_map m = layer_of (items.Map m) ∙ ap layer (outs-Map m)
+pub body_item_of_map : (m : code_map.MapField) → item_of (items.Map m) ≡ plain (item_map (map_of m))
+body_item_of_map m = layer_of (items.Map m) ∙ ap layer (outs-Map m)
 
-pub piece_of_oneof : (o : code_oneof.Oneof) → item_of (items.Oneof o) ≡ plain (item_oneof (oneof_of o))
-piece_of_oneof o = layer_of (items.Oneof o) ∙ ap layer (outs-Oneof o)
+pub body_item_of_oneof : (o : code_oneof.Oneof) → item_of (items.Oneof o) ≡ plain (item_oneof (oneof_of o))
+body_item_of_oneof o = layer_of (items.Oneof o) ∙ ap layer (outs-Oneof o)
 
-pub piece_of_enum : (e : code_enum.Enum) → item_of (items.Enum e) ≡ plain (item_enum (enum_of e))
-piece_of_enum e = layer_of (items.Enum e) ∙ ap layer (outs-Enum e)
+pub body_item_of_enum : (e : code_enum.Enum) → item_of (items.Enum e) ≡ plain (item_enum (enum_of e))
+body_item_of_enum e = layer_of (items.Enum e) ∙ ap layer (outs-Enum e)
 
-pub piece_of_extend : (e : code_extend.Extend) → item_of (items.Extend e) ≡ plain (item_extend (extend_of e))
-piece_of_extend e = layer_of (items.Extend e) ∙ ap layer (outs-Extend e)
+pub body_item_of_extend : (e : code_extend.Extend) → item_of (items.Extend e) ≡ plain (item_extend (extend_of e))
+body_item_of_extend e = layer_of (items.Extend e) ∙ ap layer (outs-Extend e)
 
-pub piece_of_message : (h : code_head.Head) (is : Vec Item Global) (close : Span) → item_of (items.Message h is close) ≡ nested (head_of h) (body_of is.items) close
-piece_of_message h is close = layer_of (items.Message h is close) ∙ ap layer (outs-Message h is close)
+pub body_item_of_message : (h : code_head.Head) (is : Vec Item Global) (close : Span) → item_of (items.Message h is close) ≡ nested (head_of h) (body_of is.items) close
+body_item_of_message h is close = layer_of (items.Message h is close) ∙ ap layer (outs-Message h is close)
 
 -- ---- items of other kinds
 
-no_enum_in : (l : layers.Item-F Item) → ((e : code_enum.Enum) → roll-Item l ≡ items.Enum e → ⊥) → of_piece item_enums (layer l) ≡ []
+no_enum_in : (l : layers.Item-F Item) → ((e : code_enum.Enum) → roll-Item l ≡ items.Enum e → ⊥) → of_body_item item_enums (layer l) ≡ []
 no_enum_in (layers.Enum e) h = absurd (h e (rolls-Enum e))
 no_enum_in _ h = refl
 
-pub no_enum : (x : Item) → ((e : code_enum.Enum) → x ≡ items.Enum e → ⊥) → of_piece item_enums (item_of x) ≡ []
-no_enum x h = ap (of_piece item_enums) (layer_of x) ∙ no_enum_in (out-Item x) (λ e p. h e (sym (roll-out-Item x) ∙ p))
+pub no_enum : (x : Item) → ((e : code_enum.Enum) → x ≡ items.Enum e → ⊥) → of_body_item item_enums (item_of x) ≡ []
+no_enum x h = ap (of_body_item item_enums) (layer_of x) ∙ no_enum_in (out-Item x) (λ e p. h e (sym (roll-out-Item x) ∙ p))
 
-no_extend_in : (l : layers.Item-F Item) → ((e : code_extend.Extend) → roll-Item l ≡ items.Extend e → ⊥) → of_piece item_extensions (layer l) ≡ []
+no_extend_in : (l : layers.Item-F Item) → ((e : code_extend.Extend) → roll-Item l ≡ items.Extend e → ⊥) → of_body_item item_extensions (layer l) ≡ []
 no_extend_in (layers.Extend e) h = absurd (h e (rolls-Extend e))
 no_extend_in _ h = refl
 
-pub no_extend : (x : Item) → ((e : code_extend.Extend) → x ≡ items.Extend e → ⊥) → of_piece item_extensions (item_of x) ≡ []
-no_extend x h = ap (of_piece item_extensions) (layer_of x) ∙ no_extend_in (out-Item x) (λ e p. h e (sym (roll-out-Item x) ∙ p))
+pub no_extend : (x : Item) → ((e : code_extend.Extend) → x ≡ items.Extend e → ⊥) → of_body_item item_extensions (item_of x) ≡ []
+no_extend x h = ap (of_body_item item_extensions) (layer_of x) ∙ no_extend_in (out-Item x) (λ e p. h e (sym (roll-out-Item x) ∙ p))
 
-no_oneof_in : (l : layers.Item-F Item) → ((o : code_oneof.Oneof) → roll-Item l ≡ items.Oneof o → ⊥) → of_piece item_oneofs (layer l) ≡ []
+no_oneof_in : (l : layers.Item-F Item) → ((o : code_oneof.Oneof) → roll-Item l ≡ items.Oneof o → ⊥) → of_body_item item_oneofs (layer l) ≡ []
 no_oneof_in (layers.Oneof o) h = absurd (h o (rolls-Oneof o))
 no_oneof_in _ h = refl
 
-pub no_oneof : (x : Item) → ((o : code_oneof.Oneof) → x ≡ items.Oneof o → ⊥) → of_piece item_oneofs (item_of x) ≡ []
-no_oneof x h = ap (of_piece item_oneofs) (layer_of x) ∙ no_oneof_in (out-Item x) (λ o p. h o (sym (roll-out-Item x) ∙ p))
+pub no_oneof : (x : Item) → ((o : code_oneof.Oneof) → x ≡ items.Oneof o → ⊥) → of_body_item item_oneofs (item_of x) ≡ []
+no_oneof x h = ap (of_body_item item_oneofs) (layer_of x) ∙ no_oneof_in (out-Item x) (λ o p. h o (sym (roll-out-Item x) ∙ p))
 
 -- what is neither a message nor a map field makes no nested message
 no_nested_in : (path : List ℤ) (i : ℕ) (b : Body) (l : layers.Item-F Item)
@@ -84,19 +84,19 @@ no_nested path i b x p q =
 
 pub map_nested : (path : List ℤ) (i : ℕ) (b : Body) (x : Item) (m : code_map.MapField) → x ≡ items.Map m → nested_from path i (add (item_of x) b) ≡ [] ++ nested_from path (i + 1) b
 unfolding nested_from
-map_nested path i b x m e = ap (λ c. nested_from path i (add c b)) (ap item_of e ∙ piece_of_map m)
+map_nested path i b x m e = ap (λ c. nested_from path i (add c b)) (ap item_of e ∙ body_item_of_map m)
 
 pub message_nested : (path : List ℤ) (i : ℕ) (b : Body) (x : Item) (h : code_head.Head) (is : Vec Item Global) (close : Span) → x ≡ items.Message h is close
     → nested_from path i (add (item_of x) b) ≡ message_locations (element path 3 i) (head_of h) (body_of is.items) close ++ nested_from path (i + 1) b
 unfolding nested_from
-message_nested path i b x h is close e = ap (λ c. nested_from path i (add c b)) (ap item_of e ∙ piece_of_message h is close)
+message_nested path i b x h is close e = ap (λ c. nested_from path i (add c b)) (ap item_of e ∙ body_item_of_message h is close)
 
 -- ---- bodies
 
-pub of_pieces : {A : Type 0} (one : tree.Item → List A) (ps : List Piece) → flat_map (of_piece one) ps ≡ of_items one (all_before ps end)
-of_pieces one [] = refl
-of_pieces {A} one (plain i ∷ ps) = ap (λ (xs : List A). one i ++ xs) (of_pieces one ps)
-of_pieces one (nested h inner close ∷ ps) = of_pieces one ps
+pub of_body_items : {A : Type 0} (one : tree.Item → List A) (ps : List BodyItem) → flat_map (of_body_item one) ps ≡ of_items one (all_before ps end)
+of_body_items one [] = refl
+of_body_items {A} one (plain i ∷ ps) = ap (λ (xs : List A). one i ++ xs) (of_body_items one ps)
+of_body_items one (nested h inner close ∷ ps) = of_body_items one ps
 
 -- the rest of the items begins with this one
 pub rest_is : (xs : List Item) (n : ℕ) (x : Item) → n < length xs → x ≡ get_or xs n x → body_of (drop n xs) ≡ add (item_of x) (body_of (drop (n + 1) xs))

@@ -1,2 +1,2 @@
 pub mod Locations
-pub mod Pieces
+pub mod BodyItems

@@ -3,7 +3,7 @@
 ghost use Rattle.std.specs.Prelude.{◌≡◌, ◌++◌, pos, IfOk, OnOk};
 ghost use Rattle.pbx_tree.specs.View.{head_of, item_of, body_of};
 ghost use Rattle.pbx_locations.specs.Locations.{field_at, enum_at, oneof_at, item_fields, item_enums, item_extensions, item_oneofs, of_items, numbered, Adds, nested_from, message_locations};
-ghost use Rattle.pbx_locations.specs.Pieces.{of_piece};
+ghost use Rattle.pbx_locations.specs.BodyItems.{of_body_item};
 
 use crate::enumeration::add_enum;
 use crate::field::{add_extensions, add_labelled, add_map, add_members};
@@ -23,7 +23,7 @@ fn add_item_fields(
     first: u32,
     item: &Item<'_>,
 ) -> Result<u32, NoMemory>
-    ensures { IfOk result (λ next. Adds (field_at path.now 2) (of_piece item_fields (item_of item.now)) first next out.old out.new) }
+    ensures { IfOk result (λ next. Adds (field_at path.now 2) (of_body_item item_fields (item_of item.now)) first next out.old out.new) }
 {
     match item {
         Item::Field(field) => {

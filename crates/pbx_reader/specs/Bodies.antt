@@ -5,19 +5,19 @@ use Rattle.pbx_tree.specs.declared.tree.Version.{Version}
 use Rattle.pbx_tree.specs.Tree.{Body}
 use Rattle.pbx_tree.specs.Grammar.{marked, item_then, head_then, body_then}
 use Rattle.pbx_tree.specs.Conditions.{item_fits, body_fits, message_options_fit}
-use Rattle.pbx_tree.specs.View.{Piece, plain, nested}
+use Rattle.pbx_tree.specs.View.{BodyItem, plain, nested}
 
 -- the tokens of an item, and then the rest
-abbrev pub piece_then : Piece → List Token → List Token
-piece_then (plain i) rest = item_then i rest
-piece_then (nested h inner close) rest = head_then h (body_then inner (marked 125 close ∷ rest))
+abbrev pub body_item_then : BodyItem → List Token → List Token
+body_item_then (plain i) rest = item_then i rest
+body_item_then (nested h inner close) rest = head_then h (body_then inner (marked 125 close ∷ rest))
 
 -- the items fit, messages among them nest at most so many levels, and the options are a message's
 abbrev pub message_fits : Version → ℕ → Body → Bool
 message_fits v levels b = body_fits v levels b && message_options_fit b
 
 -- an item fits where messages nest at most so many levels
-abbrev pub piece_fits : Version → ℕ → Piece → Bool
-piece_fits v levels (plain i) = item_fits v i
-piece_fits v zero (nested h inner close) = false
-piece_fits v (suc levels) (nested h inner close) = message_fits v levels inner
+abbrev pub body_item_fits : Version → ℕ → BodyItem → Bool
+body_item_fits v levels (plain i) = item_fits v i
+body_item_fits v zero (nested h inner close) = false
+body_item_fits v (suc levels) (nested h inner close) = message_fits v levels inner

@@ -106,7 +106,7 @@ pub fn constant<'a>(cursor: &mut Cursor<'_, 'a>) -> Result<Constant<'a>, ReadErr
     if cursor.sees_string() {
         return Ok(Constant::String(cursor.literal(Expected::String)?));
     }
-    Ok(Constant::Word(cursor.name_or(Expected::Constant)?))
+    Ok(Constant::Identifier(cursor.name_or(Expected::Constant)?))
 }
 
 pub fn setting<'a>(cursor: &mut Cursor<'_, 'a>) -> Result<Setting<'a>, ReadError>

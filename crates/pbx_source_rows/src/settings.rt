@@ -24,7 +24,7 @@ pub fn mode(alloc: Global, row: &Row) -> Result<String, AllocError> {
 fn constant<'a>(sort: &str, text: &'a str) -> Constant<'a> {
     let span = place(9);
     match sort {
-        "word" => Constant::Word(Name { text, span }),
+        "word" => Constant::Identifier(Name { text, span }),
         "string" => Constant::String(Literal::new(text, span)),
         _ => Constant::Number(Number {
             minus: None,

@@ -5,7 +5,7 @@ use Rattle.pbx_desc.specs.declared.message.DescriptorProto.{DescriptorProto}
 use Rattle.pbx_tree.specs.declared.tree.Version.{Version}
 use Rattle.pbx_tree.specs.declared.tree.Modifier.{Modifier}
 use Rattle.pbx_tree.specs.Tree.{Import, Body, end}
-use Rattle.pbx_tree.specs.View.{Piece, plain, nested, add}
+use Rattle.pbx_tree.specs.View.{BodyItem, plain, nested, add}
 use Rattle.pbx_translation.specs.Messages.{oneofs_in, optional_names_in, fields_in, fields_from, entries_in, message_with, nested_types}
 use Rattle.pbx_translation.specs.Translation.{has_modifier, indexes_from}
 
@@ -21,7 +21,7 @@ none_seen view xs i past = ap (map view) (drop_of_length-le xs past)
 
 -- ---- fields
 
-pub fields_more : (v : Version) (written made : ℕ) (p : Piece) (ps : List Piece) → fields_from v written made (p ∷ ps) ≡ fields_in v written made p ++ fields_from v (written + length (oneofs_in p)) (made + length (optional_names_in v p)) ps
+pub fields_more : (v : Version) (written made : ℕ) (p : BodyItem) (ps : List BodyItem) → fields_from v written made (p ∷ ps) ≡ fields_in v written made p ++ fields_from v (written + length (oneofs_in p)) (made + length (optional_names_in v p)) ps
 unfolding fields_from
 fields_more v written made p ps = refl
 
@@ -31,11 +31,11 @@ fields_none v written made = refl
 
 -- ---- nested types
 
-abbrev pub types_in : Version → Piece → List DescriptorProto
+abbrev pub types_in : Version → BodyItem → List DescriptorProto
 types_in v (plain i) = entries_in i
 types_in v (nested h inner close) = message_with v h.name.text inner (nested_types v inner) ∷ []
 
-pub types_more : (v : Version) (p : Piece) (b : Body) → nested_types v (add p b) ≡ types_in v p ++ nested_types v b
+pub types_more : (v : Version) (p : BodyItem) (b : Body) → nested_types v (add p b) ≡ types_in v p ++ nested_types v b
 unfolding nested_types
 types_more v (plain i) b = refl
 types_more v (nested h inner close) b = refl

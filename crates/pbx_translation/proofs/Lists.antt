@@ -5,9 +5,9 @@ use Rattle.std.proofs.Math.ListN.{drop_of_length-le}
 use Rattle.pbx_token.specs.declared.token.Span.{Span}
 use Rattle.pbx_tree.specs.declared.tree.Separated.{Separated}
 use Rattle.pbx_tree.specs.Tree.{end, all_of}
-use Rattle.pbx_tree.specs.View.{next_of, separated_of, Piece, plain, nested, all_before}
+use Rattle.pbx_tree.specs.View.{next_of, separated_of, BodyItem, plain, nested, all_before}
 use Rattle.pbx_translation.specs.Passes.{listed}
-use Rattle.pbx_translation.specs.Messages.{pieces}
+use Rattle.pbx_translation.specs.Messages.{body_items}
 
 -- of the views
 pub flat_seen : {A B C : Type 0} (f : B → List C) (view : A → B) (xs : List A) → flat_map (λ x. f (view x)) xs ≡ flat_map f (map view xs)
@@ -23,11 +23,11 @@ pub listed_seen : {A B C : Type 0} (f : B → C) (view : A → B) (s : Separated
 listed_seen f view s = ap (λ ys. f (view s.first) ∷ ys) (more_seen f view s.more.items)
 
 -- the body of these items has these items
-pub pieces_seen : (ps : List Piece) → pieces (all_before ps end) ≡ ps
-unfolding pieces
-pieces_seen [] = refl
-pieces_seen (plain i ∷ ps) = ap (λ qs. plain i ∷ qs) (pieces_seen ps)
-pieces_seen (nested h inner close ∷ ps) = ap (λ qs. nested h inner close ∷ qs) (pieces_seen ps)
+pub body_items_seen : (ps : List BodyItem) → body_items (all_before ps end) ≡ ps
+unfolding body_items
+body_items_seen [] = refl
+body_items_seen (plain i ∷ ps) = ap (λ qs. plain i ∷ qs) (body_items_seen ps)
+body_items_seen (nested h inner close ∷ ps) = ap (λ qs. nested h inner close ∷ qs) (body_items_seen ps)
 
 module _ {X Y : Type 0} (f : X → List Y) (xs : List X) (i : ℕ) where
   -- one more item

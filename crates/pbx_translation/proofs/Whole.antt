@@ -15,11 +15,11 @@ use Rattle.pbx_tree.specs.declared.tree.Item as code_item
 use Rattle.pbx_tree.specs.declared.options.OptionPlace.TheVariants as places
 use Rattle.pbx_tree.specs.Conditions.{body_settings, service_setting}
 use Rattle.pbx_tree.specs.Tree.{Body, Service}
-use Rattle.pbx_tree.specs.View.{Piece, item_of, body_of}
+use Rattle.pbx_tree.specs.View.{BodyItem, item_of, body_of}
 use Rattle.pbx_translation.specs.Settings.{options_of}
 use Rattle.pbx_translation.specs.Services.{method_records, service_record}
-use Rattle.pbx_translation.specs.Messages.{pieces, oneof_record, oneofs_in, optional_names_in, names_in, made_names, oneof_records, fields_from, fields_of, enums_in, extension_ranges_in, extensions_in, reserved_ranges_in, reserved_names_in, message_with}
-use Rattle.pbx_translation.proofs.Lists.{flat_seen, pieces_seen}
+use Rattle.pbx_translation.specs.Messages.{body_items, oneof_record, oneofs_in, optional_names_in, names_in, made_names, oneof_records, fields_from, fields_of, enums_in, extension_ranges_in, extensions_in, reserved_ranges_in, reserved_names_in, message_with}
+use Rattle.pbx_translation.proofs.Lists.{flat_seen, body_items_seen}
 
 pub service_made : (s : Service) (name : List ℕ) (methods : List MethodDescriptorProto) (options : Option Options) (unknown : List Rec)
     → name ≡ s.name.text
@@ -31,20 +31,20 @@ unfolding service_record
 service_made s name methods options unknown n m o u = cc
 
 module _ (items : List code_item.Item) where
-  seen : pieces (body_of items) ≡ map item_of items
-  seen = pieces_seen (map item_of items)
+  seen : body_items (body_of items) ≡ map item_of items
+  seen = body_items_seen (map item_of items)
 
-  pub gathered : {A : Type 0} (f : Piece → List A) (all : List A) → all ≡ flat_map (λ x. f (item_of x)) items → all ≡ flat_map f (pieces (body_of items))
+  pub gathered : {A : Type 0} (f : BodyItem → List A) (all : List A) → all ≡ flat_map (λ x. f (item_of x)) items → all ≡ flat_map f (body_items (body_of items))
   gathered f all e = e ∙ flat_seen f item_of items ∙ ap (flat_map f) (sym seen)
 
   module _ (v : Version) (written : List OneofDescriptorProto) (are : written ≡ flat_map (λ x. oneofs_in (item_of x)) items) where
-    pub fields_are : (fields : List FieldDescriptorProto) → fields ≡ fields_from v 0 (length written) (map item_of items) → fields ≡ fields_of v (pieces (body_of items))
+    pub fields_are : (fields : List FieldDescriptorProto) → fields ≡ fields_from v 0 (length written) (map item_of items) → fields ≡ fields_of v (body_items (body_of items))
     fields_are fields e =
         e
         ∙ ap (λ (os : List OneofDescriptorProto). fields_from v 0 (length os) (map item_of items)) (are ∙ flat_seen oneofs_in item_of items)
         ∙ ap (fields_of v) (sym seen)
 
-    pub oneofs_are : (oneofs : List OneofDescriptorProto) → oneofs ≡ written ++ map oneof_record (made_names (flat_map names_in (map item_of items)) (flat_map (optional_names_in v) (map item_of items))) → oneofs ≡ oneof_records v (pieces (body_of items))
+    pub oneofs_are : (oneofs : List OneofDescriptorProto) → oneofs ≡ written ++ map oneof_record (made_names (flat_map names_in (map item_of items)) (flat_map (optional_names_in v) (map item_of items))) → oneofs ≡ oneof_records v (body_items (body_of items))
     oneofs_are oneofs e =
         e
         ∙ ap (λ (os : List OneofDescriptorProto). os ++ map oneof_record (made_names (flat_map names_in (map item_of items)) (flat_map (optional_names_in v) (map item_of items)))) (are ∙ flat_seen oneofs_in item_of items)
@@ -54,14 +54,14 @@ pub message_made : (v : Version) (name text : List ℕ) (b : Body) (types kept :
     (options : Option Options) (oneofs : List OneofDescriptorProto) (reserved : List ReservedRange) (names : List (List ℕ)) (unknown : List Rec)
     → text ≡ name
     → kept ≡ types
-    → fields ≡ fields_of v (pieces b)
-    → enums ≡ flat_map enums_in (pieces b)
-    → ranges ≡ flat_map extension_ranges_in (pieces b)
-    → extensions ≡ flat_map (extensions_in v) (pieces b)
+    → fields ≡ fields_of v (body_items b)
+    → enums ≡ flat_map enums_in (body_items b)
+    → ranges ≡ flat_map extension_ranges_in (body_items b)
+    → extensions ≡ flat_map (extensions_in v) (body_items b)
     → options ≡ options_of places.Message (body_settings b)
-    → oneofs ≡ oneof_records v (pieces b)
-    → reserved ≡ flat_map reserved_ranges_in (pieces b)
-    → names ≡ flat_map reserved_names_in (pieces b)
+    → oneofs ≡ oneof_records v (body_items b)
+    → reserved ≡ flat_map reserved_ranges_in (body_items b)
+    → names ≡ flat_map reserved_names_in (body_items b)
     → unknown ≡ []
     → roll-DescriptorProto (record {
       name = Some text;

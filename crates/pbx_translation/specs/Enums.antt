@@ -24,9 +24,9 @@ value_record v = record {
   unknown = [];
 }
 
-abbrev pub value_records : EnumItem → List EnumValueDescriptorProto
-value_records (enum_value v) = value_record v ∷ []
-value_records _ = []
+abbrev pub enum_value_records : EnumItem → List EnumValueDescriptorProto
+enum_value_records (enum_value v) = value_record v ∷ []
+enum_value_records _ = []
 
 -- `max` is the greatest `int32`
 abbrev end_number : RangeEnd Number → ℤ
@@ -58,7 +58,7 @@ reserved_names_in _ = []
 unfoldable pub enum_record : Enum → EnumDescriptorProto
 enum_record e = record {
   name = Some e.name.text;
-  value = flat_map value_records e.items;
+  value = flat_map enum_value_records e.items;
   options = options_of places.Enum (filter_map enum_setting e.items);
   reserved_range = flat_map range_records e.items;
   reserved_name = flat_map reserved_names_in e.items;

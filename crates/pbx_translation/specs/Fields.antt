@@ -15,7 +15,7 @@ use Rattle.pbx_tree.specs.declared.tree.Version.{Version}
 use Rattle.pbx_tree.specs.declared.tree.Version.TheVariants as versions
 use Rattle.pbx_tree.specs.declared.options.OptionPlace.TheVariants as places
 use Rattle.pbx_tree.specs.Conditions.{settings_of}
-use Rattle.pbx_tree.specs.Tree.{TypeName, Kind, scalar, named_type, Constant, constant_number, constant_word, constant_string, Setting, Tail, Field, MapField, Member, empty_member, member, Extension, empty_extension, extension, Extend}
+use Rattle.pbx_tree.specs.Tree.{TypeName, Kind, scalar, named_type, Constant, constant_number, constant_identifier, constant_string, Setting, Tail, Field, MapField, Member, empty_member, member, Extension, empty_extension, extension, Extend}
 use Rattle.pbx_translation.specs.Texts.{type_text, entry_name, string_text, escaped, number_text}
 use Rattle.pbx_translation.specs.Settings.{options_of, set_to}
 
@@ -65,7 +65,7 @@ kind_name (named_type t) = Some (type_text t)
 -- the text of a default: a number in decimal, a word as it is, a string by the text that it stands for, or for a field of bytes as a string literal of C has it
 abbrev pub default_text : Kind → Constant → List ℕ
 default_text k (constant_number n) = number_text n
-default_text k (constant_word word) = word.text
+default_text k (constant_identifier word) = word.text
 default_text (scalar scalars.Bytes span) (constant_string l) = escaped (unescaped l.text)
 default_text k (constant_string l) = string_text l
 
@@ -75,7 +75,7 @@ default_of k settings = option_map (default_text k) (set_to (codes "default") se
 
 abbrev pub constant_text : Constant → Option (List ℕ)
 constant_text (constant_number n) = None
-constant_text (constant_word word) = None
+constant_text (constant_identifier word) = None
 constant_text (constant_string l) = Some (string_text l)
 
 -- the JSON name, where one is written

@@ -13,17 +13,17 @@ use Rattle.pbx_tree.specs.declared.tree.Version.{Version}
 use Rattle.pbx_tree.specs.declared.options.OptionPlace.TheVariants as places
 use Rattle.pbx_tree.specs.Conditions.{body_settings}
 use Rattle.pbx_tree.specs.Tree.{Count, all_of, RangeEnd, range_number, range_max, Range, Reserved, reserved_ranges, reserved_names, Member, empty_member, member, Extension, empty_extension, extension, EnumItem, enum_value, Item, item_field, item_map, item_oneof, item_enum, item_extend, item_extensions, item_reserved, Body, end, item, message}
-use Rattle.pbx_tree.specs.View.{Piece, plain, nested}
+use Rattle.pbx_tree.specs.View.{BodyItem, plain, nested}
 use Rattle.pbx_translation.specs.Texts.{entry_name}
 use Rattle.pbx_translation.specs.Settings.{options_of}
 use Rattle.pbx_translation.specs.Fields.{is_proto3_optional, field_record, member_records, map_record, entry_record, extend_records}
 use Rattle.pbx_translation.specs.Enums.{names_reserved, enum_record}
 
 -- what stands in a body, in its order; messages in it are not entered
-unfoldable pub pieces : Body → List Piece
-pieces end = []
-pieces (item i b) = plain i ∷ pieces b
-pieces (message h inner close b) = nested h inner close ∷ pieces b
+unfoldable pub body_items : Body → List BodyItem
+body_items end = []
+body_items (item i b) = plain i ∷ body_items b
+body_items (message h inner close b) = nested h inner close ∷ body_items b
 
 -- ---- ranges
 
@@ -48,25 +48,25 @@ abbrev pub ranges_reserved : Reserved Count → List ReservedRange
 ranges_reserved (reserved_ranges keyword ranges close) = map reserved_range (all_of ranges)
 ranges_reserved (reserved_names keyword names close) = []
 
-abbrev pub reserved_ranges_in : Piece → List ReservedRange
+abbrev pub reserved_ranges_in : BodyItem → List ReservedRange
 reserved_ranges_in (plain (item_reserved r)) = ranges_reserved r
 reserved_ranges_in _ = []
 
-abbrev pub reserved_names_in : Piece → List (List ℕ)
+abbrev pub reserved_names_in : BodyItem → List (List ℕ)
 reserved_names_in (plain (item_reserved r)) = names_reserved r
 reserved_names_in _ = []
 
-abbrev pub extension_ranges_in : Piece → List ExtensionRange
+abbrev pub extension_ranges_in : BodyItem → List ExtensionRange
 extension_ranges_in (plain (item_extensions e)) = map extension_range (all_of e.ranges)
 extension_ranges_in _ = []
 
 -- ---- enums and extensions
 
-abbrev pub enums_in : Piece → List EnumDescriptorProto
+abbrev pub enums_in : BodyItem → List EnumDescriptorProto
 enums_in (plain (item_enum e)) = enum_record e ∷ []
 enums_in _ = []
 
-abbrev pub extensions_in : Version → Piece → List FieldDescriptorProto
+abbrev pub extensions_in : Version → BodyItem → List FieldDescriptorProto
 extensions_in v (plain (item_extend e)) = extend_records v e
 extensions_in v _ = []
 
@@ -77,12 +77,12 @@ unfoldable pub oneof_record : List ℕ → OneofDescriptorProto
 oneof_record name = record { name = Some name; options = None; unknown = [] }
 
 -- the oneofs that are written
-abbrev pub oneofs_in : Piece → List OneofDescriptorProto
+abbrev pub oneofs_in : BodyItem → List OneofDescriptorProto
 oneofs_in (plain (item_oneof o)) = oneof_record o.name.text ∷ []
 oneofs_in _ = []
 
 -- the names of the fields for which a oneof is made
-abbrev pub optional_names_in : Version → Piece → List (List ℕ)
+abbrev pub optional_names_in : Version → BodyItem → List (List ℕ)
 optional_names_in v (plain (item_field f)) = if is_proto3_optional v f.label then f.tail.name.text ∷ [] else []
 optional_names_in v _ = []
 
@@ -107,7 +107,7 @@ item_names (item_enum e) = e.name.text ∷ flat_map value_names e.items
 item_names (item_extend e) = flat_map extension_names e.extensions
 item_names _ = []
 
-abbrev pub names_in : Piece → List (List ℕ)
+abbrev pub names_in : BodyItem → List (List ℕ)
 names_in (plain i) = item_names i
 names_in (nested h inner close) = h.name.text ∷ []
 
@@ -130,25 +130,25 @@ made_names taken [] = []
 made_names taken (name ∷ names) = let made = free_name taken (95 ∷ name) in made ∷ made_names (taken ++ made ∷ []) names
 
 -- the oneofs of a message: those that are written, and then those that are made
-abbrev pub oneof_records : Version → List Piece → List OneofDescriptorProto
+abbrev pub oneof_records : Version → List BodyItem → List OneofDescriptorProto
 oneof_records v ps = flat_map oneofs_in ps ++ map oneof_record (made_names (flat_map names_in ps) (flat_map (optional_names_in v) ps))
 
 -- ---- fields
 
 -- the fields of one item, where so many oneofs are written before it, and the next that is made has this index
-abbrev pub fields_in : Version → ℕ → ℕ → Piece → List FieldDescriptorProto
+abbrev pub fields_in : Version → ℕ → ℕ → BodyItem → List FieldDescriptorProto
 fields_in v written made (plain (item_field f)) = field_record v made f ∷ []
 fields_in v written made (plain (item_map m)) = map_record m ∷ []
 fields_in v written made (plain (item_oneof o)) = flat_map (member_records written) o.members
 fields_in v written made _ = []
 
 -- the fields of these items
-unfoldable pub fields_from : Version → ℕ → ℕ → List Piece → List FieldDescriptorProto
+unfoldable pub fields_from : Version → ℕ → ℕ → List BodyItem → List FieldDescriptorProto
 fields_from v written made [] = []
 fields_from v written made (p ∷ ps) = fields_in v written made p ++ fields_from v (written + length (oneofs_in p)) (made + length (optional_names_in v p)) ps
 
 -- the fields of a message: oneofs are counted from 0, and those that are made stand behind all that are written
-abbrev pub fields_of : Version → List Piece → List FieldDescriptorProto
+abbrev pub fields_of : Version → List BodyItem → List FieldDescriptorProto
 fields_of v ps = fields_from v 0 (length (flat_map oneofs_in ps)) ps
 
 -- ---- messages
@@ -157,15 +157,15 @@ fields_of v ps = fields_from v 0 (length (flat_map oneofs_in ps)) ps
 unfoldable pub message_with : Version → List ℕ → Body → List DescriptorProto → DescriptorProto
 message_with v name b types = roll-DescriptorProto (record {
   name = Some name;
-  field = fields_of v (pieces b);
+  field = fields_of v (body_items b);
   nested_type = types;
-  enum_type = flat_map enums_in (pieces b);
-  extension_range = flat_map extension_ranges_in (pieces b);
-  extension = flat_map (extensions_in v) (pieces b);
+  enum_type = flat_map enums_in (body_items b);
+  extension_range = flat_map extension_ranges_in (body_items b);
+  extension = flat_map (extensions_in v) (body_items b);
   options = options_of places.Message (body_settings b);
-  oneof_decl = oneof_records v (pieces b);
-  reserved_range = flat_map reserved_ranges_in (pieces b);
-  reserved_name = flat_map reserved_names_in (pieces b);
+  oneof_decl = oneof_records v (body_items b);
+  reserved_range = flat_map reserved_ranges_in (body_items b);
+  reserved_name = flat_map reserved_names_in (body_items b);
   unknown = [];
 })
 

@@ -11,7 +11,7 @@ use Rattle.pbx_tree.specs.declared.options.OptionKind.{OptionKind}
 use Rattle.pbx_tree.specs.declared.options.OptionKind.TheVariants as kinds
 use Rattle.pbx_tree.specs.declared.options.KnownOption.{KnownOption}
 use Rattle.pbx_tree.specs.Options.{known_option, optimize_mode}
-use Rattle.pbx_tree.specs.Tree.{Constant, constant_word, constant_string, Setting}
+use Rattle.pbx_tree.specs.Tree.{Constant, constant_identifier, constant_string, Setting}
 
 -- `true` is 1, and `false` is 0
 abbrev pub truth : List ℕ → ℕ
@@ -22,15 +22,15 @@ mode_records n None = []
 mode_records n (Some mode) = rec.Varint n mode ∷ []
 
 -- the record that gives this value to the option of a number: a truth value and a value of `FileOptions.OptimizeMode` by their numbers, a string by the bytes that it stands for
-abbrev pub value_records : OptionKind → ℕ → Constant → List Rec
-value_records kinds.Bool n (constant_word word) = rec.Varint n (truth word.text) ∷ []
-value_records kinds.OptimizeMode n (constant_word word) = mode_records n (optimize_mode word.text)
-value_records kinds.Text n (constant_string l) = rec.Bytes n (unescaped l.text) ∷ []
-value_records _ n _ = []
+abbrev pub constant_records : OptionKind → ℕ → Constant → List Rec
+constant_records kinds.Bool n (constant_identifier word) = rec.Varint n (truth word.text) ∷ []
+constant_records kinds.OptimizeMode n (constant_identifier word) = mode_records n (optimize_mode word.text)
+constant_records kinds.Text n (constant_string l) = rec.Bytes n (unescaped l.text) ∷ []
+constant_records _ n _ = []
 
 abbrev pub known_records : Option KnownOption → Constant → List Rec
 known_records None value = []
-known_records (Some k) value = value_records k.kind k.number value
+known_records (Some k) value = constant_records k.kind k.number value
 
 -- what a setting at the place puts into the options record; `default` and `json_name` of a field put nothing there
 unfoldable pub setting_records : OptionPlace → Setting → List Rec

@@ -7,7 +7,7 @@ ghost use Rattle.pbx_tree.specs.Conditions.{enum_setting};
 ghost use Rattle.pbx_tree.specs.View.{literal_of, range_of, enum_number_of, value_of, enum_item_of, enum_of};
 ghost use Rattle.pbx_translation.specs.Texts.{string_text as string_text_of};
 ghost use Rattle.pbx_translation.specs.Settings.{options_of};
-ghost use Rattle.pbx_translation.specs.Enums.{last_number as last_number_of, value_record as value_record_of, value_records, enum_range, range_records, reserved_names_in, enum_record as enum_record_of};
+ghost use Rattle.pbx_translation.specs.Enums.{last_number as last_number_of, value_record as value_record_of, enum_value_records, enum_range, range_records, reserved_names_in, enum_record as enum_record_of};
 
 use crate::passes::{Becomes, Gives, add_each, all_given};
 use crate::settings::{listed_options, options};
@@ -33,7 +33,7 @@ fn value_record(alloc: Global, value: &Value<'_>) -> Result<EnumValueDescriptorP
 }
 
 impl Gives<EnumValueDescriptorProto> for EnumItem<'_> {
-    ghost given = { λ version item. value_records (enum_item_of item) };
+    ghost given = { λ version item. enum_value_records (enum_item_of item) };
 
     fn give(
         &self,

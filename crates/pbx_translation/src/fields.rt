@@ -96,7 +96,7 @@ fn default_text(alloc: Global, kind: &Kind<'_>, value: &Constant<'_>) -> Result<
 {
     match (value, kind) {
         (Constant::Number(number), _) => number_text(alloc, number),
-        (Constant::Word(word), _) => Text::from_str(alloc, word.text),
+        (Constant::Identifier(word), _) => Text::from_str(alloc, word.text),
         (Constant::String(literal), Kind::Scalar(Scalar::Bytes, _)) => {
             escaped_string(alloc, literal)
         }

@@ -3,7 +3,7 @@
 ghost use Rattle.std.specs.Prelude.{◌≡◌, ◌++◌, map, option_map, IfOk, OnOk};
 ghost use Rattle.pbx_tree.specs.Conditions.{settings_of as some_settings_of};
 ghost use Rattle.pbx_tree.specs.View.{constant_of, setting_of, settings_of};
-ghost use Rattle.pbx_translation.specs.Settings.{truth as truth_of, value_records, setting_records, options_of, set_to as set_to_of};
+ghost use Rattle.pbx_translation.specs.Settings.{truth as truth_of, constant_records, setting_records, options_of, set_to as set_to_of};
 
 use pbx_desc::Options;
 use pbx_token::unescape;
@@ -28,13 +28,13 @@ fn add_value(
     value: &Constant<'_>,
     recs: &mut Recs,
 ) -> Result<(), NoMemory>
-    ensures { OnOk result (recs.new ≡ recs.old ++ value_records option.kind option.number (constant_of value.now)) }
+    ensures { OnOk result (recs.new ≡ recs.old ++ constant_records option.kind option.number (constant_of value.now)) }
 {
     match (option.kind, value) {
-        (OptionKind::Bool, Constant::Word(word)) => {
+        (OptionKind::Bool, Constant::Identifier(word)) => {
             recs.add(Rec::Varint(option.number, truth(word.text)))
         }
-        (OptionKind::OptimizeMode, Constant::Word(word)) => match optimize_mode(word.text) {
+        (OptionKind::OptimizeMode, Constant::Identifier(word)) => match optimize_mode(word.text) {
             Some(mode) => recs.add(Rec::Varint(option.number, mode as u64)),
             None => Ok(()),
         },

@@ -6,7 +6,7 @@ use Rattle.pbx_tree.specs.declared.tree.Scalar.TheVariants as scalars
 use Rattle.pbx_tree.specs.declared.tree.Label.TheVariants as labels
 use Rattle.pbx_tree.specs.declared.tree.Modifier.TheVariants as modifiers
 use Rattle.pbx_tree.specs.declared.tree.Version.TheVariants as versions
-use Rattle.pbx_tree.specs.Tree.{Name, Literal, Count, Number, TypeName, Kind, scalar, named_type, Constant, constant_number, constant_word, constant_string, Setting, RangeEnd, range_number, range_max, Range, Reserved, reserved_ranges, reserved_names, Tail, Field, MapField, empty_member, member, Oneof, method_option, method_block, Method, item_field, Body, end, item, message, empty_top, top_package, top_import, top_message, File}
+use Rattle.pbx_tree.specs.Tree.{Name, Literal, Count, Number, TypeName, Kind, scalar, named_type, Constant, constant_number, constant_identifier, constant_string, Setting, RangeEnd, range_number, range_max, Range, Reserved, reserved_ranges, reserved_names, Tail, Field, MapField, empty_member, member, Oneof, method_option, method_block, Method, item_field, Body, end, item, message, empty_top, top_package, top_import, top_message, File}
 use Rattle.pbx_tree.specs.Grammar.{list_then, field_then, map_then, oneof_then, method_then, reserved_then, count_then, number_then, body_then, file_then}
 use Rattle.pbx_tree.specs.Conditions.{lacks, all_fit, field_fits, map_fits, oneof_fits, method_fits, reserved_fits, is_range_number, is_enum_number, body_settings, body_fits}
 
@@ -67,7 +67,7 @@ field = record {
       «open» = place 5;
       settings = record {
         first = a_default 6;
-        more = (place 9, setting (codes "deprecated") 10 (constant_word (name (codes "true") 12))) ∷ [];
+        more = (place 9, setting (codes "deprecated") 10 (constant_identifier (name (codes "true") 12))) ∷ [];
       };
       close = place 13;
     });
@@ -118,7 +118,7 @@ twice_is_wrong : field_fits versions.Proto2 (with (a_default 6 ∷ a_default 10 
 unfolding all_fit lacks
 twice_is_wrong = refl
 
-unknown_is_wrong : field_fits versions.Proto2 (with (setting (codes "allow_alias") 6 (constant_word (name (codes "true") 8)) ∷ [])) ≡ false
+unknown_is_wrong : field_fits versions.Proto2 (with (setting (codes "allow_alias") 6 (constant_identifier (name (codes "true") 8)) ∷ [])) ≡ false
 unfolding all_fit lacks
 unknown_is_wrong = refl
 
@@ -185,7 +185,7 @@ method = record {
   input = record { «open» = place 2; stream = Some (place 3); name = plain_type (codes "A") 4; close = place 5 };
   returns = place 6;
   output = record { «open» = place 7; stream = None; name = record { dot = Some (place 8); full = record { first = name (codes "B") 9; more = [] } }; close = place 10 };
-  end = method_block (place 11) (method_option (record { keyword = place 12; setting = setting (codes "deprecated") 13 (constant_word (name (codes "false") 15)); end = place 16 }) ∷ []) (place 17);
+  end = method_block (place 11) (method_option (record { keyword = place 12; setting = setting (codes "deprecated") 13 (constant_identifier (name (codes "false") 15)); end = place 16 }) ∷ []) (place 17);
 }
 
 method_spelled : method_then method []

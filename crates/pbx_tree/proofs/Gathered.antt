@@ -8,19 +8,19 @@ use Rattle.pbx_tree.specs.declared.tree.Top as code_top
 use Rattle.pbx_tree.specs.declared.tree.Top.TheVariants as tops
 use Rattle.pbx_tree.specs.Tree.{end, Package}
 use Rattle.pbx_tree.specs.Conditions.{body_settings, item_setting, packages, top_package_of}
-use Rattle.pbx_tree.specs.View.{Piece, plain, nested, all_before, piece_setting, top_of}
+use Rattle.pbx_tree.specs.View.{BodyItem, plain, nested, all_before, body_item_setting, top_of}
 
 -- of the views
 pub of_views : {A B C : Type 0} (f : B → Option C) (view : A → B) (xs : List A) → filter_map (λ x. f (view x)) xs ≡ filter_map f (map view xs)
 of_views f view [] = refl
 of_views f view (x ∷ xs) = ap (cons_option (f (view x))) (of_views f view xs)
 
--- the option statements of a body are those of its pieces
-pub of_pieces : (ps : List Piece) → filter_map piece_setting ps ≡ body_settings (all_before ps end)
+-- the option statements of a body are those of its items
+pub of_body_items : (ps : List BodyItem) → filter_map body_item_setting ps ≡ body_settings (all_before ps end)
 unfolding body_settings
-of_pieces [] = refl
-of_pieces (plain i ∷ ps) = ap (cons_option (item_setting i)) (of_pieces ps)
-of_pieces (nested h inner close ∷ ps) = of_pieces ps
+of_body_items [] = refl
+of_body_items (plain i ∷ ps) = ap (cons_option (item_setting i)) (of_body_items ps)
+of_body_items (nested h inner close ∷ ps) = of_body_items ps
 
 module _ {X Y : Type 0} (f : X → Option Y) (xs : List X) (i : ℕ) (x : X) (below : i < length xs) (is : x ≡ get_or xs i x) where
   one_more : filter_map f (take (i + 1) xs) ≡ filter_map f (take i xs) ++ cons_option (f x) []

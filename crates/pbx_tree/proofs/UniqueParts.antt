@@ -8,7 +8,7 @@ use Rattle.pbx_tree.specs.declared.tree.Scalar.TheVariants as scalars
 use Rattle.pbx_tree.specs.declared.tree.Label.{Label}
 use Rattle.pbx_tree.specs.declared.tree.Label.TheVariants as labels
 use Rattle.pbx_tree.specs.Words.{scalar_word, label_word, is_scalar_word, is_label_word}
-use Rattle.pbx_tree.specs.Tree.{Name, Count, Number, Separated, TypeName, Kind, scalar, named_type, Constant, constant_number, constant_word, constant_string, Setting, Settings, Statement, RangeEnd, range_number, range_max, Range, Extensions, Reserved, reserved_ranges, reserved_names, Tail, Field}
+use Rattle.pbx_tree.specs.Tree.{Name, Count, Number, Separated, TypeName, Kind, scalar, named_type, Constant, constant_number, constant_identifier, constant_string, Setting, Settings, Statement, RangeEnd, range_number, range_max, Range, Extensions, Reserved, reserved_ranges, reserved_names, Tail, Field}
 use Rattle.pbx_tree.specs.Grammar.{marked, separated_then, name_then, literal_then, count_then, number_then, full_then, type_then, kind_then, constant_then, setting_then, some_settings_then, settings_then, statement_then, range_end_then, to_then, range_then, extensions_then, reserved_then, tail_then, label_then, field_then}
 use Rattle.pbx_tree.specs.Conditions.{kind_fits, kind_is_no, begins_with_no}
 use Rattle.pbx_tree.proofs.Holds.{from_not}
@@ -102,16 +102,16 @@ count_begins n x = refl
 
 constant_same : (c d : Constant) {x y : List Token} → constant_then c x ≡ constant_then d y → (c ≡ d) × (x ≡ y)
 constant_same (constant_number m) (constant_number n) e = let h = number_same m n e in ((λ i. constant_number (h.0 i)), h.1)
-constant_same (constant_number m) (constant_word n) {x = x} e = absurd (apart (first_is begins_number) (number_begins m x) refl e)
+constant_same (constant_number m) (constant_identifier n) {x = x} e = absurd (apart (first_is begins_number) (number_begins m x) refl e)
 constant_same (constant_number m) (constant_string l) {x = x} e = absurd (apart (first_is begins_number) (number_begins m x) refl e)
-constant_same (constant_word m) (constant_number n) {y = y} e = absurd (apart (first_is begins_number) (number_begins n y) refl (sym e))
-constant_same (constant_word m) (constant_word n) e =
+constant_same (constant_identifier m) (constant_number n) {y = y} e = absurd (apart (first_is begins_number) (number_begins n y) refl (sym e))
+constant_same (constant_identifier m) (constant_identifier n) e =
     let h = heads e in
     let name : m ≡ n = named_same h.0 in
-    ((λ i. constant_word (name i)), h.1)
-constant_same (constant_word m) (constant_string l) e = absurd (apart (first_is is_string) refl refl (sym e))
+    ((λ i. constant_identifier (name i)), h.1)
+constant_same (constant_identifier m) (constant_string l) e = absurd (apart (first_is is_string) refl refl (sym e))
 constant_same (constant_string l) (constant_number n) {y = y} e = absurd (apart (first_is begins_number) (number_begins n y) refl (sym e))
-constant_same (constant_string l) (constant_word n) e = absurd (apart (first_is is_string) refl refl e)
+constant_same (constant_string l) (constant_identifier n) e = absurd (apart (first_is is_string) refl refl e)
 constant_same (constant_string l) (constant_string m) e =
     let h = heads e in
     let text : l ≡ m = quoted_same h.0 in

@@ -16,7 +16,7 @@ use Rattle.pbx_tree.specs.declared.options.OptionKind.TheVariants as kinds
 use Rattle.pbx_tree.specs.declared.options.KnownOption.{KnownOption}
 use Rattle.pbx_tree.specs.Words.{is_scalar_word, is_label_word, begins_item}
 use Rattle.pbx_tree.specs.Options.{known_option, optimize_mode}
-use Rattle.pbx_tree.specs.Tree.{Name, Literal, Count, Number, all_of, TypeName, Kind, scalar, named_type, Constant, constant_number, constant_word, constant_string, Setting, Settings, RangeEnd, range_number, range_max, Range, Extensions, Reserved, reserved_ranges, reserved_names, Tail, Field, MapField, Member, empty_member, member, Oneof, Extension, empty_extension, extension, Extend, Value, EnumItem, empty_in_enum, enum_value, enum_reserved, enum_option, Enum, MethodType, MethodItem, empty_in_method, method_option, MethodEnd, method_semicolon, method_block, Method, ServiceItem, empty_in_service, service_method, service_option, Service, Item, empty_item, item_field, item_map, item_oneof, item_enum, item_extend, item_extensions, item_reserved, item_option, Body, end, item, message, Syntax, Package, Import, Top, empty_top, top_package, top_import, top_message, top_enum, top_extend, top_service, top_option, File}
+use Rattle.pbx_tree.specs.Tree.{Name, Literal, Count, Number, all_of, TypeName, Kind, scalar, named_type, Constant, constant_number, constant_identifier, constant_string, Setting, Settings, RangeEnd, range_number, range_max, Range, Extensions, Reserved, reserved_ranges, reserved_names, Tail, Field, MapField, Member, empty_member, member, Oneof, Extension, empty_extension, extension, Extend, Value, EnumItem, empty_in_enum, enum_value, enum_reserved, enum_option, Enum, MethodType, MethodItem, empty_in_method, method_option, MethodEnd, method_semicolon, method_block, Method, ServiceItem, empty_in_service, service_method, service_option, Service, Item, empty_item, item_field, item_map, item_oneof, item_enum, item_extend, item_extensions, item_reserved, item_option, Body, end, item, message, Syntax, Package, Import, Top, empty_top, top_package, top_import, top_message, top_enum, top_extend, top_service, top_option, File}
 
 -- ---- numbers, types and strings
 
@@ -72,9 +72,9 @@ is_mode (Some n) = true
 
 -- the value is one of the kind
 abbrev pub is_of_kind : OptionKind → Constant → Bool
-is_of_kind kinds.Bool (constant_word n) = is_true_or_false n
+is_of_kind kinds.Bool (constant_identifier n) = is_true_or_false n
 is_of_kind kinds.Text (constant_string l) = is_text l
-is_of_kind kinds.OptimizeMode (constant_word n) = is_mode (optimize_mode n.text)
+is_of_kind kinds.OptimizeMode (constant_identifier n) = is_mode (optimize_mode n.text)
 is_of_kind _ _ = false
 
 abbrev known_fits : Option KnownOption → Constant → Bool
@@ -89,7 +89,7 @@ option_fits p s = known_fits (known_option p s.name.text) s.value
 abbrev pub default_fits : Kind → Constant → Bool
 default_fits (scalar scalars.Double span) c = false
 default_fits (scalar scalars.Float span) c = false
-default_fits (scalar scalars.Bool span) (constant_word n) = is_true_or_false n
+default_fits (scalar scalars.Bool span) (constant_identifier n) = is_true_or_false n
 default_fits (scalar scalars.Bool span) _ = false
 default_fits (scalar scalars.String span) (constant_string l) = is_text l
 default_fits (scalar scalars.String span) _ = false
@@ -97,7 +97,7 @@ default_fits (scalar scalars.Bytes span) (constant_string l) = true
 default_fits (scalar scalars.Bytes span) _ = false
 default_fits (scalar s span) (constant_number n) = true
 default_fits (scalar s span) _ = false
-default_fits (named_type t) (constant_word n) = true
+default_fits (named_type t) (constant_identifier n) = true
 default_fits (named_type t) _ = false
 
 abbrev pub is_default : Setting → Bool

@@ -49,7 +49,7 @@ pub data Kind : Type 0 where
 
 pub data Constant : Type 0 where
   constant_number : Number → Constant
-  constant_word : Name → Constant
+  constant_identifier : Name → Constant
   constant_string : Literal → Constant
 
 -- NAME = CONSTANT

@@ -56,7 +56,7 @@ use Rattle.pbx_tree.specs.declared.tree.Top as code_top
 use Rattle.pbx_tree.specs.declared.tree.Top.TheVariants as tops
 use Rattle.pbx_tree.specs.declared.tree.File as code_file
 use Rattle.pbx_tree.specs.Conditions.{item_setting}
-use Rattle.pbx_tree.specs.Tree.{Name, Literal, Count, Number, Separated, TypeName, Kind, scalar, named_type, Constant, constant_number, constant_word, constant_string, Setting, Settings, Statement, RangeEnd, range_number, range_max, Range, Extensions, Reserved, reserved_ranges, reserved_names, Tail, Field, MapField, Member, empty_member, member, Oneof, Extension, empty_extension, extension, Extend, Value, EnumItem, empty_in_enum, enum_value, enum_reserved, enum_option, Enum, MethodType, MethodItem, empty_in_method, method_option, MethodEnd, method_semicolon, method_block, Method, ServiceItem, empty_in_service, service_method, service_option, Service, Item, empty_item, item_field, item_map, item_oneof, item_enum, item_extend, item_extensions, item_reserved, item_option, Head, Body, end, item, message, Syntax, Package, Import, Top, empty_top, top_package, top_import, top_message, top_enum, top_extend, top_service, top_option, File}
+use Rattle.pbx_tree.specs.Tree.{Name, Literal, Count, Number, Separated, TypeName, Kind, scalar, named_type, Constant, constant_number, constant_identifier, constant_string, Setting, Settings, Statement, RangeEnd, range_number, range_max, Range, Extensions, Reserved, reserved_ranges, reserved_names, Tail, Field, MapField, Member, empty_member, member, Oneof, Extension, empty_extension, extension, Extend, Value, EnumItem, empty_in_enum, enum_value, enum_reserved, enum_option, Enum, MethodType, MethodItem, empty_in_method, method_option, MethodEnd, method_semicolon, method_block, Method, ServiceItem, empty_in_service, service_method, service_option, Service, Item, empty_item, item_field, item_map, item_oneof, item_enum, item_extend, item_extensions, item_reserved, item_option, Head, Body, end, item, message, Syntax, Package, Import, Top, empty_top, top_package, top_import, top_message, top_enum, top_extend, top_service, top_option, File}
 
 abbrev pub name_of : code_name.Name → Name
 name_of n = record { text = n.text.now; span = n.span }
@@ -92,7 +92,7 @@ kind_of (kinds.Named t) = named_type (type_of t)
 
 abbrev pub constant_of : code_constant.Constant → Constant
 constant_of (constants.Number n) = constant_number (number_of n)
-constant_of (constants.Word n) = constant_word (name_of n)
+constant_of (constants.Identifier n) = constant_identifier (name_of n)
 constant_of (constants.String l) = constant_string (literal_of l)
 
 abbrev pub setting_of : code_setting.Setting → Setting
@@ -179,20 +179,20 @@ abbrev pub head_of : code_head.Head → Head
 head_of h = record { keyword = h.keyword; name = name_of h.name; «open» = h.open }
 
 -- one item of a body: a message, or what holds none
-pub data Piece : Type 0 where
-  plain : Item → Piece
-  nested : Head → Body → Span → Piece
+pub data BodyItem : Type 0 where
+  plain : Item → BodyItem
+  nested : Head → Body → Span → BodyItem
 
 -- the body with this first
-abbrev pub add : Piece → Body → Body
+abbrev pub add : BodyItem → Body → Body
 add (plain i) b = item i b
 add (nested h inner close) b = message h inner close b
 
-abbrev pub all_before : List Piece → Body → Body
+abbrev pub all_before : List BodyItem → Body → Body
 all_before [] b = b
 all_before (p ∷ ps) b = add p (all_before ps b)
 
-abbrev pub item_step : layers.Item-F Piece → Piece
+abbrev pub item_step : layers.Item-F BodyItem → BodyItem
 item_step (layers.Empty s) = plain (empty_item s)
 item_step (layers.Field f) = plain (item_field (field_of f))
 item_step (layers.Map m) = plain (item_map (map_of m))
@@ -204,17 +204,17 @@ item_step (layers.Extensions e) = plain (item_extensions (extensions_of e))
 item_step (layers.Reserved r) = plain (item_reserved (reserved_of range_number_of r))
 item_step (layers.Option s) = plain (item_option (statement_of s))
 
-abbrev pub item_of : code_item.Item → Piece
-item_of = fold-Item Piece item_step
+abbrev pub item_of : code_item.Item → BodyItem
+item_of = fold-Item BodyItem item_step
 
 -- the body of these items
 abbrev pub body_of : List code_item.Item → Body
 body_of is = all_before (map item_of is) end
 
 -- what an option statement among the items sets
-abbrev pub piece_setting : Piece → Option Setting
-piece_setting (plain i) = item_setting i
-piece_setting (nested h inner close) = None
+abbrev pub body_item_setting : BodyItem → Option Setting
+body_item_setting (plain i) = item_setting i
+body_item_setting (nested h inner close) = None
 
 abbrev pub message_of : code_message.Message → Top
 message_of m = top_message (head_of m.head) (body_of m.items.items) m.close

@@ -246,7 +246,7 @@ fn constant_place(value: &Constant<'_>) -> Span {
             Some(span) => span,
             None => number.span,
         },
-        Constant::Word(name) => name.span,
+        Constant::Identifier(name) => name.span,
         Constant::String(literal) => literal.span,
     }
 }
@@ -261,9 +261,11 @@ fn is_of_kind(kind: OptionKind, value: &Constant<'_>) -> bool
     ensures { result ≡ is_of_kind_of kind (constant_of value.now) }
 {
     match (kind, value) {
-        (OptionKind::Bool, Constant::Word(name)) => is_true_or_false(name),
+        (OptionKind::Bool, Constant::Identifier(name)) => is_true_or_false(name),
         (OptionKind::Text, Constant::String(literal)) => literal.is_text,
-        (OptionKind::OptimizeMode, Constant::Word(name)) => optimize_mode(name.text).is_some(),
+        (OptionKind::OptimizeMode, Constant::Identifier(name)) => optimize_mode(
+            name.text,
+        ).is_some(),
         _ => false,
     }
 }
@@ -323,7 +325,7 @@ fn default_fits(kind: &Kind<'_>, value: &Constant<'_>) -> bool
 {
     match kind {
         Kind::Scalar(scalar, _) => scalar_default_fits(*scalar, value),
-        Kind::Named(_) => matches!(value, Constant::Word(_)),
+        Kind::Named(_) => matches!(value, Constant::Identifier(_)),
     }
 }
 

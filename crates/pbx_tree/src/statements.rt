@@ -4,7 +4,7 @@ ghost use Rattle.std.specs.Prelude.{◌≡◌, List, Option, map, option_map, na
 ghost use Rattle.std.specs.List.{filter_map};
 ghost use Rattle.pbx_tree.specs.Tree as tree;
 ghost use Rattle.pbx_tree.specs.Conditions.{enum_setting, method_setting, service_setting, top_setting, body_settings, packages};
-ghost use Rattle.pbx_tree.specs.View.{setting_of, enum_item_of, method_item_of, service_item_of, item_of, piece_setting, body_of, top_of};
+ghost use Rattle.pbx_tree.specs.View.{setting_of, enum_item_of, method_item_of, service_item_of, item_of, body_item_setting, body_of, top_of};
 ghost use Rattle.pbx_tree.specs.Fits.{Fits};
 
 use crate::conditions::{Expected, Unfit};
@@ -65,7 +65,7 @@ impl HasSetting for Top<'_> {
 }
 
 impl HasSetting for Item<'_> {
-    ghost set = { λ i. piece_setting (item_of i) };
+    ghost set = { λ i. body_item_setting (item_of i) };
 
     fn setting(&self) -> Option<Setting<'_>> {
         match self {

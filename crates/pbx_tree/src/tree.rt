@@ -150,7 +150,7 @@ pub enum Kind<'a> {
 #[derive(Clone, Copy)]
 pub enum Constant<'a> {
     Number(Number),
-    Word(Name<'a>),
+    Identifier(Name<'a>),
     String(Literal<'a>),
 }
 

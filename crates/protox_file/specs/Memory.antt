@@ -23,9 +23,9 @@ pub record ResolverState : Type 0 where
   pub faults : ℕ
 
 -- what was put last under a name
-abbrev pub told_by : List (List ℕ × Put) → List ℕ → Told
-told_by [] name = Absent
-told_by (f ∷ fs) name = if bytes_eq f.0 name then told_put f.1 else told_by fs name
+abbrev pub stored_as : List (List ℕ × Put) → List ℕ → Told
+stored_as [] name = Absent
+stored_as (f ∷ fs) name = if bytes_eq f.0 name then told_put f.1 else stored_as fs name
 
 -- the name that a path was mapped to last
 abbrev pub named_by : List (List ℕ × List ℕ) → List ℕ → Option (List ℕ)

@@ -3,7 +3,7 @@ ghost use Rattle.std.specs.Option.{option_copied};
 ghost use Rattle.protox_io.specs.Count.{Rose, raised};
 ghost use Rattle.protox_io.specs.Disk.{Missing};
 ghost use Rattle.protox_file.specs.Causes.{HasCause, IsTold};
-ghost use Rattle.protox_file.specs.Memory.{told_put, told_by, named_by, is_listed, IsFault, NoFault};
+ghost use Rattle.protox_file.specs.Memory.{told_put, stored_as, named_by, is_listed, IsFault, NoFault};
 ghost use Rattle.protox_paths.specs.Paths.{name_of};
 ghost use Rattle.protox_file.specs.Told.{Absent, Recorded, told_source};
 
@@ -52,7 +52,7 @@ impl Model for MemoryResolver {
 impl MemoryResolver {
     /// A resolver without files, of which no open fails.
     pub fn new(alloc: Global) -> Self
-        ensures files { (name : List ℕ) → told_by result.files name ≡ Absent }
+        ensures files { (name : List ℕ) → stored_as result.files name ≡ Absent }
         ensures names { (path : List ℕ) → named_by result.names path ≡ None }
         ensures listed { result.listed ≡ [] }
         ensures calls { result.calls ≡ 0 }
@@ -69,8 +69,8 @@ impl MemoryResolver {
 
     /// Lets a source stand under a name, in place of what stood there.
     pub fn put(&mut self, name: &str, source: &str) -> Result<(), NoMemory>
-        ensures set { OnOk result (told_by self.new.files name.now ≡ told_source source.now None) }
-        ensures others { (other : List ℕ) → ¬ (other ≡ name.now) → told_by self.new.files other ≡ told_by self.old.files other }
+        ensures set { OnOk result (stored_as self.new.files name.now ≡ told_source source.now None) }
+        ensures others { (other : List ℕ) → ¬ (other ≡ name.now) → stored_as self.new.files other ≡ stored_as self.old.files other }
         ensures err { OnErr result (self.new.files ≡ self.old.files) }
         ensures names { self.new.names ≡ self.old.names }
         ensures listed { self.new.listed ≡ self.old.listed }
@@ -86,8 +86,8 @@ impl MemoryResolver {
 
     /// Lets a file stand under a name, in place of what stood there. The record may declare another name.
     pub fn put_file(&mut self, name: &str, file: File) -> Result<(), NoMemory>
-        ensures set { OnOk result (told_by self.new.files name.now ≡ Recorded file) }
-        ensures others { (other : List ℕ) → ¬ (other ≡ name.now) → told_by self.new.files other ≡ told_by self.old.files other }
+        ensures set { OnOk result (stored_as self.new.files name.now ≡ Recorded file) }
+        ensures others { (other : List ℕ) → ¬ (other ≡ name.now) → stored_as self.new.files other ≡ stored_as self.old.files other }
         ensures err { OnErr result (self.new.files ≡ self.old.files) }
         ensures names { self.new.names ≡ self.old.names }
         ensures listed { self.new.listed ≡ self.old.listed }
@@ -162,8 +162,8 @@ impl MemoryResolver {
 
 /// What was put last under the name.
 fn find<'a>(files: &'a [(Text, Put)], name: &str) -> Option<&'a Put>
-    ensures { MatchOption result (told_by files.now name.now ≡ Absent)
-        (λ put. told_by files.now name.now ≡ told_put put.now) }
+    ensures { MatchOption result (stored_as files.now name.now ≡ Absent)
+        (λ put. stored_as files.now name.now ≡ told_put put.now) }
 {
     for (stored, put) in files {
         if stored.as_str() == name {
@@ -199,7 +199,7 @@ fn open(alloc: Global, name: &str, put: &Put) -> Result<File, Error>
 impl FileResolver for MemoryResolver {
     ghost tells = { λ _. true };
 
-    ghost files = { λ r. told_by r.files };
+    ghost files = { λ r. stored_as r.files };
 
     ghost resolves = { λ r. named_by r.names };
 
@@ -217,7 +217,7 @@ impl FileResolver for MemoryResolver {
     }
 
     fn open_file(&mut self, alloc: Global, name: &str) -> Result<File, Error>
-        ensures told { IsTold name.now (told_by self.old.files name.now) result }
+        ensures told { IsTold name.now (stored_as self.old.files name.now) result }
         ensures listed { IsTrue (is_listed self.old) → IsFault result }
         ensures unlisted { IsFalse (is_listed self.old) → NoFault result }
         ensures calls { self.new.calls ≡ raised self.old.calls }

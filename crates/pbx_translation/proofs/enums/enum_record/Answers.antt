@@ -10,7 +10,7 @@ use Rattle.pbx_tree.specs.Conditions.{enum_setting}
 use Rattle.pbx_tree.specs.Tree.{Enum}
 use Rattle.pbx_tree.specs.View.{enum_item_of, enum_of}
 use Rattle.pbx_translation.specs.Settings.{options_of}
-use Rattle.pbx_translation.specs.Enums.{enum_record, value_records, range_records, reserved_names_in}
+use Rattle.pbx_translation.specs.Enums.{enum_record, enum_value_records, range_records, reserved_names_in}
 use Rattle.pbx_translation.proofs.Lists.{flat_seen}
 use Rattle.pbx_translation.proofs.enums.enum_record.Goals as goal
 
@@ -19,7 +19,7 @@ enum_with name value options ranges names unknown = record { name = Some name; v
 
 from_parts : (e : Enum) (name : List ℕ) (value : List EnumValueDescriptorProto) (options : Option Options) (ranges : List EnumReservedRange) (names : List (List ℕ)) (unknown : List Rec)
     → name ≡ e.name.text
-    → value ≡ flat_map value_records e.items
+    → value ≡ flat_map enum_value_records e.items
     → options ≡ options_of places.Enum (filter_map enum_setting e.items)
     → ranges ≡ flat_map range_records e.items
     → names ≡ flat_map reserved_names_in e.items
@@ -29,10 +29,10 @@ unfolding enum_record
 from_parts e name value options ranges names unknown a b c d f g =
     ap (λ x. enum_with x value options ranges names unknown) a
     ∙ ap (λ x. enum_with e.name.text x options ranges names unknown) b
-    ∙ ap (λ x. enum_with e.name.text (flat_map value_records e.items) x ranges names unknown) c
-    ∙ ap (λ x. enum_with e.name.text (flat_map value_records e.items) (options_of places.Enum (filter_map enum_setting e.items)) x names unknown) d
-    ∙ ap (λ x. enum_with e.name.text (flat_map value_records e.items) (options_of places.Enum (filter_map enum_setting e.items)) (flat_map range_records e.items) x unknown) f
-    ∙ ap (λ x. enum_with e.name.text (flat_map value_records e.items) (options_of places.Enum (filter_map enum_setting e.items)) (flat_map range_records e.items) (flat_map reserved_names_in e.items) x) g
+    ∙ ap (λ x. enum_with e.name.text (flat_map enum_value_records e.items) x ranges names unknown) c
+    ∙ ap (λ x. enum_with e.name.text (flat_map enum_value_records e.items) (options_of places.Enum (filter_map enum_setting e.items)) x names unknown) d
+    ∙ ap (λ x. enum_with e.name.text (flat_map enum_value_records e.items) (options_of places.Enum (filter_map enum_setting e.items)) (flat_map range_records e.items) x unknown) f
+    ∙ ap (λ x. enum_with e.name.text (flat_map enum_value_records e.items) (options_of places.Enum (filter_map enum_setting e.items)) (flat_map range_records e.items) (flat_map reserved_names_in e.items) x) g
 
 pub returns : goal.returns
 returns c =
@@ -41,7 +41,7 @@ returns c =
     let are : seen ≡ all = c.as_slice-items.ensures.value in
     from_parts (enum_of c.args.item.now) c.in_ok-from_str.field-0 c.in_ok-all_given.field-0 c.in_ok-enum_options.field-0 c.in_ok-all_given-2.field-0 c.in_ok-all_given-3.field-0 c.new.result
     c.in_ok-from_str.ensures
-    (c.in_ok-all_given.ensures ∙ flat_seen value_records enum_item_of seen ∙ ap (λ xs. flat_map value_records (map enum_item_of xs)) are)
+    (c.in_ok-all_given.ensures ∙ flat_seen enum_value_records enum_item_of seen ∙ ap (λ xs. flat_map enum_value_records (map enum_item_of xs)) are)
     (c.in_ok-enum_options.ensures ∙ ap (λ xs. options_of places.Enum (filter_map enum_setting (map enum_item_of xs))) are)
     (c.in_ok-all_given-2.ensures ∙ flat_seen range_records enum_item_of seen ∙ ap (λ xs. flat_map range_records (map enum_item_of xs)) are)
     (c.in_ok-all_given-3.ensures ∙ flat_seen reserved_names_in enum_item_of seen ∙ ap (λ xs. flat_map reserved_names_in (map enum_item_of xs)) are)
