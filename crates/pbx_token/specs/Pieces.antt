@@ -35,7 +35,7 @@ abbrev pub class_of_piece : Piece → Class
 class_of_piece (blank b) = classes.Blank
 class_of_piece (line t) = classes.Line
 class_of_piece (block t) = classes.Block
-class_of_piece (name t) = classes.Word
+class_of_piece (name t) = classes.Identifier
 class_of_piece (number t n) = classes.Number
 class_of_piece (quoted q t) = classes.Quote
 class_of_piece (sign b) = classes.Mark
@@ -61,7 +61,7 @@ abbrev pub Extent : Piece → List ℕ → Type 0
 Extent (blank b) rest = Unit {0}
 Extent (line t) rest = prefix_len (passes runs.Line) (t ++ rest) ≡ length t
 Extent (block t) rest = block_end (t ++ (42 ∷ 47 ∷ rest)) ≡ Some (length t)
-Extent (name t) rest = prefix_len (passes runs.Word) (t ++ rest) ≡ length t
+Extent (name t) rest = prefix_len (passes runs.Identifier) (t ++ rest) ≡ length t
 Extent (number t n) rest = (prefix_len (passes runs.Number) (t ++ rest) ≡ length t) × (int_value t ≡ Some n)
 Extent (quoted q t) rest = (quoted_end q false (t ++ (q ∷ rest)) ≡ Some (length t)) × (has_good_escapes t ≡ true)
 Extent (sign b) rest = Unit {0}

@@ -35,7 +35,7 @@ abbrev pub piece_by : Class → List ℕ → Option (Piece × List ℕ)
 piece_by classes.Blank bytes = one_at blank bytes
 piece_by classes.Line bytes = run_piece line (prefix_len (passes runs.Line) (drop 2 bytes)) (drop 2 bytes)
 piece_by classes.Block bytes = block_with (block_end (drop 2 bytes)) (drop 2 bytes)
-piece_by classes.Word bytes = run_piece name (prefix_len (passes runs.Word) bytes) bytes
+piece_by classes.Identifier bytes = run_piece name (prefix_len (passes runs.Identifier) bytes) bytes
 piece_by classes.Number bytes = number_with (int_value (take (prefix_len (passes runs.Number) bytes) bytes)) (prefix_len (passes runs.Number) bytes) bytes
 piece_by classes.Quote bytes = quoted_at bytes
 piece_by classes.Mark bytes = one_at sign bytes

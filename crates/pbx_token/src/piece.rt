@@ -77,7 +77,7 @@ pub enum Class {
     Blank,
     Line,
     Block,
-    Word,
+    Identifier,
     Number,
     Quote,
     Mark,
@@ -89,7 +89,7 @@ fn first_class(b: u8) -> Class
 {
     match b {
         b' ' | 9..=13 => Class::Blank,
-        b'a'..=b'z' | b'A'..=b'Z' | b'_' => Class::Word,
+        b'a'..=b'z' | b'A'..=b'Z' | b'_' => Class::Identifier,
         b'0'..=b'9' => Class::Number,
         b'"' | b'\'' => Class::Quote,
         b';' | b'{' | b'}' | b'[' | b']' | b'(' | b')' | b'<' | b'>' | b'=' | b',' | b'.' | b'-' =>
@@ -203,11 +203,11 @@ fn text_of(bytes: &[u8]) -> &str
 }
 
 /// The letters, digits and `_` at the front, which are text since they are ASCII.
-fn word_at(bytes: &[u8]) -> (&str, &[u8])
-    ensures text { result.0.now ≡ take (prefix_len (passes Run.Word) bytes.now) bytes.now }
-    ensures rest { result.1.now ≡ drop (prefix_len (passes Run.Word) bytes.now) bytes.now }
+fn identifier_at(bytes: &[u8]) -> (&str, &[u8])
+    ensures text { result.0.now ≡ take (prefix_len (passes Run.Identifier) bytes.now) bytes.now }
+    ensures rest { result.1.now ≡ drop (prefix_len (passes Run.Identifier) bytes.now) bytes.now }
 {
-    let n = run_len(bytes, Run::Word);
+    let n = run_len(bytes, Run::Identifier);
     (text_of(&bytes[..n]), &bytes[n..])
 }
 
@@ -270,8 +270,8 @@ pub fn piece(bytes: &[u8]) -> Result<(Option<Word<'_>>, &[u8]), LexError>
                 Some(n) => Ok((None, &text[n + 2..])),
             }
         }
-        Class::Word => {
-            let (text, rest) = word_at(bytes);
+        Class::Identifier => {
+            let (text, rest) = identifier_at(bytes);
             Ok((Some(Word::Ident(text)), rest))
         }
         Class::Number => {
