@@ -12,7 +12,7 @@ use Rattle.pbx_token.specs.declared.piece.Class.TheVariants as classes
 use Rattle.pbx_token.specs.Bytes.{not, is_start, is_digit, is_break, passes, class_of, int_value}
 use Rattle.pbx_token.specs.Escapes.{has_good_escapes}
 use Rattle.pbx_token.specs.Tokens.{Token}
-use Rattle.pbx_token.specs.Pieces.{Piece, blank, line, block, name, number, quoted, sign, piece_then, class_of_piece, block_end, quoted_end, Extent, FitsPiece, pieces_text, FitAll, begins_slash, tokens_from, origin, Lexes}
+use Rattle.pbx_token.specs.Pieces.{Piece, blank, line, block, name, number, quoted, sign, piece_then, class_of_piece, block_end, quoted_end, Extent, FitsPiece, pieces_text, FitAll, begins_slash, tokens_from, origin, significant, Lexes}
 use Rattle.pbx_token.specs.Scan.{more, pieces_by, pieces_in, pieces_at, number_with, block_with, quoted_with, quoted_at, one_at, piece_by, piece_at}
 use Rattle.pbx_token.proofs.Classes.{first_of, line_is, block_is, first_start, first_digit, by_test, both}
 
@@ -251,18 +251,22 @@ pub pieces_step : (bytes : List ℕ) → 0 < length bytes → pieces_at bytes �
 unfolding pieces_at pieces_in
 pieces_step bytes lt = by_nonempty (λ us. pieces_in (length bytes) us) bytes lt ∙ more_same (piece_at bytes) (λ us. pieces_in (length bytes) us) pieces_at (λ x e. let s = shorter bytes x e in in_same (length bytes) (suc (length x.1)) x.1 s (omega arith))
 
-pub all_takes : (source : List ℕ) (ts : List Token) → option_map (tokens_from origin) (pieces_at source) ≡ Some ts → Lexes source ts
+-- the tokens of pieces
+abbrev pub tokens_in : List Piece → List Token
+tokens_in ps = significant (tokens_from origin ps)
+
+pub all_takes : (source : List ℕ) (ts : List Token) → option_map tokens_in (pieces_at source) ≡ Some ts → Lexes source ts
 unfolding pieces_at
 all_takes source ts e =
-    let m = mapped (tokens_from origin) (pieces_in (suc (length source)) source) ts e in
+    let m = mapped tokens_in (pieces_in (suc (length source)) source) ts e in
     let t = in_takes (suc (length source)) source m.0 m.1 in
     (m.0, t.0, t.1, sym m.2)
 
-pub all_again : (source : List ℕ) (ts : List Token) → Lexes source ts → option_map (tokens_from origin) (pieces_at source) ≡ Some ts
+pub all_again : (source : List ℕ) (ts : List Token) → Lexes source ts → option_map tokens_in (pieces_at source) ≡ Some ts
 unfolding pieces_at
 all_again source ts h =
     let one : pieces_in (suc (length source)) source ≡ Some h.0 = ap (λ (s : List ℕ). pieces_in (suc (length s)) s) h.2 ∙ in_again (suc (length (pieces_text h.0))) h.0 h.1 (omega arith) in
-    ap (option_map (tokens_from origin)) one ∙ ap done (sym h.3)
+    ap (option_map tokens_in) one ∙ ap done (sym h.3)
 
 pub one_list : (source : List ℕ) (a b : List Token) → Lexes source a → Lexes source b → a ≡ b
 one_list source a b p q = some_is a b (sym (all_again source a p) ∙ all_again source b q)

@@ -56,7 +56,7 @@ first_byte b k e bad =
 -- ---- where a text may be cut
 
 -- a text is cut before a byte that is ASCII
-cut : (front : List ℕ) (b : ℕ) (rest : List ℕ) → b < 128 → IsUtf8 (front ++ b ∷ rest) → IsUtf8 front × IsUtf8 (b ∷ rest)
+pub cut : (front : List ℕ) (b : ℕ) (rest : List ℕ) → b < 128 → IsUtf8 (front ++ b ∷ rest) → IsUtf8 front × IsUtf8 (b ∷ rest)
 cut front b rest small u =
     let bs = front ++ b ∷ rest in
     let there : get_or bs (length front) 0 ≡ b = get_or-append_seam front b rest 0 in
@@ -66,7 +66,7 @@ cut front b rest small u =
     )
 
 -- and behind it
-behind : (b : ℕ) (rest : List ℕ) → b < 128 → IsUtf8 (b ∷ rest) → IsUtf8 rest
+pub behind : (b : ℕ) (rest : List ℕ) → b < 128 → IsUtf8 (b ∷ rest) → IsUtf8 rest
 behind b rest small u = IsUtf8-drop (b ∷ rest) 1 u (IsCharBoundary-after_ascii (b ∷ rest) 0 u (omega arith) small)
 
 after_mark : (front : List ℕ) (b : ℕ) (rest : List ℕ) → b < 128 → IsUtf8 (front ++ b ∷ rest) → IsUtf8 rest
@@ -92,7 +92,7 @@ after_line t (b ∷ rest) e u = (cut t b rest (line_end_byte b (stops t b rest e
 
 -- ---- pieces
 
-first_small : (b : ℕ) (bs : List ℕ) (k : Class) → NoComment k → classes.Bad ≢ k → class_of (b ∷ bs) ≡ k → b < 128
+pub first_small : (b : ℕ) (bs : List ℕ) (k : Class) → NoComment k → classes.Bad ≢ k → class_of (b ∷ bs) ≡ k → b < 128
 first_small b bs k n bad e =
     let f = first_of (b ∷ bs) k n bad e in
     let same : b ≡ f.byte = cc in

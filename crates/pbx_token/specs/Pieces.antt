@@ -101,9 +101,30 @@ abbrev pub tokens_from : Place → List Piece → List Token
 tokens_from p [] = []
 tokens_from p (x ∷ xs) = token_before (word_of_piece x) p (place_after (piece_then x []) p) (tokens_from (place_after (piece_then x []) p) xs)
 
+-- a `;`
+abbrev pub is_semicolon : Word → Bool
+is_semicolon (ident t) = false
+is_semicolon (int n) = false
+is_semicolon (str t) = false
+is_semicolon (mark b) = b == 59
+
+abbrev pub begins_semicolon : List Token → Bool
+begins_semicolon [] = false
+begins_semicolon (t ∷ ts) = is_semicolon t.word
+
+-- the tokens without each `;` that stands between two `;`; and whether a `;` stands before them
+unfoldable pub significant_after : Bool → List Token → List Token
+significant_after before [] = []
+significant_after before (t ∷ ts) = if before && is_semicolon t.word && begins_semicolon ts then significant_after true ts
+    else t ∷ significant_after (is_semicolon t.word) ts
+
+-- Of `;` one after another the first and the last: those between are empty statements of the language specification, which say nothing.
+abbrev pub significant : List Token → List Token
+significant ts = significant_after false ts
+
 abbrev pub origin : Place
 origin = record { line = 0; column = 0 }
 
--- The source is the bytes of pieces that fit, and these are their tokens.
+-- The source is the bytes of pieces that fit, and these are their tokens but for each `;` between two `;`.
 abbrev pub Lexes : List ℕ → List Token → Type 0
-Lexes source tokens = (ps : List Piece) × FitAll ps × (source ≡ pieces_text ps) × (tokens ≡ tokens_from origin ps)
+Lexes source tokens = (ps : List Piece) × FitAll ps × (source ≡ pieces_text ps) × (tokens ≡ significant (tokens_from origin ps))

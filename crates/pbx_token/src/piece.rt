@@ -1,12 +1,12 @@
 //! One piece of a source: a blank, a comment or a token.
 
-ghost use Rattle.std.specs.Prelude.{◌≡◌, ◌≤◌, ◌<◌, ◌+◌, length, take, drop, false, IfSome, IfOk, IsTrue, option_map};
+ghost use Rattle.std.specs.Prelude.{◌≡◌, ◌≤◌, ◌<◌, ◌+◌, length, take, drop, false, IfSome, IfOk, IfErr, IsTrue, option_map};
 ghost use Rattle.std.specs.List.{prefix_len};
 ghost use Rattle.std.specs.Str.{IsUtf8};
 ghost use Rattle.pbx_token.specs.Bytes.{passes, class_of, first_class_of, is_break};
 ghost use Rattle.pbx_token.specs.Pieces.{block_end, quoted_end, begins_slash};
 ghost use Rattle.pbx_token.specs.Scan.{piece_at, quoted_at};
-ghost use Rattle.pbx_token.specs.View.{Gives, kept, word_of};
+ghost use Rattle.pbx_token.specs.View.{Gives, IsCut, IsWithin, kept, word_of};
 ghost use Rattle.pbx_token.specs.declared.piece.LexError.TheVariants.{NoMemory};
 
 use crate::digits::int_of;
@@ -176,7 +176,10 @@ fn quoted_len(bytes: &[u8], quote: u8) -> Option<usize>
 }
 
 /// How many bytes are left at the first that no string holds, or at the end.
-fn left_unbroken(text: &[u8]) -> usize {
+fn left_unbroken(text: &[u8]) -> usize
+    ensures within { result ≤ length text.now }
+    ensures cut { IsUtf8 text.now → IsCut text.now result }
+{
     let mut rest = text;
     'scan: loop {
         match rest {
@@ -217,6 +220,7 @@ fn quoted(bytes: &[u8]) -> Result<(Option<Word<'_>>, &[u8]), LexError>
     requires text { IsUtf8 bytes.now }
     ensures read { Gives (λ x. (option_map word_of x.0, x.1.now)) (kept (quoted_at bytes.now)) result }
     ensures shorter { IfOk result (λ x. length x.1.now < length bytes.now) }
+    ensures fault { IfErr result (λ e. IsWithin bytes.now e) }
 {
     let [quote, text @ ..] = bytes else {
         return Err(LexError::at(bytes, Fault::Token));
@@ -244,6 +248,7 @@ pub fn piece(bytes: &[u8]) -> Result<(Option<Word<'_>>, &[u8]), LexError>
     requires { IsUtf8 bytes.now }
     ensures read { Gives (λ x. (option_map word_of x.0, x.1.now)) (kept (piece_at bytes.now)) result }
     ensures shorter { IfOk result (λ x. length x.1.now < length bytes.now) }
+    ensures fault { IfErr result (λ e. IsWithin bytes.now e) }
 {
     match class_at(bytes) {
         Class::Bad => Err(LexError::at(bytes, Fault::Token)),
