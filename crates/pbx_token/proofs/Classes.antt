@@ -10,6 +10,10 @@ pub by_test : {A P : Type 0} (b : Bool) (x y z : A) → cond b x y ≡ z → (b 
 by_test true x y z e f g = f refl e
 by_test false x y z e f g = g refl e
 
+pub by_bool : {P : Type 0} (b : Bool) → (b ≡ true → P) → (b ≡ false → P) → P
+by_bool true f g = f refl
+by_bool false f g = g refl
+
 pub both : (a b : Bool) → (a && b) ≡ true → (a ≡ true) × (b ≡ true)
 both true b e = (refl, e)
 both false b e = absurd cc

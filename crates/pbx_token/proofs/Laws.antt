@@ -9,18 +9,15 @@ use Rattle.pbx_token.specs.declared.run.Run.{Run}
 use Rattle.pbx_token.specs.declared.run.Run.TheVariants as runs
 use Rattle.pbx_token.specs.declared.piece.Class.{Class}
 use Rattle.pbx_token.specs.declared.piece.Class.TheVariants as classes
-use Rattle.pbx_token.specs.Bytes.{not, is_start, is_digit, is_break, passes, class_of, int_value}
+use Rattle.pbx_token.specs.Bytes.{not, is_start, is_digit, is_break, passes, class_of}
 use Rattle.pbx_token.specs.Escapes.{has_good_escapes}
 use Rattle.pbx_token.specs.Tokens.{Token}
-use Rattle.pbx_token.specs.Pieces.{Piece, blank, line, block, name, number, quoted, sign, piece_then, class_of_piece, block_end, quoted_end, Extent, FitsPiece, pieces_text, FitAll, begins_slash, tokens_from, origin, significant, Lexes}
-use Rattle.pbx_token.specs.Scan.{more, pieces_by, pieces_in, pieces_at, number_with, block_with, quoted_with, quoted_at, one_at, piece_by, piece_at}
+use Rattle.pbx_token.specs.Pieces.{Piece, blank, line, block, name, number, quoted, sign, piece_then, class_of_piece, quoted_end, Extent, FitsPiece, pieces_text, FitAll, tokens_from, origin, significant, Lexes}
+use Rattle.pbx_token.specs.Scan.{int_value, block_end, begins_slash, more, pieces_by, pieces_in, pieces_at, number_with, block_with, quoted_with, quoted_at, one_at, piece_by, piece_at}
+use Rattle.pbx_token.proofs.Options.{done, some_is, map_some}
+use Rattle.pbx_token.proofs.Integers.{to_integer, from_integer}
+use Rattle.pbx_token.proofs.Comments.{slash_is, no_end, first_end}
 use Rattle.pbx_token.proofs.Classes.{first_of, line_is, block_is, first_start, first_digit, by_test, both}
-
-abbrev pub done : {A : Type 0} → A → Option A
-done x = Some x
-
-pub some_is : {A : Type 0} (x y : A) → done x ≡ done y → x ≡ y
-some_is x y e = cc
 
 pub at_end : (P : Piece → List ℕ → Type 0) (p : Piece) (rest : List ℕ) (y : Piece × List ℕ) → done (p, rest) ≡ Some y → P p rest → P y.0 y.1
 at_end P p rest y e h = subst (λ z. P z.0 z.1) (some_is (p, rest) y e) h
@@ -64,21 +61,13 @@ number_with_takes None n bytes x le is v h e = absurd cc
 number_with_takes (Some k) n bytes x le is v h e =
     let whole = take-append-drop n bytes in
     at_end (Taken bytes) (number (take n bytes) k) (drop n bytes) x e
-    (spelled bytes (number (take n bytes) k) (drop n bytes) (sym whole) h (ap (prefix_len (passes runs.Number)) whole ∙ sym is ∙ sym (front_length bytes n le), v))
+    (spelled bytes (number (take n bytes) k) (drop n bytes) (sym whole) h (ap (prefix_len (passes runs.Number)) whole ∙ sym is ∙ sym (front_length bytes n le), to_integer (take n bytes) k v))
 
 -- a `*/` that was found stands there
-map_some : (o : Option ℕ) (n : ℕ) → option_map (λ k. 1 + k) o ≡ Some n → (m : ℕ) × (o ≡ Some m) × (suc m ≡ n)
-map_some None n e = absurd cc
-map_some (Some m) n e = (m, refl, omega (arith, some_is (1 + m) n e))
-
 one_more : (a : ℕ) (bs gap : List ℕ) (m g : ℕ) → m ≤ length bs → bs ≡ take m bs ++ (gap ++ drop (m + g) bs) → (suc m ≤ length (a ∷ bs)) × (a ∷ bs ≡ take (suc m) (a ∷ bs) ++ (gap ++ drop (suc m + g) (a ∷ bs)))
 one_more a bs gap m g le is =
     let k : suc m + g ≡ suc (m + g) = omega arith in
     (omega arith, rw k (ap (λ (r : List ℕ). a ∷ r) is))
-
-slash_is : (bs : List ℕ) → begins_slash bs ≡ true → bs ≡ 47 ∷ drop 1 bs
-slash_is [] e = absurd cc
-slash_is (b ∷ bs) e = rw (eqb-true b 47 e) refl
 
 block_found : (bytes : List ℕ) (n : ℕ) → block_end bytes ≡ Some n → (n ≤ length bytes) × (bytes ≡ take n bytes ++ (42 ∷ 47 ∷ drop (n + 2) bytes))
 unfolding block_end
@@ -113,7 +102,7 @@ block_with_takes (Some n) bytes x is h e =
     let d = drop 2 bytes in
     let f = block_found d n is in
     at_end (Taken bytes) (block (take n d)) (drop (n + 2) d) x e
-    (spelled bytes (block (take n d)) (drop (n + 2) d) (block_is bytes h ∙ ap (λ (r : List ℕ). 47 ∷ 42 ∷ r) f.1) h (ap block_end (sym f.1) ∙ is ∙ ap done (sym (front_length d n f.0))))
+    (spelled bytes (block (take n d)) (drop (n + 2) d) (block_is bytes h ∙ ap (λ (r : List ℕ). 47 ∷ 42 ∷ r) f.1) h (no_end (take n d) (drop (n + 2) d) (ap block_end (sym f.1) ∙ is ∙ ap done (sym (front_length d n f.0)))))
 
 quoted_with_takes : (q : ℕ) (o : Option ℕ) (bytes : List ℕ) (x : Piece × List ℕ) → quoted_end q false bytes ≡ o → class_of (q ∷ bytes) ≡ classes.Quote → quoted_with q o bytes ≡ Some x → Taken (q ∷ bytes) x.0 x.1
 quoted_with_takes q None bytes x is h e = absurd cc
@@ -152,12 +141,12 @@ past t gap rest = ap (drop (length t + length gap)) (sym (append_assoc t gap res
 by_again : (p : Piece) (rest : List ℕ) → Extent p rest → piece_by (class_of_piece p) (piece_then p rest) ≡ Some (p, rest)
 by_again (blank b) rest x = refl
 by_again (line t) rest x = rw (x, take_at t rest (length t) refl, drop_at t rest (length t) refl) refl
-by_again (block t) rest x = rw (x) (rw (take_at t (42 ∷ 47 ∷ rest) (length t) refl) (ap (λ r. done (block t, r)) (past t (42 ∷ 47 ∷ []) rest)))
+by_again (block t) rest x = rw (first_end t rest x) (rw (take_at t (42 ∷ 47 ∷ rest) (length t) refl) (ap (λ r. done (block t, r)) (past t (42 ∷ 47 ∷ []) rest)))
 by_again (name t) rest x = rw (x, take_at t rest (length t) refl, drop_at t rest (length t) refl) refl
 by_again (number t n) rest x =
     let tk = take_at t rest (length t) refl in
     ap (λ k. number_with (int_value (take k (t ++ rest))) k (t ++ rest)) x.0
-    ∙ ap (λ o. number_with o (length t) (t ++ rest)) (ap int_value tk ∙ x.1)
+    ∙ ap (λ o. number_with o (length t) (t ++ rest)) (ap int_value tk ∙ from_integer t n x.1)
     ∙ ap (λ (s : List ℕ). done (number s n, drop (length t) (t ++ rest))) tk
     ∙ ap (λ (r : List ℕ). done (number t n, r)) (drop_at t rest (length t) refl)
 by_again (quoted q t) rest x = rw (x.0) (rw (take_at t (q ∷ rest) (length t) refl) (rw (x.1) (ap (λ r. done (quoted q t, r)) (past t (q ∷ []) rest))))

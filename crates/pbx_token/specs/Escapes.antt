@@ -5,7 +5,7 @@ use Rattle.std.specs.List.{prefix_len}
 use Rattle.std.specs.Str.{IsUtf8}
 use Rattle.pbx_token.specs.declared.escape.Escape.{Escape}
 use Rattle.pbx_token.specs.declared.run.Run.TheVariants as runs
-use Rattle.pbx_token.specs.Bytes.{not, passes, digits_from}
+use Rattle.pbx_token.specs.Bytes.{not, passes, digits_value}
 
 -- ---- one escape: the byte that it stands for, and how many bytes it has after its backslash
 
@@ -16,13 +16,12 @@ simple_value b = if (b == 92) || (b == 39) || (b == 34) || (b == 63) then Some b
     else (if b == 98 then Some 8 else (if b == 102 then Some 12 else (if b == 118 then Some 11 else None)))))))
 
 -- a number of so many digits, at least one, that fits a byte
-abbrev pub number_of : ℕ → Option ℕ → Option Escape
-number_of n None = None
-number_of n (Some v) = if nat_lt 0 n && nat_le v 255 then Some (record { value = v; size = n }) else None
+abbrev pub number_of : ℕ → ℕ → Option Escape
+number_of n v = if nat_lt 0 n && nat_le v 255 then Some (record { value = v; size = n }) else None
 
 -- the digits of a base at the front, as many as stand there but at most so many
 abbrev pub number_at : ℕ → ℕ → List ℕ → Option Escape
-number_at base most bytes = let n = prefix_len (passes (runs.Digits base)) (take most bytes) in number_of n (digits_from base 0 (take n bytes))
+number_at base most bytes = let n = prefix_len (passes (runs.Digits base)) (take most bytes) in number_of n (digits_value base (take n bytes))
 
 -- what follows a backslash: `x` and one or two hexadecimal digits, one to three octal digits, or one byte
 unfoldable pub escape_at : List ℕ → Option Escape

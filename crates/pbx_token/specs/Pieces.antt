@@ -1,13 +1,13 @@
 -- A source as blanks, comments and tokens: the lexical elements of the language specification, each the longest
 -- that fits.
-use Rattle.std.specs.Prelude.{◌≡◌, ℕ, ◌+◌, List, [], ◌∷◌, ◌++◌, length, Bool, true, false, ◌==◌, ◌&&◌, Option, Some, None, option_map, if◌then◌else◌}
+use Rattle.std.specs.Prelude.{◌≡◌, ◌≢◌, ℕ, ◌+◌, List, [], ◌∷◌, ◌++◌, length, Bool, true, false, ◌==◌, ◌&&◌, Option, Some, None, option_map, if◌then◌else◌}
 use Rattle.std.specs.List.{prefix_len}
 use Rattle.pbx_token.specs.declared.token.Place.{Place}
 use Rattle.pbx_token.specs.Tokens.{Word, ident, int, str, mark, Token}
 use Rattle.pbx_token.specs.declared.run.Run.TheVariants as runs
 use Rattle.pbx_token.specs.declared.piece.Class.{Class}
 use Rattle.pbx_token.specs.declared.piece.Class.TheVariants as classes
-use Rattle.pbx_token.specs.Bytes.{not, passes, is_break, class_of, int_value}
+use Rattle.pbx_token.specs.Bytes.{not, passes, is_break, class_of, IsInteger}
 use Rattle.pbx_token.specs.Escapes.{has_good_escapes}
 use Rattle.pbx_token.specs.Places.{place_after}
 
@@ -40,15 +40,6 @@ class_of_piece (number t n) = classes.Number
 class_of_piece (quoted q t) = classes.Quote
 class_of_piece (sign b) = classes.Mark
 
-abbrev pub begins_slash : List ℕ → Bool
-begins_slash [] = false
-begins_slash (b ∷ bs) = b == 47
-
--- how many bytes stand before the first `*/`
-unfoldable pub block_end : List ℕ → Option ℕ
-block_end [] = None
-block_end (a ∷ bs) = if (a == 42) && begins_slash bs then Some 0 else option_map (λ n. 1 + n) (block_end bs)
-
 -- how many bytes stand before the first quote that no backslash escapes, if no line feed and no zero byte comes
 -- before it; and whether a backslash escapes the first byte
 unfoldable pub quoted_end : ℕ → Bool → List ℕ → Option ℕ
@@ -56,13 +47,17 @@ quoted_end q escaped [] = None
 quoted_end q escaped (a ∷ bs) = if (a == q) && not escaped then Some 0
     else (if is_break a then None else option_map (λ n. 1 + n) (quoted_end q ((a == 92) && not escaped) bs))
 
+-- No `*/` begins in the text of a comment, which one follows.
+abbrev pub HasNoEnd : List ℕ → Type 0
+HasNoEnd text = (front back : List ℕ) → text ++ (42 ∷ []) ≢ front ++ (42 ∷ 47 ∷ back)
+
 -- it is the longest that fits there, an integer has a value, and each escape of a string is one
 abbrev pub Extent : Piece → List ℕ → Type 0
 Extent (blank b) rest = Unit {0}
 Extent (line t) rest = prefix_len (passes runs.Line) (t ++ rest) ≡ length t
-Extent (block t) rest = block_end (t ++ (42 ∷ 47 ∷ rest)) ≡ Some (length t)
+Extent (block t) rest = HasNoEnd t
 Extent (name t) rest = prefix_len (passes runs.Identifier) (t ++ rest) ≡ length t
-Extent (number t n) rest = (prefix_len (passes runs.Number) (t ++ rest) ≡ length t) × (int_value t ≡ Some n)
+Extent (number t n) rest = (prefix_len (passes runs.Number) (t ++ rest) ≡ length t) × IsInteger t n
 Extent (quoted q t) rest = (quoted_end q false (t ++ (q ∷ rest)) ≡ Some (length t)) × (has_good_escapes t ≡ true)
 Extent (sign b) rest = Unit {0}
 

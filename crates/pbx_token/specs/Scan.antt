@@ -1,15 +1,47 @@
 -- How a source is taken apart, from its first byte on: what the code follows, beside what `Lexes` says. No public clause
 -- comes here: these are words for contracts of private functions.
-use Rattle.std.specs.Prelude.{◌≡◌, ℕ, zero, suc, ◌+◌, List, [], ◌∷◌, ◌++◌, length, take, drop, Bool, false, ◌&&◌, Option, Some, None, option_map, if◌then◌else◌}
+use Rattle.std.specs.Prelude.{◌≡◌, ℕ, zero, suc, ◌+◌, ◌*◌, ◌^◌, ◌==◌, ◌||◌, nat_lt, List, [], ◌∷◌, ◌++◌, length, take, drop, Bool, false, ◌&&◌, Option, Some, None, option_map, if◌then◌else◌}
 use Rattle.std.specs.List.{prefix_len}
 use Rattle.pbx_token.specs.declared.run.Run.TheVariants as runs
 use Rattle.pbx_token.specs.declared.piece.Class.{Class}
 use Rattle.pbx_token.specs.declared.piece.Class.TheVariants as classes
-use Rattle.pbx_token.specs.Bytes.{passes, class_of, int_value}
+use Rattle.pbx_token.specs.Bytes.{passes, digit_of, class_of}
 use Rattle.pbx_token.specs.Escapes.{has_good_escapes}
 use Rattle.pbx_token.specs.declared.token.Place.{Place}
 use Rattle.pbx_token.specs.Tokens.{Word, Token}
-use Rattle.pbx_token.specs.Pieces.{Piece, blank, line, block, name, number, quoted, sign, block_end, quoted_end, is_semicolon, significant, token_before}
+use Rattle.pbx_token.specs.Pieces.{Piece, blank, line, block, name, number, quoted, sign, quoted_end, is_semicolon, significant, token_before}
+
+-- ---- integers
+
+-- the value of digits after a front of that value
+unfoldable pub digits_from : ℕ → ℕ → List ℕ → Option ℕ
+digits_from base n [] = Some n
+digits_from base n (b ∷ bs) = if nat_lt (digit_of b) base && nat_lt (n * base + digit_of b) (2 ^ 64) then digits_from base (n * base + digit_of b) bs else None
+
+abbrev pub hexadecimal : List ℕ → Option ℕ
+hexadecimal [] = None
+hexadecimal (b ∷ bs) = digits_from 16 0 (b ∷ bs)
+
+abbrev pub after_zero : List ℕ → Option ℕ
+after_zero [] = Some 0
+after_zero (x ∷ bs) = if (x == 120) || (x == 88) then hexadecimal bs else digits_from 8 0 (x ∷ bs)
+
+abbrev pub int_value : List ℕ → Option ℕ
+int_value [] = None
+int_value (b ∷ bs) = if b == 48 then after_zero bs else digits_from 10 0 (b ∷ bs)
+
+-- ---- comments
+
+abbrev pub begins_slash : List ℕ → Bool
+begins_slash [] = false
+begins_slash (b ∷ bs) = b == 47
+
+-- how many bytes stand before the first `*/`
+unfoldable pub block_end : List ℕ → Option ℕ
+block_end [] = None
+block_end (a ∷ bs) = if (a == 42) && begins_slash bs then Some 0 else option_map (λ n. 1 + n) (block_end bs)
+
+-- ---- pieces
 
 abbrev pub run_piece : (List ℕ → Piece) → ℕ → List ℕ → Option (Piece × List ℕ)
 run_piece make n bytes = Some (make (take n bytes), drop n bytes)

@@ -4,8 +4,8 @@ ghost use Rattle.std.specs.Prelude.{◌≡◌, ◌≤◌, ◌<◌, ◌+◌, leng
 ghost use Rattle.std.specs.List.{prefix_len};
 ghost use Rattle.std.specs.Str.{IsUtf8};
 ghost use Rattle.pbx_token.specs.Bytes.{passes, class_of, first_class_of, is_break};
-ghost use Rattle.pbx_token.specs.Pieces.{block_end, quoted_end, begins_slash};
-ghost use Rattle.pbx_token.specs.Scan.{piece_at, quoted_at};
+ghost use Rattle.pbx_token.specs.Pieces.{quoted_end};
+ghost use Rattle.pbx_token.specs.Scan.{block_end, begins_slash, piece_at, quoted_at};
 ghost use Rattle.pbx_token.specs.View.{Gives, IsCut, IsWithin, kept, word_of};
 ghost use Rattle.pbx_token.specs.declared.piece.LexError.TheVariants.{NoMemory};
 
@@ -110,7 +110,7 @@ fn class_at(bytes: &[u8]) -> Class
 }
 
 /// How many bytes stand before the first `*/`.
-#[tactic(auto, unfolding(crate::specs::Pieces::block_end))]
+#[tactic(auto, unfolding(crate::specs::Scan::block_end))]
 fn block_len(bytes: &[u8]) -> Option<usize>
     ensures is { result ≡ block_end bytes.now }
     ensures within { IfSome result (λ n. n + 2 ≤ length bytes.now) }

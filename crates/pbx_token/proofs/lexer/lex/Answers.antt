@@ -8,7 +8,8 @@ use Rattle.pbx_token.specs.Tokens.{Token}
 use Rattle.pbx_token.specs.Pieces.{Lexes}
 use Rattle.pbx_token.specs.Scan.{pieces_at}
 use Rattle.pbx_token.specs.View.{Gives, ReadsAs, IsWithin, tokens_of}
-use Rattle.pbx_token.proofs.Laws.{tokens_in, some_is, all_takes, all_again}
+use Rattle.pbx_token.proofs.Options.{some_is}
+use Rattle.pbx_token.proofs.Laws.{tokens_in, all_takes, all_again}
 use Rattle.pbx_token.proofs.lexer.lex.Goals as goal
 
 is_found : (source : List ℕ) (r : Result (Vec code.Token Global) LexError) → Gives (λ x. tokens_of x.items) (option_map tokens_in (pieces_at source)) r → IfOk r (λ x. Lexes source (tokens_of x.items))
