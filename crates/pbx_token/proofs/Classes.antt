@@ -100,3 +100,14 @@ first_digit b e =
     by_test (is_blank b) classes.Blank _ classes.Number e (λ p q. absurd cc)
     (λ p q. by_test (is_start b) classes.Identifier _ classes.Number q (λ p2 q2. absurd cc)
     (λ p2 q2. by_test (is_digit b) classes.Number _ classes.Number q2 (λ p3 q3. p3) (λ p3 q3. absurd (not_number b q3))))
+
+first_quote : (b : ℕ) → first_class_of b ≡ classes.Quote → ((b == 34) || (b == 39)) ≡ true
+first_quote b e =
+    by_test (is_blank b) classes.Blank _ classes.Quote e (λ p q. absurd cc)
+    (λ p q. by_test (is_start b) classes.Identifier _ classes.Quote q (λ p2 q2. absurd cc)
+    (λ p2 q2. by_test (is_digit b) classes.Number _ classes.Quote q2 (λ p3 q3. absurd cc)
+    (λ p3 q3. by_test ((b == 34) || (b == 39)) classes.Quote _ classes.Quote q3 (λ p4 q4. p4)
+    (λ p4 q4. by_test (is_mark b) classes.Mark classes.Bad classes.Quote q4 (λ p5 q5. absurd cc) (λ p5 q5. absurd cc)))))
+
+pub quote_of : (q : ℕ) (bytes : List ℕ) → class_of (q ∷ bytes) ≡ classes.Quote → ((q == 34) || (q == 39)) ≡ true
+quote_of q bytes e = first_quote q (with_first q bytes classes.Quote tt e)

@@ -11,10 +11,10 @@ use Rattle.pbx_token.specs.declared.piece.LexError.TheVariants as errors
 use Rattle.pbx_token.specs.declared.piece.Fault.{Fault}
 use Rattle.pbx_token.specs.declared.piece.Class.TheVariants as classes
 use Rattle.pbx_token.specs.Bytes.{is_break, class_of}
-use Rattle.pbx_token.specs.Escapes.{escape_at, is_bad}
+use Rattle.pbx_token.specs.Escapes.{escape_at}
 use Rattle.pbx_token.specs.Tokens.{Word}
 use Rattle.pbx_token.specs.Pieces.{piece_then}
-use Rattle.pbx_token.specs.Scan.{piece_at}
+use Rattle.pbx_token.specs.Scan.{is_bad, piece_at}
 use Rattle.pbx_token.specs.View.{kept, IsCut, Within, IsWithin}
 use Rattle.pbx_token.proofs.Classes.{both}
 use Rattle.pbx_token.proofs.Laws.{piece_takes}

@@ -131,15 +131,21 @@ digits_pass p (x ∷ xs) =
     (λ t q. let n : 1 + prefix_len p xs ≡ suc (prefix_len p xs) = omega arith in rw (sym q, n) (and_from (p x) (list_all p (take (prefix_len p xs) xs)) t (digits_pass p xs)))
     (λ t q. rw (sym q) refl)
 
+-- digits at the front of bytes, of which so many may be read
+pub front_digits : (p : ℕ → Bool) (most : ℕ) (bytes : List ℕ) → list_all p (take (prefix_len p (take most bytes)) bytes) ≡ true
+front_digits p most bytes =
+    let front = take most bytes in
+    let n = prefix_len p front in
+    let same : take n front ≡ take n bytes = sym (take-append-le n front (drop most bytes) (prefix_len-le-length p front)) ∙ ap (take n) (take-append-drop most bytes) in
+    ap (list_all p) (sym same) ∙ digits_pass p front
+
 -- the digits at the front of bytes, of which so many may be read
 pub digits_number : (base most : ℕ) (bytes some : List ℕ) (o : Option ℕ) (n : ℕ) → some ≡ take most bytes → n ≡ prefix_len (passes (runs.Digits base)) some → o ≡ digits_from base 0 (take n bytes) → number_found n o ≡ number_at base most bytes
 digits_number base most bytes some o n e is read =
     let p = passes (runs.Digits base) in
     let front = take most bytes in
     let n_is : n ≡ prefix_len p front = is ∙ ap (prefix_len p) e in
-    let within : n ≤ length front = omega (arith, n_is, prefix_len-le-length p front) in
-    let same : take n front ≡ take n bytes = sym (take-append-le n front (drop most bytes) within) ∙ ap (take n) (take-append-drop most bytes) in
-    let all : list_all p (take n bytes) ≡ true = ap (list_all p) (sym same) ∙ ap (λ k. list_all p (take k front)) n_is ∙ digits_pass p front in
+    let all : list_all p (take n bytes) ≡ true = ap (λ k. list_all p (take k bytes)) n_is ∙ front_digits p most bytes in
     number_is base n (take n bytes) o all read ∙ ap (λ k. number_of k (digits_value base (take k bytes))) n_is
 
 pub number_good : (n v : ℕ) → 0 < n → v ≤ 255 → done (record { value = v; size = n }) ≡ number_of n v

@@ -10,14 +10,14 @@ use Rattle.pbx_token.specs.declared.run.Run.TheVariants as runs
 use Rattle.pbx_token.specs.declared.piece.Class.{Class}
 use Rattle.pbx_token.specs.declared.piece.Class.TheVariants as classes
 use Rattle.pbx_token.specs.Bytes.{not, is_start, is_digit, is_break, passes, class_of}
-use Rattle.pbx_token.specs.Escapes.{has_good_escapes}
 use Rattle.pbx_token.specs.Tokens.{Token}
-use Rattle.pbx_token.specs.Pieces.{Piece, blank, line, block, name, number, quoted, sign, piece_then, class_of_piece, quoted_end, Extent, FitsPiece, pieces_text, FitAll, tokens_from, origin, significant, Lexes}
-use Rattle.pbx_token.specs.Scan.{int_value, block_end, begins_slash, more, pieces_by, pieces_in, pieces_at, number_with, block_with, quoted_with, quoted_at, one_at, piece_by, piece_at}
-use Rattle.pbx_token.proofs.Options.{done, some_is, map_some}
+use Rattle.pbx_token.specs.Pieces.{Piece, blank, line, block, name, number, quoted, sign, piece_then, class_of_piece, Extent, FitsPiece, pieces_text, FitAll, tokens_from, origin, significant, Lexes}
+use Rattle.pbx_token.specs.Scan.{int_value, quoted_end, has_good_escapes, block_end, begins_slash, more, pieces_by, pieces_in, pieces_at, number_with, block_with, quoted_with, quoted_at, one_at, piece_by, piece_at}
+use Rattle.pbx_token.proofs.Options.{done, some_is, map_some, mapped}
 use Rattle.pbx_token.proofs.Integers.{to_integer, from_integer}
+use Rattle.pbx_token.proofs.Strings.{to_string, from_string}
 use Rattle.pbx_token.proofs.Comments.{slash_is, no_end, first_end}
-use Rattle.pbx_token.proofs.Classes.{first_of, line_is, block_is, first_start, first_digit, by_test, both}
+use Rattle.pbx_token.proofs.Classes.{first_of, quote_of, line_is, block_is, first_start, first_digit, by_test, both}
 
 pub at_end : (P : Piece → List ℕ → Type 0) (p : Piece) (rest : List ℕ) (y : Piece × List ℕ) → done (p, rest) ≡ Some y → P p rest → P y.0 y.1
 at_end P p rest y e h = subst (λ z. P z.0 z.1) (some_is (p, rest) y e) h
@@ -110,7 +110,7 @@ quoted_with_takes q (Some n) bytes x is h e =
     let f = quoted_found q false bytes n is in
     by_test (has_good_escapes (take n bytes)) (done (quoted q (take n bytes), drop (n + 1) bytes)) None (Some x) e
     (λ good e2. at_end (Taken (q ∷ bytes)) (quoted q (take n bytes)) (drop (n + 1) bytes) x e2
-    (spelled (q ∷ bytes) (quoted q (take n bytes)) (drop (n + 1) bytes) (ap (λ (r : List ℕ). q ∷ r) f.1) h (ap (quoted_end q false) (sym f.1) ∙ is ∙ ap done (sym (front_length bytes n f.0)), good)))
+    (spelled (q ∷ bytes) (quoted q (take n bytes)) (drop (n + 1) bytes) (ap (λ (r : List ℕ). q ∷ r) f.1) h (to_string q (quote_of q bytes h) (take n bytes) (drop (n + 1) bytes) (ap (quoted_end q false) (sym f.1) ∙ is ∙ ap done (sym (front_length bytes n f.0))) good)))
     (λ bad e2. absurd cc)
 
 pub quoted_at_takes : (bytes : List ℕ) (x : Piece × List ℕ) → class_of bytes ≡ classes.Quote → quoted_at bytes ≡ Some x → Taken bytes x.0 x.1
@@ -138,23 +138,25 @@ piece_takes bytes x e = by_takes (class_of bytes) bytes x refl e
 past : (t gap rest : List ℕ) → drop (length t + length gap) (t ++ (gap ++ rest)) ≡ rest
 past t gap rest = ap (drop (length t + length gap)) (sym (append_assoc t gap rest)) ∙ drop_at (t ++ gap) rest (length t + length gap) (length-append t gap)
 
-by_again : (p : Piece) (rest : List ℕ) → Extent p rest → piece_by (class_of_piece p) (piece_then p rest) ≡ Some (p, rest)
+by_again : (p : Piece) (rest : List ℕ) → FitsPiece p rest → piece_by (class_of_piece p) (piece_then p rest) ≡ Some (p, rest)
 by_again (blank b) rest x = refl
-by_again (line t) rest x = rw (x, take_at t rest (length t) refl, drop_at t rest (length t) refl) refl
-by_again (block t) rest x = rw (first_end t rest x) (rw (take_at t (42 ∷ 47 ∷ rest) (length t) refl) (ap (λ r. done (block t, r)) (past t (42 ∷ 47 ∷ []) rest)))
-by_again (name t) rest x = rw (x, take_at t rest (length t) refl, drop_at t rest (length t) refl) refl
+by_again (line t) rest x = rw (x.extent, take_at t rest (length t) refl, drop_at t rest (length t) refl) refl
+by_again (block t) rest x = rw (first_end t rest x.extent) (rw (take_at t (42 ∷ 47 ∷ rest) (length t) refl) (ap (λ r. done (block t, r)) (past t (42 ∷ 47 ∷ []) rest)))
+by_again (name t) rest x = rw (x.extent, take_at t rest (length t) refl, drop_at t rest (length t) refl) refl
 by_again (number t n) rest x =
     let tk = take_at t rest (length t) refl in
-    ap (λ k. number_with (int_value (take k (t ++ rest))) k (t ++ rest)) x.0
-    ∙ ap (λ o. number_with o (length t) (t ++ rest)) (ap int_value tk ∙ from_integer t n x.1)
+    ap (λ k. number_with (int_value (take k (t ++ rest))) k (t ++ rest)) x.extent.0
+    ∙ ap (λ o. number_with o (length t) (t ++ rest)) (ap int_value tk ∙ from_integer t n x.extent.1)
     ∙ ap (λ (s : List ℕ). done (number s n, drop (length t) (t ++ rest))) tk
     ∙ ap (λ (r : List ℕ). done (number t n, r)) (drop_at t rest (length t) refl)
-by_again (quoted q t) rest x = rw (x.0) (rw (take_at t (q ∷ rest) (length t) refl) (rw (x.1) (ap (λ r. done (quoted q t, r)) (past t (q ∷ []) rest))))
+by_again (quoted q t) rest x =
+    let read = from_string q (quote_of q (t ++ (q ∷ rest)) x.class) t rest x.extent in
+    rw (read.0) (rw (take_at t (q ∷ rest) (length t) refl) (rw (read.1) (ap (λ r. done (quoted q t, r)) (past t (q ∷ []) rest))))
 by_again (sign b) rest x = refl
 
 pub piece_again : (p : Piece) (rest : List ℕ) → FitsPiece p rest → piece_at (piece_then p rest) ≡ Some (p, rest)
 unfolding piece_at
-piece_again p rest fits = ap (λ k. piece_by k (piece_then p rest)) fits.class ∙ by_again p rest fits.extent
+piece_again p rest fits = ap (λ k. piece_by k (piece_then p rest)) fits.class ∙ by_again p rest fits
 
 -- ---- a piece is not empty
 
@@ -188,10 +190,6 @@ piece_longer (quoted q t) rest fits = omega (arith, length-append t (q ∷ rest)
 piece_longer (sign b) rest fits = omega arith
 
 -- ---- all pieces
-
-mapped : {A B : Type 0} (f : A → B) (o : Option A) (y : B) → option_map f o ≡ Some y → (x : A) × (o ≡ Some x) × (f x ≡ y)
-mapped f None y e = absurd cc
-mapped f (Some x) y e = (x, refl, some_is (f x) y e)
 
 pub more_takes : (o : Option (Piece × List ℕ)) (self : List ℕ → Option (List Piece)) (ps : List Piece) → more o self ≡ Some ps → (x : Piece × List ℕ) × (qs : List Piece) × (o ≡ Some x) × (self x.1 ≡ Some qs) × (x.0 ∷ qs ≡ ps)
 more_takes None self ps e = absurd cc

@@ -8,5 +8,6 @@ pub mod Laws
 pub mod Options
 pub mod Semicolons
 pub mod Steps
+pub mod Strings
 pub mod Unescaping
 pub mod Utf8

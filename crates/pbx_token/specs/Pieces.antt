@@ -7,8 +7,8 @@ use Rattle.pbx_token.specs.Tokens.{Word, ident, int, str, mark, Token}
 use Rattle.pbx_token.specs.declared.run.Run.TheVariants as runs
 use Rattle.pbx_token.specs.declared.piece.Class.{Class}
 use Rattle.pbx_token.specs.declared.piece.Class.TheVariants as classes
-use Rattle.pbx_token.specs.Bytes.{not, passes, is_break, class_of, IsInteger}
-use Rattle.pbx_token.specs.Escapes.{has_good_escapes}
+use Rattle.pbx_token.specs.Bytes.{passes, class_of, IsInteger}
+use Rattle.pbx_token.specs.Escapes.{IsString}
 use Rattle.pbx_token.specs.Places.{place_after}
 
 -- a blank, a `//` comment, a `/*` comment, an identifier, an integer with its value, a string with its quote, a mark
@@ -40,25 +40,18 @@ class_of_piece (number t n) = classes.Number
 class_of_piece (quoted q t) = classes.Quote
 class_of_piece (sign b) = classes.Mark
 
--- how many bytes stand before the first quote that no backslash escapes, if no line feed and no zero byte comes
--- before it; and whether a backslash escapes the first byte
-unfoldable pub quoted_end : ℕ → Bool → List ℕ → Option ℕ
-quoted_end q escaped [] = None
-quoted_end q escaped (a ∷ bs) = if (a == q) && not escaped then Some 0
-    else (if is_break a then None else option_map (λ n. 1 + n) (quoted_end q ((a == 92) && not escaped) bs))
-
 -- No `*/` begins in the text of a comment, which one follows.
 abbrev pub HasNoEnd : List ℕ → Type 0
 HasNoEnd text = (front back : List ℕ) → text ++ (42 ∷ []) ≢ front ++ (42 ∷ 47 ∷ back)
 
--- it is the longest that fits there, an integer has a value, and each escape of a string is one
+-- it is the longest that fits there, an integer has a value, and a string has characters
 abbrev pub Extent : Piece → List ℕ → Type 0
 Extent (blank b) rest = Unit {0}
 Extent (line t) rest = prefix_len (passes runs.Line) (t ++ rest) ≡ length t
 Extent (block t) rest = HasNoEnd t
 Extent (name t) rest = prefix_len (passes runs.Identifier) (t ++ rest) ≡ length t
 Extent (number t n) rest = (prefix_len (passes runs.Number) (t ++ rest) ≡ length t) × IsInteger t n
-Extent (quoted q t) rest = (quoted_end q false (t ++ (q ∷ rest)) ≡ Some (length t)) × (has_good_escapes t ≡ true)
+Extent (quoted q t) rest = IsString q t
 Extent (sign b) rest = Unit {0}
 
 -- the bytes there begin such a piece, and it is the longest

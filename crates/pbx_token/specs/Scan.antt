@@ -1,15 +1,15 @@
 -- How a source is taken apart, from its first byte on: what the code follows, beside what `Lexes` says. No public clause
 -- comes here: these are words for contracts of private functions.
-use Rattle.std.specs.Prelude.{◌≡◌, ℕ, zero, suc, ◌+◌, ◌*◌, ◌^◌, ◌==◌, ◌||◌, nat_lt, List, [], ◌∷◌, ◌++◌, length, take, drop, Bool, false, ◌&&◌, Option, Some, None, option_map, if◌then◌else◌}
+use Rattle.std.specs.Prelude.{◌≡◌, ℕ, zero, suc, ◌+◌, ◌*◌, ◌^◌, ◌==◌, ◌||◌, nat_lt, List, [], ◌∷◌, ◌++◌, length, take, drop, Bool, true, false, ◌&&◌, Option, Some, None, is_none, option_map, if◌then◌else◌}
 use Rattle.std.specs.List.{prefix_len}
 use Rattle.pbx_token.specs.declared.run.Run.TheVariants as runs
 use Rattle.pbx_token.specs.declared.piece.Class.{Class}
 use Rattle.pbx_token.specs.declared.piece.Class.TheVariants as classes
-use Rattle.pbx_token.specs.Bytes.{passes, digit_of, class_of}
-use Rattle.pbx_token.specs.Escapes.{has_good_escapes}
+use Rattle.pbx_token.specs.Bytes.{not, passes, is_break, digit_of, class_of}
+use Rattle.pbx_token.specs.Escapes.{escape_at, first_at}
 use Rattle.pbx_token.specs.declared.token.Place.{Place}
 use Rattle.pbx_token.specs.Tokens.{Word, Token}
-use Rattle.pbx_token.specs.Pieces.{Piece, blank, line, block, name, number, quoted, sign, quoted_end, is_semicolon, significant, token_before}
+use Rattle.pbx_token.specs.Pieces.{Piece, blank, line, block, name, number, quoted, sign, is_semicolon, significant, token_before}
 
 -- ---- integers
 
@@ -40,6 +40,28 @@ begins_slash (b ∷ bs) = b == 47
 unfoldable pub block_end : List ℕ → Option ℕ
 block_end [] = None
 block_end (a ∷ bs) = if (a == 42) && begins_slash bs then Some 0 else option_map (λ n. 1 + n) (block_end bs)
+
+-- ---- strings
+
+-- how many bytes stand before the first quote that no backslash escapes, if no line feed and no zero byte comes
+-- before it; and whether a backslash escapes the first byte
+unfoldable pub quoted_end : ℕ → Bool → List ℕ → Option ℕ
+quoted_end q escaped [] = None
+quoted_end q escaped (a ∷ bs) = if (a == q) && not escaped then Some 0
+    else (if is_break a then None else option_map (λ n. 1 + n) (quoted_end q ((a == 92) && not escaped) bs))
+
+-- a backslash that begins no escape
+abbrev pub is_bad : ℕ → List ℕ → Bool
+is_bad b rest = (b == 92) && is_none (escape_at rest)
+
+-- each backslash begins an escape, once so many bytes are passed, which belong to an escape before
+unfoldable pub are_good_after : ℕ → List ℕ → Bool
+are_good_after n [] = true
+are_good_after zero (b ∷ bs) = not (is_bad b bs) && are_good_after (first_at b bs).size bs
+are_good_after (suc n) (b ∷ bs) = are_good_after n bs
+
+abbrev pub has_good_escapes : List ℕ → Bool
+has_good_escapes text = are_good_after 0 text
 
 -- ---- pieces
 

@@ -4,8 +4,7 @@ ghost use Rattle.std.specs.Prelude.{◌≡◌, ◌≤◌, ◌<◌, ◌+◌, leng
 ghost use Rattle.std.specs.List.{prefix_len};
 ghost use Rattle.std.specs.Str.{IsUtf8};
 ghost use Rattle.pbx_token.specs.Bytes.{passes, class_of, first_class_of, is_break};
-ghost use Rattle.pbx_token.specs.Pieces.{quoted_end};
-ghost use Rattle.pbx_token.specs.Scan.{block_end, begins_slash, piece_at, quoted_at};
+ghost use Rattle.pbx_token.specs.Scan.{block_end, begins_slash, quoted_end, piece_at, quoted_at};
 ghost use Rattle.pbx_token.specs.View.{Gives, IsCut, IsWithin, kept, word_of};
 ghost use Rattle.pbx_token.specs.declared.piece.LexError.TheVariants.{NoMemory};
 
@@ -149,7 +148,7 @@ fn breaks(b: u8) -> bool
 }
 
 /// How many bytes stand before the first quote that no backslash escapes.
-#[tactic(auto, unfolding(crate::specs::Pieces::quoted_end))]
+#[tactic(auto, unfolding(crate::specs::Scan::quoted_end))]
 fn quoted_len(bytes: &[u8], quote: u8) -> Option<usize>
     ensures is { result ≡ quoted_end quote false bytes.now }
     ensures within { IfSome result (λ n. n + 1 ≤ length bytes.now) }

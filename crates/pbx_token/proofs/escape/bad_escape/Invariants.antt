@@ -1,5 +1,5 @@
 use Rattle.std.proofs.Common.{length, ◌≡◌, ◌≤◌}
-use Rattle.pbx_token.specs.Escapes.{has_good_escapes}
+use Rattle.pbx_token.specs.Scan.{has_good_escapes}
 use Rattle.pbx_token.proofs.Faults.{Split}
 use Rattle.pbx_token.proofs.escape.bad_escape.Given as goal
 
