@@ -14,8 +14,8 @@ use Rattle.pbx_token.specs.Bytes.{is_break, class_of}
 use Rattle.pbx_token.specs.Escapes.{escape_at}
 use Rattle.pbx_token.specs.Tokens.{Word}
 use Rattle.pbx_token.specs.Pieces.{piece_then}
-use Rattle.pbx_token.specs.Scan.{is_bad, piece_at}
-use Rattle.pbx_token.specs.View.{kept, IsCut, Within, IsWithin}
+use Rattle.pbx_token.specs.Scan.{is_bad, piece_at, kept}
+use Rattle.pbx_token.specs.View.{IsCut, Within, IsWithin}
 use Rattle.pbx_token.proofs.Classes.{both}
 use Rattle.pbx_token.proofs.Laws.{piece_takes}
 use Rattle.pbx_token.proofs.Steps.{kept_is, then_append}

@@ -1,5 +1,5 @@
 -- What an `Option` holds.
-use Rattle.std.proofs.Common.{◌≡◌, ℕ, suc, ◌+◌, Option, Some, None, refl, ap, ◌∙◌, arith}
+use Rattle.std.proofs.Common.{◌≡◌, ℕ, suc, ◌+◌, Option, Some, None, refl, ap, arith}
 use Rattle.std.specs.Prelude.{option_map}
 
 abbrev pub done : {A : Type 0} → A → Option A

@@ -8,8 +8,7 @@ use Rattle.pbx_token.specs.declared.piece.LexError.TheVariants as errors
 use Rattle.pbx_token.specs.Places.{place_after}
 use Rattle.pbx_token.specs.Tokens.{Word, Token}
 use Rattle.pbx_token.specs.Pieces.{Piece, blank, line, block, name, number, quoted, sign, piece_then, word_of_piece, token_before, tokens_from, significant}
-use Rattle.pbx_token.specs.Scan.{piece_at, more, pieces_at, Keeps}
-use Rattle.pbx_token.specs.View.{kept, Fails}
+use Rattle.pbx_token.specs.Scan.{kept, Fails, piece_at, more, pieces_at, Keeps}
 use Rattle.pbx_token.proofs.Options.{done, some_is}
 use Rattle.pbx_token.proofs.Laws.{piece_takes, pieces_step, pieces_none}
 

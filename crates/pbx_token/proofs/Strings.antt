@@ -3,13 +3,13 @@ use Rattle.std.proofs.Common.{◌≡◌, ℕ, zero, suc, ◌+◌, ◌<◌, ◌�
 use Rattle.std.specs.Prelude.{◌==◌, ◌&&◌, ◌||◌, nat_lt, nat_le, option_map, unwrap_or, is_none}
 use Rattle.std.specs.List.{list_all, prefix_len}
 use Rattle.std.proofs.lemmas.Bool.{eqb-true, ltb-true, and_right, false≢true}
-use Rattle.std.proofs.lemmas.List.{take_at, drop_at, take-append-drop, length-append, length-take}
+use Rattle.std.proofs.lemmas.List.{take_at, drop_at, take-append-drop, length-append, length-take, length-drop}
 use Rattle.std.proofs.lemmas.List.Sums.{prefix_len-le-length}
 use Rattle.pbx_token.specs.declared.escape.Escape.{Escape}
 use Rattle.pbx_token.specs.declared.run.Run.TheVariants as runs
 use Rattle.pbx_token.specs.Bytes.{not, passes, digit_of, digits_value, is_break}
-use Rattle.pbx_token.specs.Escapes.{simple_value, number_at, number_of, escape_at, first_at, Character, itself, escaped, value_of, characters_text, IsCharacter, AreCharacters, IsString, unescaped}
-use Rattle.pbx_token.specs.Scan.{is_bad, has_good_escapes, quoted_end}
+use Rattle.pbx_token.specs.Escapes.{simple_value, number_at, escape_at, Character, itself, escaped, value_of, characters_text, IsCharacter, AreCharacters, IsString, unescaped}
+use Rattle.pbx_token.specs.Scan.{has_good_escapes, quoted_end}
 use Rattle.pbx_token.proofs.Options.{done, some_is, map_some, mapped, map_zero, map_more}
 use Rattle.pbx_token.proofs.Classes.{by_test, by_bool, both}
 use Rattle.pbx_token.proofs.Integers.{front_digits}
@@ -165,25 +165,32 @@ plain_character q b bs rest plain other fine next good self =
     let its : IsCharacter q (itself b) (characters_text s.characters) = rw (and_true (b == q) other, plain, fine) refl in
     record { characters = itself b ∷ s.characters; text_is = ap (λ (r : List ℕ). b ∷ r) s.text_is; are = (its, s.are) }
 
+escaped_with : (q b : ℕ) (bs front back rest : List ℕ) (v : ℕ) → IsQuote q → (b == 92) ≡ true → bs ≡ front ++ back → Shape front → escape_at bs ≡ done (record { value = v; size = length front })
+    → quoted_end q ((b == 92) && true) (bs ++ (q ∷ rest)) ≡ Some (length bs) → (quoted_end q false (back ++ (q ∷ rest)) ≡ Some (length back) → IsString q back) → IsString q (b ∷ bs)
+escaped_with q b bs front back rest v is slash whole shape at next self =
+    let after = quoted_end q false (back ++ (q ∷ rest)) in
+    let split : bs ++ (q ∷ rest) ≡ front ++ (back ++ (q ∷ rest)) = ap (λ (r : List ℕ). r ++ (q ∷ rest)) whole ∙ append_assoc front back (q ∷ rest) in
+    let ends : quoted_end q true (bs ++ (q ∷ rest)) ≡ Some (length bs) = ap (λ (t : Bool). quoted_end q (t && true) (bs ++ (q ∷ rest))) (sym slash) ∙ next in
+    let past : quoted_end q true (bs ++ (q ∷ rest)) ≡ option_map (λ n. length front + n) after = ap (quoted_end q true) split ∙ past_escape q front (back ++ (q ∷ rest)) is shape in
+    let m = mapped (λ n. length front + n) after (length bs) (sym past ∙ ends) in
+    let left : m.0 ≡ length back = omega (arith, m.2, ap length whole, length-append front back) in
+    let s = self (m.1 ∙ ap done left) in
+    let text : bs ≡ front ++ characters_text s.characters = whole ∙ ap (λ (r : List ℕ). front ++ r) s.text_is in
+    record {
+      characters = escaped front v ∷ s.characters;
+      text_is = ap (λ (c : ℕ). c ∷ bs) (eqb-true b 92 slash) ∙ ap (λ (r : List ℕ). 92 ∷ r) text;
+      are = (ap escape_at (sym text) ∙ at, s.are);
+    }
+
 escaped_character : (q b : ℕ) (bs rest : List ℕ) (o : Option Escape) → IsQuote q → (b == 92) ≡ true → escape_at bs ≡ o → quoted_end q ((b == 92) && true) (bs ++ (q ∷ rest)) ≡ Some (length bs) → has_good_escapes (b ∷ bs) ≡ true
     → ((t : List ℕ) → length t ≤ length bs → quoted_end q false (t ++ (q ∷ rest)) ≡ Some (length t) → has_good_escapes t ≡ true → IsString q t) → IsString q (b ∷ bs)
 escaped_character q b bs rest None is slash at next good self = absurd (false≢true (sym (good_escape b bs None slash at) ∙ good))
 escaped_character q b bs rest (Some x) is slash at next good self =
-    let front = take x.size bs in
-    let back = drop x.size bs in
-    let whole = take-append-drop x.size bs in
     let its = shape_of bs x at in
-    let size : length front ≡ x.size = omega (arith, length-take x.size bs, its.within) in
-    let split : bs ++ (q ∷ rest) ≡ front ++ (back ++ (q ∷ rest)) = ap (λ (r : List ℕ). r ++ (q ∷ rest)) (sym whole) ∙ append_assoc front back (q ∷ rest) in
-    let read : option_map (λ n. length front + n) (quoted_end q false (back ++ (q ∷ rest))) ≡ Some (length bs)
-        = sym (past_escape q front (back ++ (q ∷ rest)) is its.shape) ∙ ap (quoted_end q true) (sym split) ∙ ap (λ (v : Bool). quoted_end q (v && true) (bs ++ (q ∷ rest))) (sym slash) ∙ next in
-    let m = mapped (λ n. length front + n) (quoted_end q false (back ++ (q ∷ rest))) (length bs) read in
-    let lengths : length bs ≡ length front + length back = ap length (sym whole) ∙ length-append front back in
-    let left : m.0 ≡ length back = omega (arith, m.2, lengths) in
-    let s = self back (omega arith) (m.1 ∙ ap done left) (sym (good_escape b bs (Some x) slash at) ∙ good) in
-    let text : bs ≡ front ++ characters_text s.characters = sym whole ∙ ap (λ (r : List ℕ). front ++ r) s.text_is in
-    let its_escape : escape_at (front ++ characters_text s.characters) ≡ done (record { value = x.value; size = length front }) = ap escape_at (sym text) ∙ at ∙ ap (λ n. done (record { value = x.value; size = n })) (sym size) in
-    record { characters = escaped front x.value ∷ s.characters; text_is = ap (λ (c : ℕ). c ∷ bs) (eqb-true b 92 slash) ∙ ap (λ (r : List ℕ). 92 ∷ r) text; are = (its_escape, s.are) }
+    let size : length (take x.size bs) ≡ x.size = omega (arith, length-take x.size bs, its.within) in
+    let shorter : length (drop x.size bs) ≤ length bs = omega (arith, length-drop x.size bs) in
+    escaped_with q b bs (take x.size bs) (drop x.size bs) rest x.value is slash (sym (take-append-drop x.size bs)) its.shape (at ∙ ap (λ n. done (record { value = x.value; size = n })) (sym size)) next
+    (λ e. self (drop x.size bs) shorter e (sym (good_escape b bs (Some x) slash at) ∙ good))
 
 -- ---- all characters
 
@@ -225,7 +232,7 @@ read_all q (escaped t v ∷ cs) rest is are =
     let other : (92 == q) ≡ false = either_quote (λ k. (92 == k) ≡ false) q is refl refl in
     let n : 1 + (length t + length text) ≡ suc (length (t ++ text)) = omega (arith, length-append t text) in
     let behind : quoted_end q true ((t ++ text) ++ (q ∷ rest)) ≡ done (length t + length text)
-        = ap (quoted_end q true) (append_assoc t text (q ∷ rest)) ∙ past_escape q t (text ++ (q ∷ rest)) is shape ∙ ap (option_map (λ k. length t + k)) more.0 in
+    = ap (quoted_end q true) (append_assoc t text (q ∷ rest)) ∙ past_escape q t (text ++ (q ∷ rest)) is shape ∙ ap (option_map (λ k. length t + k)) more.0 in
     (rw other (ap (option_map (λ k. 1 + k)) behind ∙ ap done n), good_escape 92 (t ++ text) (Some (record { value = v; size = length t })) refl are.0 ∙ ap has_good_escapes (drop_at t text (length t) refl) ∙ more.1)
 
 pub from_string : (q : ℕ) → IsQuote q → (t rest : List ℕ) → IsString q t → (quoted_end q false (t ++ (q ∷ rest)) ≡ Some (length t)) × (has_good_escapes t ≡ true)

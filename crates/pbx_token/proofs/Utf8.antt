@@ -14,8 +14,7 @@ use Rattle.pbx_token.specs.declared.piece.Class.TheVariants as classes
 use Rattle.pbx_token.specs.Bytes.{is_blank, is_start, is_digit, is_mark, passes, class_of, first_class_of}
 use Rattle.pbx_token.specs.Tokens.{Word}
 use Rattle.pbx_token.specs.Pieces.{Piece, blank, line, block, name, number, quoted, sign, piece_then, FitsPiece}
-use Rattle.pbx_token.specs.Scan.{quoted_end, piece_at}
-use Rattle.pbx_token.specs.View.{kept}
+use Rattle.pbx_token.specs.Scan.{quoted_end, piece_at, kept}
 use Rattle.pbx_token.proofs.Ascii.{identifier_byte}
 use Rattle.pbx_token.proofs.Classes.{NoComment, first_of, by_test}
 use Rattle.pbx_token.proofs.Laws.{piece_takes, quoted_found}

@@ -1,15 +1,17 @@
 -- How a source is taken apart, from its first byte on: what the code follows, beside what `Lexes` says. No public clause
 -- comes here: these are words for contracts of private functions.
-use Rattle.std.specs.Prelude.{◌≡◌, ℕ, zero, suc, ◌+◌, ◌*◌, ◌^◌, ◌==◌, ◌||◌, nat_lt, List, [], ◌∷◌, ◌++◌, length, take, drop, Bool, true, false, ◌&&◌, Option, Some, None, is_none, option_map, if◌then◌else◌}
+use Rattle.std.specs.Prelude.{◌≡◌, ℕ, zero, suc, ◌+◌, ◌*◌, ◌^◌, ◌==◌, ◌||◌, nat_lt, List, [], ◌∷◌, ◌++◌, length, take, drop, Bool, true, false, ◌&&◌, Option, Some, None, is_none, option_map, Result, Ok, Err, if◌then◌else◌}
 use Rattle.std.specs.List.{prefix_len}
 use Rattle.pbx_token.specs.declared.run.Run.TheVariants as runs
+use Rattle.pbx_token.specs.declared.piece.LexError.{LexError}
+use Rattle.pbx_token.specs.declared.piece.LexError.TheVariants as errors
 use Rattle.pbx_token.specs.declared.piece.Class.{Class}
 use Rattle.pbx_token.specs.declared.piece.Class.TheVariants as classes
 use Rattle.pbx_token.specs.Bytes.{not, passes, is_break, digit_of, class_of}
 use Rattle.pbx_token.specs.Escapes.{escape_at, first_at}
 use Rattle.pbx_token.specs.declared.token.Place.{Place}
 use Rattle.pbx_token.specs.Tokens.{Word, Token}
-use Rattle.pbx_token.specs.Pieces.{Piece, blank, line, block, name, number, quoted, sign, is_semicolon, significant, token_before}
+use Rattle.pbx_token.specs.Pieces.{Piece, blank, line, block, name, number, quoted, sign, word_of_piece, is_semicolon, significant, token_before}
 
 -- ---- integers
 
@@ -116,6 +118,23 @@ pieces_in (suc n) bytes = pieces_by (λ bs. pieces_in n bs) bytes
 
 unfoldable pub pieces_at : List ℕ → Option (List Piece)
 pieces_at bytes = pieces_in (suc (length bytes)) bytes
+
+-- ---- what the code answers
+
+-- a piece, of which the code keeps its word
+abbrev pub kept : Option (Piece × List ℕ) → Option (Option Word × List ℕ)
+kept None = None
+kept (Some x) = Some (word_of_piece x.0, x.1)
+
+abbrev pub Fails : {Y : Type 0} → LexError → Option Y → Type 0
+Fails errors.NoMemory read = Unit {0}
+Fails (errors.Fault left begun fault) read = read ≡ None
+
+abbrev pub Gives : {X Y : Type 0} → (X → Y) → Option Y → Result X LexError → Type 0
+Gives view read (Ok x) = read ≡ Some (view x)
+Gives view read (Err e) = Fails e read
+
+-- ---- tokens one by one
 
 -- whether the last two of tokens are `;`; and whether a `;` stands before them
 unfoldable pub ends_after : Bool → List Token → Bool

@@ -4,8 +4,8 @@ ghost use Rattle.std.specs.Prelude.{◌≡◌, ◌<◌, ◌^◌, ◌++◌, ◌&&
 ghost use Rattle.std.specs.Str.{IsUtf8};
 ghost use Rattle.pbx_token.specs.Tokens as tokens;
 ghost use Rattle.pbx_token.specs.Pieces.{tokens_from, origin, is_semicolon, significant, Lexes};
-ghost use Rattle.pbx_token.specs.Scan.{pieces_at, ends_after, Keeps};
-ghost use Rattle.pbx_token.specs.View.{Gives, ReadsAs, IsWithin, tokens_of, word_of};
+ghost use Rattle.pbx_token.specs.Scan.{pieces_at, Gives, ends_after, Keeps};
+ghost use Rattle.pbx_token.specs.View.{ReadsAs, IsWithin, tokens_of, word_of};
 
 use crate::piece::{LexError, piece};
 use crate::token::{Place, Span, Token, Word, after};

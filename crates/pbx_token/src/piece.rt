@@ -4,8 +4,8 @@ ghost use Rattle.std.specs.Prelude.{◌≡◌, ◌≤◌, ◌<◌, ◌+◌, leng
 ghost use Rattle.std.specs.List.{prefix_len};
 ghost use Rattle.std.specs.Str.{IsUtf8};
 ghost use Rattle.pbx_token.specs.Bytes.{passes, class_of, first_class_of, is_break};
-ghost use Rattle.pbx_token.specs.Scan.{block_end, begins_slash, quoted_end, piece_at, quoted_at};
-ghost use Rattle.pbx_token.specs.View.{Gives, IsCut, IsWithin, kept, word_of};
+ghost use Rattle.pbx_token.specs.Scan.{block_end, begins_slash, quoted_end, piece_at, quoted_at, Gives, kept};
+ghost use Rattle.pbx_token.specs.View.{IsCut, IsWithin, word_of};
 ghost use Rattle.pbx_token.specs.declared.piece.LexError.TheVariants.{NoMemory};
 
 use crate::digits::int_of;

@@ -6,8 +6,8 @@ use Rattle.pbx_token.specs.declared.piece.LexError.{LexError}
 use Rattle.pbx_token.specs.declared.piece.LexError.TheVariants as errors
 use Rattle.pbx_token.specs.Tokens.{Token}
 use Rattle.pbx_token.specs.Pieces.{Lexes}
-use Rattle.pbx_token.specs.Scan.{pieces_at}
-use Rattle.pbx_token.specs.View.{Gives, ReadsAs, IsWithin, tokens_of}
+use Rattle.pbx_token.specs.Scan.{pieces_at, Gives}
+use Rattle.pbx_token.specs.View.{ReadsAs, IsWithin, tokens_of}
 use Rattle.pbx_token.proofs.Options.{some_is}
 use Rattle.pbx_token.proofs.Laws.{tokens_in, all_takes, all_again}
 use Rattle.pbx_token.proofs.lexer.lex.Goals as goal
