@@ -44,7 +44,8 @@ pub enum LexError {
 
 impl LexError {
     fn at(rest: &[u8], fault: Fault) -> LexError
-        ensures { result ≡ LexError.Fault (length rest.now) (length rest.now) fault }
+        ensures is { result ≡ LexError.Fault (length rest.now) (length rest.now) fault }
+        ensures within { IsWithin rest.now result }
     {
         LexError::Fault {
             left: rest.len(),
