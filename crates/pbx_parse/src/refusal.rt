@@ -6,20 +6,12 @@ ghost use Rattle.pbx_reader.specs.View.{FailsNot as spelled};
 ghost use Rattle.pbx_parse.specs.Errors.{Refuses};
 
 use crate::error::ParseError;
+use crate::found::found_text;
 use pbx_reader::{ReadError, read_file};
 use pbx_token::{Fault, LexError, Place, Span, Token, after, lex};
 use pbx_tree::Expected;
 use pbx_wire::{NoMemory, Text};
 use std::alloc::Global;
-
-/// What stands there; only the end has no text.
-fn found_text(alloc: Global, found: &str) -> Result<Text, NoMemory> {
-    if found.is_empty() {
-        return Text::from_str(alloc, "end of file");
-    }
-    let text = format!(in alloc; "'{found}'")?;
-    Text::from_str(alloc, text.as_str())
-}
 
 /// The text that the span of a token covers.
 fn span_text(source: &str, span: Span) -> &str {
