@@ -12,7 +12,7 @@ use Rattle.pbx_token.specs.declared.piece.Class.TheVariants as classes
 use Rattle.pbx_token.specs.Bytes.{not, is_start, is_digit, is_break, passes, class_of, int_value}
 use Rattle.pbx_token.specs.Escapes.{has_good_escapes}
 use Rattle.pbx_token.specs.Tokens.{Token}
-use Rattle.pbx_token.specs.Pieces.{Piece, blank, line, block, name, number, quoted, sign, piece_then, class_of_piece, block_end, quoted_end, Extent, FitsPiece, pieces_text, FitAll, begins_slash, tokens_from, origin, Lexes}
+use Rattle.pbx_token.specs.Pieces.{Piece, blank, line, block, name, number, quoted, sign, piece_then, class_of_piece, block_end, quoted_end, Extent, FitsPiece, pieces_text, FitAll, begins_slash, tokens_from, origin, significant, Lexes}
 use Rattle.pbx_token.specs.Scan.{more, pieces_by, pieces_in, pieces_at, number_with, block_with, quoted_with, quoted_at, one_at, piece_by, piece_at}
 use Rattle.pbx_token.proofs.Classes.{first_of, line_is, block_is, first_start, first_digit, by_test, both}
 
@@ -42,13 +42,13 @@ one_takes : (make : ℕ → Piece) (k : Class) → ((b : ℕ) → class_of_piece
 one_takes make k kind text fit [] x h e = absurd cc
 one_takes make k kind text fit (b ∷ bytes) x h e = at_end (Taken (b ∷ bytes)) (make b) bytes x e (spelled (b ∷ bytes) (make b) bytes (sym (text b bytes)) (h ∙ sym (kind b)) (fit b bytes))
 
-name_takes : (bytes : List ℕ) (x : Piece × List ℕ) → class_of bytes ≡ classes.Word → piece_by classes.Word bytes ≡ Some x → Taken bytes x.0 x.1
+name_takes : (bytes : List ℕ) (x : Piece × List ℕ) → class_of bytes ≡ classes.Identifier → piece_by classes.Identifier bytes ≡ Some x → Taken bytes x.0 x.1
 name_takes bytes x h e =
-    let n = prefix_len (passes runs.Word) bytes in
-    let le = prefix_len-le-length (passes runs.Word) bytes in
+    let n = prefix_len (passes runs.Identifier) bytes in
+    let le = prefix_len-le-length (passes runs.Identifier) bytes in
     let whole = take-append-drop n bytes in
     at_end (Taken bytes) (name (take n bytes)) (drop n bytes) x e
-    (spelled bytes (name (take n bytes)) (drop n bytes) (sym whole) h (ap (prefix_len (passes runs.Word)) whole ∙ sym (front_length bytes n le)))
+    (spelled bytes (name (take n bytes)) (drop n bytes) (sym whole) h (ap (prefix_len (passes runs.Identifier)) whole ∙ sym (front_length bytes n le)))
 
 line_takes : (bytes : List ℕ) (x : Piece × List ℕ) → class_of bytes ≡ classes.Line → piece_by classes.Line bytes ≡ Some x → Taken bytes x.0 x.1
 line_takes bytes x h e =
@@ -132,7 +132,7 @@ by_takes : (k : Class) (bytes : List ℕ) (x : Piece × List ℕ) → class_of b
 by_takes classes.Blank bytes x h e = one_takes blank classes.Blank (λ b. refl) (λ b rest. refl) (λ b rest. tt) bytes x h e
 by_takes classes.Line bytes x h e = line_takes bytes x h e
 by_takes classes.Block bytes x h e = block_with_takes (block_end (drop 2 bytes)) bytes x refl h e
-by_takes classes.Word bytes x h e = name_takes bytes x h e
+by_takes classes.Identifier bytes x h e = name_takes bytes x h e
 by_takes classes.Number bytes x h e =
     let n = prefix_len (passes runs.Number) bytes in
     number_with_takes (int_value (take n bytes)) n bytes x (prefix_len-le-length (passes runs.Number) bytes) refl refl h e
@@ -180,18 +180,18 @@ true_or : (a b : Bool) → a ≡ true → (a || b) ≡ true
 true_or true b e = refl
 true_or false b e = absurd cc
 
-pub word_runs : (bytes : List ℕ) → class_of bytes ≡ classes.Word → 0 < prefix_len (passes runs.Word) bytes
-word_runs bytes e =
-    let f = first_of bytes classes.Word tt (λ h. absurd cc) e in
-    positive runs.Word bytes f.byte f.rest f.is (true_or (is_start f.byte) (is_digit f.byte) (first_start f.byte f.its))
+pub identifier_runs : (bytes : List ℕ) → class_of bytes ≡ classes.Identifier → 0 < prefix_len (passes runs.Identifier) bytes
+identifier_runs bytes e =
+    let f = first_of bytes classes.Identifier tt (λ h. absurd cc) e in
+    positive runs.Identifier bytes f.byte f.rest f.is (true_or (is_start f.byte) (is_digit f.byte) (first_start f.byte f.its))
 
 pub piece_longer : (p : Piece) (rest : List ℕ) → FitsPiece p rest → length rest < length (piece_then p rest)
 piece_longer (blank b) rest fits = omega arith
 piece_longer (line t) rest fits = omega (arith, length-append t rest)
 piece_longer (block t) rest fits = omega (arith, length-append t (42 ∷ 47 ∷ rest))
 piece_longer (name t) rest fits =
-    let f = first_of (t ++ rest) classes.Word tt (λ h. absurd cc) fits.class in
-    omega (arith, length-append t rest, fits.extent, positive runs.Word (t ++ rest) f.byte f.rest f.is (true_or (is_start f.byte) (is_digit f.byte) (first_start f.byte f.its)))
+    let f = first_of (t ++ rest) classes.Identifier tt (λ h. absurd cc) fits.class in
+    omega (arith, length-append t rest, fits.extent, positive runs.Identifier (t ++ rest) f.byte f.rest f.is (true_or (is_start f.byte) (is_digit f.byte) (first_start f.byte f.its)))
 piece_longer (number t n) rest fits =
     let f = first_of (t ++ rest) classes.Number tt (λ h. absurd cc) fits.class in
     omega (arith, length-append t rest, fits.extent.0, positive runs.Number (t ++ rest) f.byte f.rest f.is (true_or (is_start f.byte || is_digit f.byte) (f.byte == 46) (or_true (is_start f.byte) (is_digit f.byte) (first_digit f.byte f.its))))
@@ -251,18 +251,22 @@ pub pieces_step : (bytes : List ℕ) → 0 < length bytes → pieces_at bytes �
 unfolding pieces_at pieces_in
 pieces_step bytes lt = by_nonempty (λ us. pieces_in (length bytes) us) bytes lt ∙ more_same (piece_at bytes) (λ us. pieces_in (length bytes) us) pieces_at (λ x e. let s = shorter bytes x e in in_same (length bytes) (suc (length x.1)) x.1 s (omega arith))
 
-pub all_takes : (source : List ℕ) (ts : List Token) → option_map (tokens_from origin) (pieces_at source) ≡ Some ts → Lexes source ts
+-- the tokens of pieces
+abbrev pub tokens_in : List Piece → List Token
+tokens_in ps = significant (tokens_from origin ps)
+
+pub all_takes : (source : List ℕ) (ts : List Token) → option_map tokens_in (pieces_at source) ≡ Some ts → Lexes source ts
 unfolding pieces_at
 all_takes source ts e =
-    let m = mapped (tokens_from origin) (pieces_in (suc (length source)) source) ts e in
+    let m = mapped tokens_in (pieces_in (suc (length source)) source) ts e in
     let t = in_takes (suc (length source)) source m.0 m.1 in
     (m.0, t.0, t.1, sym m.2)
 
-pub all_again : (source : List ℕ) (ts : List Token) → Lexes source ts → option_map (tokens_from origin) (pieces_at source) ≡ Some ts
+pub all_again : (source : List ℕ) (ts : List Token) → Lexes source ts → option_map tokens_in (pieces_at source) ≡ Some ts
 unfolding pieces_at
 all_again source ts h =
     let one : pieces_in (suc (length source)) source ≡ Some h.0 = ap (λ (s : List ℕ). pieces_in (suc (length s)) s) h.2 ∙ in_again (suc (length (pieces_text h.0))) h.0 h.1 (omega arith) in
-    ap (option_map (tokens_from origin)) one ∙ ap done (sym h.3)
+    ap (option_map tokens_in) one ∙ ap done (sym h.3)
 
 pub one_list : (source : List ℕ) (a b : List Token) → Lexes source a → Lexes source b → a ≡ b
 one_list source a b p q = some_is a b (sym (all_again source a p) ∙ all_again source b q)

@@ -1,7 +1,9 @@
 pub mod Ascii
 pub mod Characters
 pub mod Classes
+pub mod Faults
 pub mod Laws
+pub mod Semicolons
 pub mod Steps
 pub mod Unescaping
 pub mod Utf8

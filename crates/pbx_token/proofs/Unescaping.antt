@@ -26,11 +26,11 @@ tail_of bs = take (length bs - 1) (drop 1 bs)
 abbrev pub slice_from : ℕ → List ℕ → List ℕ
 slice_from n bs = take (length bs - n) (drop n bs)
 
-slice_is : (n : ℕ) (bs : List ℕ) → slice_from n bs ≡ drop n bs
+pub slice_is : (n : ℕ) (bs : List ℕ) → slice_from n bs ≡ drop n bs
 slice_is n bs = take_all (length bs - n) (drop n bs) (omega (arith, length-drop n bs))
 
 -- what is left is no longer
-slice_length : (n : ℕ) (bs : List ℕ) → length (slice_from n bs) ≡ length bs - n
+pub slice_length : (n : ℕ) (bs : List ℕ) → length (slice_from n bs) ≡ length bs - n
 slice_length n bs = ap length (slice_is n bs) ∙ length-drop n bs
 
 pub next_length : (n : ℕ) (bs : List ℕ) → length (slice_from n (tail_of bs)) ≤ length bs

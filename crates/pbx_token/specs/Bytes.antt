@@ -28,9 +28,9 @@ is_mark b = (b == 59) || (b == 123) || (b == 125) || (b == 91) || (b == 93) || (
 abbrev pub digit_of : ℕ → ℕ
 digit_of b = if is_digit b then b - 48 else (if nat_le 97 b && nat_le b 102 then b - 87 else (if nat_le 65 b && nat_le b 70 then b - 55 else 99))
 
--- the bytes of a word, of a number and what may follow it by mistake, of a comment's line, and the digits of a base
+-- the bytes of an identifier, of a number and what may follow it by mistake, of a comment's line, and the digits of a base
 abbrev pub passes : Run → ℕ → Bool
-passes runs.Word b = is_start b || is_digit b
+passes runs.Identifier b = is_start b || is_digit b
 passes runs.Number b = is_start b || is_digit b || (b == 46)
 passes runs.Line b = not (b == 10)
 passes (runs.Digits base) b = nat_lt (digit_of b) base
@@ -41,7 +41,7 @@ is_break b = (b == 10) || (b == 0)
 
 -- what a byte begins
 abbrev pub first_class_of : ℕ → Class
-first_class_of b = if is_blank b then classes.Blank else (if is_start b then classes.Word else (if is_digit b then classes.Number else (if (b == 34) || (b == 39) then classes.Quote else (if is_mark b then classes.Mark else classes.Bad))))
+first_class_of b = if is_blank b then classes.Blank else (if is_start b then classes.Identifier else (if is_digit b then classes.Number else (if (b == 34) || (b == 39) then classes.Quote else (if is_mark b then classes.Mark else classes.Bad))))
 
 -- what two bytes begin: `//` and `/*` begin comments
 abbrev pub class_with : ℕ → List ℕ → Class

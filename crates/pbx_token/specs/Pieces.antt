@@ -35,7 +35,7 @@ abbrev pub class_of_piece : Piece → Class
 class_of_piece (blank b) = classes.Blank
 class_of_piece (line t) = classes.Line
 class_of_piece (block t) = classes.Block
-class_of_piece (name t) = classes.Word
+class_of_piece (name t) = classes.Identifier
 class_of_piece (number t n) = classes.Number
 class_of_piece (quoted q t) = classes.Quote
 class_of_piece (sign b) = classes.Mark
@@ -61,7 +61,7 @@ abbrev pub Extent : Piece → List ℕ → Type 0
 Extent (blank b) rest = Unit {0}
 Extent (line t) rest = prefix_len (passes runs.Line) (t ++ rest) ≡ length t
 Extent (block t) rest = block_end (t ++ (42 ∷ 47 ∷ rest)) ≡ Some (length t)
-Extent (name t) rest = prefix_len (passes runs.Word) (t ++ rest) ≡ length t
+Extent (name t) rest = prefix_len (passes runs.Identifier) (t ++ rest) ≡ length t
 Extent (number t n) rest = (prefix_len (passes runs.Number) (t ++ rest) ≡ length t) × (int_value t ≡ Some n)
 Extent (quoted q t) rest = (quoted_end q false (t ++ (q ∷ rest)) ≡ Some (length t)) × (has_good_escapes t ≡ true)
 Extent (sign b) rest = Unit {0}
@@ -101,9 +101,30 @@ abbrev pub tokens_from : Place → List Piece → List Token
 tokens_from p [] = []
 tokens_from p (x ∷ xs) = token_before (word_of_piece x) p (place_after (piece_then x []) p) (tokens_from (place_after (piece_then x []) p) xs)
 
+-- a `;`
+abbrev pub is_semicolon : Word → Bool
+is_semicolon (ident t) = false
+is_semicolon (int n) = false
+is_semicolon (str t) = false
+is_semicolon (mark b) = b == 59
+
+abbrev pub begins_semicolon : List Token → Bool
+begins_semicolon [] = false
+begins_semicolon (t ∷ ts) = is_semicolon t.word
+
+-- the tokens without each `;` that stands between two `;`; and whether a `;` stands before them
+unfoldable pub significant_after : Bool → List Token → List Token
+significant_after before [] = []
+significant_after before (t ∷ ts) = if before && is_semicolon t.word && begins_semicolon ts then significant_after true ts
+    else t ∷ significant_after (is_semicolon t.word) ts
+
+-- Of `;` one after another the first and the last: those between are empty statements of the language specification, which say nothing.
+abbrev pub significant : List Token → List Token
+significant ts = significant_after false ts
+
 abbrev pub origin : Place
 origin = record { line = 0; column = 0 }
 
--- The source is the bytes of pieces that fit, and these are their tokens.
+-- The source is the bytes of pieces that fit, and these are their tokens but for each `;` between two `;`.
 abbrev pub Lexes : List ℕ → List Token → Type 0
-Lexes source tokens = (ps : List Piece) × FitAll ps × (source ≡ pieces_text ps) × (tokens ≡ tokens_from origin ps)
+Lexes source tokens = (ps : List Piece) × FitAll ps × (source ≡ pieces_text ps) × (tokens ≡ significant (tokens_from origin ps))

@@ -1,12 +1,15 @@
--- How a source is taken apart, from its first byte on: what the code follows, beside what `Lexes` says.
-use Rattle.std.specs.Prelude.{ℕ, zero, suc, ◌+◌, List, [], ◌∷◌, length, take, drop, false, Option, Some, None, option_map, if◌then◌else◌}
+-- How a source is taken apart, from its first byte on: what the code follows, beside what `Lexes` says. No public clause
+-- comes here: these are words for contracts of private functions.
+use Rattle.std.specs.Prelude.{◌≡◌, ℕ, zero, suc, ◌+◌, List, [], ◌∷◌, ◌++◌, length, take, drop, Bool, false, ◌&&◌, Option, Some, None, option_map, if◌then◌else◌}
 use Rattle.std.specs.List.{prefix_len}
 use Rattle.pbx_token.specs.declared.run.Run.TheVariants as runs
 use Rattle.pbx_token.specs.declared.piece.Class.{Class}
 use Rattle.pbx_token.specs.declared.piece.Class.TheVariants as classes
 use Rattle.pbx_token.specs.Bytes.{passes, class_of, int_value}
 use Rattle.pbx_token.specs.Escapes.{has_good_escapes}
-use Rattle.pbx_token.specs.Pieces.{Piece, blank, line, block, name, number, quoted, sign, block_end, quoted_end}
+use Rattle.pbx_token.specs.declared.token.Place.{Place}
+use Rattle.pbx_token.specs.Tokens.{Word, Token}
+use Rattle.pbx_token.specs.Pieces.{Piece, blank, line, block, name, number, quoted, sign, block_end, quoted_end, is_semicolon, significant, token_before}
 
 abbrev pub run_piece : (List ℕ → Piece) → ℕ → List ℕ → Option (Piece × List ℕ)
 run_piece make n bytes = Some (make (take n bytes), drop n bytes)
@@ -35,7 +38,7 @@ abbrev pub piece_by : Class → List ℕ → Option (Piece × List ℕ)
 piece_by classes.Blank bytes = one_at blank bytes
 piece_by classes.Line bytes = run_piece line (prefix_len (passes runs.Line) (drop 2 bytes)) (drop 2 bytes)
 piece_by classes.Block bytes = block_with (block_end (drop 2 bytes)) (drop 2 bytes)
-piece_by classes.Word bytes = run_piece name (prefix_len (passes runs.Word) bytes) bytes
+piece_by classes.Identifier bytes = run_piece name (prefix_len (passes runs.Identifier) bytes) bytes
 piece_by classes.Number bytes = number_with (int_value (take (prefix_len (passes runs.Number) bytes) bytes)) (prefix_len (passes runs.Number) bytes) bytes
 piece_by classes.Quote bytes = quoted_at bytes
 piece_by classes.Mark bytes = one_at sign bytes
@@ -59,3 +62,13 @@ pieces_in (suc n) bytes = pieces_by (λ bs. pieces_in n bs) bytes
 
 unfoldable pub pieces_at : List ℕ → Option (List Piece)
 pieces_at bytes = pieces_in (suc (length bytes)) bytes
+
+-- whether the last two of tokens are `;`; and whether a `;` stands before them
+unfoldable pub ends_after : Bool → List Token → Bool
+ends_after before [] = false
+ends_after before (t ∷ []) = before && is_semicolon t.word
+ends_after before (t ∷ u ∷ us) = ends_after (is_semicolon t.word) (u ∷ us)
+
+-- once a token with this word is added, if there is one, to those that are kept, the same is significant, whatever follows
+abbrev pub Keeps : List Token → Option Word → Place → Place → List Token → Type 0
+Keeps before word from to after = (rest : List Token) → significant (after ++ rest) ≡ significant (before ++ token_before word from to rest)

@@ -1,5 +1,6 @@
 -- What the code's values stand for.
-use Rattle.std.specs.Prelude.{◌≡◌, ℕ, List, map, Option, Some, None, Result, Ok, Err}
+use Rattle.std.specs.Prelude.{◌≡◌, ℕ, ◌-◌, ◌≤◌, List, length, take, map, Option, Some, None, Result, Ok, Err}
+use Rattle.std.specs.Str.{IsUtf8}
 use Rattle.pbx_token.specs.declared.token.Word as code_word
 use Rattle.pbx_token.specs.declared.token.Word.TheVariants as words
 use Rattle.pbx_token.specs.declared.token.Token as code_token
@@ -41,3 +42,18 @@ FailsNot (errors.Fault left begun fault) = ⊥
 abbrev pub ReadsAs : {X Y : Type 0} → (X → Y) → Y → Result X LexError → Type 0
 ReadsAs view y (Ok x) = view x ≡ y
 ReadsAs view y (Err e) = FailsNot e
+
+-- where the text of a source is cut with so many bytes left, it is cut between two characters
+abbrev pub IsCut : List ℕ → ℕ → Type 0
+IsCut source left = IsUtf8 (take (length source - left) source)
+
+-- the places of a fault are in the source, between characters, and its token or comment begins no later than it lies
+pub record Within (source : List ℕ) (left begun : ℕ) : Type 0 where
+  pub order : left ≤ begun
+  pub within : begun ≤ length source
+  pub begun_cut : IsCut source begun
+  pub left_cut : IsCut source left
+
+abbrev pub IsWithin : List ℕ → LexError → Type 0
+IsWithin source errors.NoMemory = Unit {0}
+IsWithin source (errors.Fault left begun fault) = Within source left begun

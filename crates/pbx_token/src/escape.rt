@@ -1,6 +1,8 @@
 //! The escapes of strings, and the bytes that strings stand for.
 
 ghost use Rattle.std.specs.Prelude.{◌≡◌, ◌≤◌, length, IfOk, IfSome, IsTrue, is_none, ◌↔◌};
+ghost use Rattle.std.specs.Str.{IsUtf8};
+ghost use Rattle.pbx_token.specs.View.{IsCut};
 ghost use Rattle.pbx_token.specs.Escapes.{simple_value, number_at, escape_at, first_at, is_bad, has_good_escapes, unescaped};
 
 use crate::digits::digits_value;
@@ -89,6 +91,7 @@ fn is_bad(b: u8, rest: &[u8]) -> bool
 pub fn bad_escape(text: &[u8]) -> Option<usize>
     ensures is { has_good_escapes text.now ≡ is_none result }
     ensures within { IfSome result (λ left. left ≤ length text.now) }
+    ensures cut { IfSome result (λ left. IsUtf8 text.now → IsCut text.now left) }
 {
     let mut rest = text;
     'scan: loop {

@@ -1,39 +1,70 @@
 //! All tokens of a source.
 
-ghost use Rattle.std.specs.Prelude.{◌≡◌, ◌<◌, ◌^◌, ◌++◌, [], ℕ, List, length, option_map, IfOk, OnOk};
+ghost use Rattle.std.specs.Prelude.{◌≡◌, ◌<◌, ◌^◌, ◌++◌, ◌&&◌, ℕ, List, length, false, option_map, IfOk, IfErr, OnOk};
 ghost use Rattle.std.specs.Str.{IsUtf8};
 ghost use Rattle.pbx_token.specs.Tokens as tokens;
-ghost use Rattle.pbx_token.specs.Pieces.{tokens_from, origin, token_before, Lexes};
-ghost use Rattle.pbx_token.specs.Scan.{pieces_at};
-ghost use Rattle.pbx_token.specs.View.{Gives, ReadsAs, tokens_of, word_of};
+ghost use Rattle.pbx_token.specs.Pieces.{tokens_from, origin, is_semicolon, significant, Lexes};
+ghost use Rattle.pbx_token.specs.Scan.{pieces_at, ends_after, Keeps};
+ghost use Rattle.pbx_token.specs.View.{Gives, ReadsAs, IsWithin, tokens_of, word_of};
 
 use crate::piece::{LexError, piece};
 use crate::token::{Place, Span, Token, Word, after};
 use std::alloc::{AllocError, Global};
 
+fn is_semicolon(word: Word<'_>) -> bool
+    ensures { result ≡ is_semicolon (word_of word.entry) }
+{
+    matches!(word, Word::Mark(b';'))
+}
+
+/// Whether the last two tokens are `;`.
+#[tactic(auto, unfolding(crate::specs::Scan::ends_after))]
+fn end_in_semicolons(tokens: &[Token<'_>]) -> bool
+    ensures { result ≡ ends_after false (tokens_of tokens.now) }
+{
+    match tokens {
+        [.., first, second] => is_semicolon(first.word) && is_semicolon(second.word),
+        _ => false,
+    }
+}
+
+/// Whether a token with this word is a `;` behind two.
+fn is_third_semicolon(tokens: &[Token<'_>], word: Word<'_>) -> bool
+    ensures { result ≡ (is_semicolon (word_of word.entry) && ends_after false (tokens_of tokens.now)) }
+{
+    is_semicolon(word) && end_in_semicolons(tokens)
+}
+
+/// Adds a token with this word, if there is one. A `;` that then stands between two `;` goes.
 fn add<'a>(
     tokens: &mut Vec<Token<'a>>,
     word: Option<Word<'a>>,
     from: Place,
     to: Place,
 ) -> Result<(), AllocError>
-    ensures { OnOk result (tokens_of tokens.new.items ≡ tokens_of tokens.old.items ++ token_before (option_map word_of word.entry) from to []) }
+    ensures same { OnOk result (Keeps (tokens_of tokens.old.items) (option_map word_of word.entry) from to (tokens_of tokens.new.items)) }
+    ensures stays { OnOk result (significant (tokens_of tokens.old.items) ≡ tokens_of tokens.old.items → significant (tokens_of tokens.new.items) ≡ tokens_of tokens.new.items) }
 {
-    if let Some(word) = word {
-        let span = Span {
-            line: from.line,
-            from: from.column,
-            to: to.column,
-        };
-        tokens.push(Token { word, span })?;
+    let Some(word) = word else {
+        return Ok(());
+    };
+    if is_third_semicolon(tokens.as_slice(), word) {
+        tokens.pop();
     }
+    let span = Span {
+        line: from.line,
+        from: from.column,
+        to: to.column,
+    };
+    tokens.push(Token { word, span })?;
     Ok(())
 }
 
 fn all<'a>(alloc: Global, source: &'a [u8]) -> Result<Vec<Token<'a>>, LexError>
     requires few { length source.now < 2 ^ 31 }
     requires text { IsUtf8 source.now }
-    ensures { Gives (λ x. tokens_of x.items) (option_map (tokens_from origin) (pieces_at source.now)) result }
+    ensures read { Gives (λ x. tokens_of x.items) (option_map (λ ps. significant (tokens_from origin ps)) (pieces_at source.now)) result }
+    ensures fault { IfErr result (λ e. IsWithin source.now e) }
 {
     let mut tokens = Vec::new(alloc);
     let mut rest = source;
@@ -61,6 +92,8 @@ pub fn lex(alloc: Global, source: &str) -> Result<Vec<Token<'_>>, LexError>
     ensures found { IfOk result (λ x. Lexes source.now (tokens_of x.items)) }
     // Its tokens are given, unless memory runs out.
     ensures only { (ts : List tokens.Token) → Lexes source.now ts → ReadsAs (λ x. tokens_of x.items) ts result }
+    // A fault lies between two characters of it.
+    ensures fault { IfErr result (λ e. IsWithin source.now e) }
 {
     all(alloc, source.as_bytes())
 }
