@@ -4,6 +4,7 @@ pub mod Classes
 pub mod Faults
 pub mod Laws
 pub mod Semicolons
+pub mod Starts
 pub mod Steps
 pub mod Unescaping
 pub mod Utf8
