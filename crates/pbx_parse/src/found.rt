@@ -70,23 +70,70 @@ fn add_all_shown(text: &mut String, found: &str) -> Result<(), NoMemory>
     Ok(())
 }
 
-/// Adds the text in single quotes; only the end has no text.
-fn add_found(text: &mut String, found: &str) -> Result<(), NoMemory>
+/// Adds what may stand in a number by mistake, up to the first character that may not.
+fn add_number_at(text: &mut String, rest: &str) -> Result<(), NoMemory>
     ensures { IsOneLine (string_bytes text.old) → OnOk result (IsOneLine (string_bytes text.new)) }
 {
-    if found.is_empty() {
-        return add_all_shown(text, "end of file");
+    'each: for c in rest.chars() {
+        if !(c.is_ascii_alphanumeric() || c == '_' || c == '.') {
+            return Ok(());
+        }
+        add_shown(text, c)?;
+    }
+    Ok(())
+}
+
+/// What stands at the place of an error.
+#[derive(Clone, Copy)]
+pub enum Found<'a> {
+    /// The source ends there.
+    End,
+    Character(char),
+    Name(&'a str),
+    /// A string: its quote, and what is written between its quotes.
+    String(char, &'a str),
+    /// What begins with a number, which goes as far as letters, digits, `_` and `.` do.
+    Number(&'a str),
+}
+
+/// Adds a string with its quotes.
+fn add_string(text: &mut String, quote: char, written: &str) -> Result<(), NoMemory>
+    ensures { IsOneLine (string_bytes text.old) → OnOk result (IsOneLine (string_bytes text.new)) }
+{
+    add_shown(text, quote)?;
+    add_all_shown(text, written)?;
+    add_shown(text, quote)
+}
+
+fn add_found(text: &mut String, found: Found<'_>) -> Result<(), NoMemory>
+    ensures { IsOneLine (string_bytes text.old) → OnOk result (IsOneLine (string_bytes text.new)) }
+{
+    match found {
+        Found::End => add_all_shown(text, "end of file"),
+        Found::Character(character) => add_shown(text, character),
+        Found::Name(name) => add_all_shown(text, name),
+        Found::String(quote, written) => add_string(text, quote, written),
+        Found::Number(rest) => add_number_at(text, rest),
+    }
+}
+
+/// What was found in single quotes, but for the end.
+fn add_quoted(text: &mut String, found: Found<'_>) -> Result<(), NoMemory>
+    ensures { IsOneLine (string_bytes text.old) → OnOk result (IsOneLine (string_bytes text.new)) }
+{
+    if matches!(found, Found::End) {
+        return add_found(text, found);
     }
     add_char(text, '\'')?;
-    add_all_shown(text, found)?;
+    add_found(text, found)?;
     add_char(text, '\'')
 }
 
-/// What an error says of the text at its place, in one line: the text in single quotes, or that the file ends where there is none.
-pub fn found_text(alloc: Global, found: &str) -> Result<Text, NoMemory>
+/// What an error says of what was found, in one line: control characters stand as escapes.
+pub fn found_text(alloc: Global, found: Found<'_>) -> Result<Text, NoMemory>
     ensures { IfOk result (λ t. IsOneLine t) }
 {
     let mut text = String::new(alloc);
-    add_found(&mut text, found)?;
+    add_quoted(&mut text, found)?;
     Text::from_str(alloc, text.as_str())
 }
