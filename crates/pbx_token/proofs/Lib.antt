@@ -7,6 +7,7 @@ pub mod Integers
 pub mod Laws
 pub mod Options
 pub mod Semicolons
+pub mod Starts
 pub mod Steps
 pub mod Strings
 pub mod Unescaping

@@ -1,5 +1,6 @@
 -- What the code's values stand for.
 use Rattle.std.specs.Prelude.{◌≡◌, ℕ, ◌-◌, ◌≤◌, List, length, take, map, Result, Ok, Err}
+use Rattle.std.specs.List.{All}
 use Rattle.std.specs.Str.{IsUtf8}
 use Rattle.pbx_token.specs.declared.token.Word as code_word
 use Rattle.pbx_token.specs.declared.token.Word.TheVariants as words
@@ -44,3 +45,12 @@ pub record Within (source : List ℕ) (left begun : ℕ) : Type 0 where
 abbrev pub IsWithin : List ℕ → LexError → Type 0
 IsWithin source errors.NoMemory = Unit {0}
 IsWithin source (errors.Fault left begun fault) = Within source left begun
+
+-- with so many bytes left a source is cut inside it, between two characters
+pub record IsStart (source : List ℕ) (left : ℕ) : Type 0 where
+  pub within : left ≤ length source
+  pub cut : IsCut source left
+
+-- each token begins in the source
+abbrev pub BeginIn : List ℕ → List code_token.Token → Type 0
+BeginIn source ts = All (λ t. IsStart source t.left) ts

@@ -5,7 +5,7 @@ ghost use Rattle.std.specs.Str.{IsUtf8};
 ghost use Rattle.pbx_token.specs.Tokens as tokens;
 ghost use Rattle.pbx_token.specs.Pieces.{tokens_from, origin, is_semicolon, significant, Lexes};
 ghost use Rattle.pbx_token.specs.Scan.{pieces_at, Gives, ends_after, Keeps};
-ghost use Rattle.pbx_token.specs.View.{ReadsAs, IsWithin, tokens_of, word_of};
+ghost use Rattle.pbx_token.specs.View.{ReadsAs, IsWithin, IsStart, BeginIn, tokens_of, word_of};
 
 use crate::piece::{LexError, piece};
 use crate::token::{Place, Span, Token, Word, after};
@@ -35,15 +35,17 @@ fn is_third_semicolon(tokens: &[Token<'_>], word: Word<'_>) -> bool
     is_semicolon(word) && end_in_semicolons(tokens)
 }
 
-/// Adds a token with this word, if there is one. A `;` that then stands between two `;` goes.
+/// Adds a token with this word, if there is one, which begins with so many bytes left. A `;` that then stands between two `;` goes.
 fn add<'a>(
     tokens: &mut Vec<Token<'a>>,
     word: Option<Word<'a>>,
     from: Place,
     to: Place,
+    left: u32,
 ) -> Result<(), AllocError>
     ensures same { OnOk result (Keeps (tokens_of tokens.old.items) (option_map word_of word.entry) from to (tokens_of tokens.new.items)) }
     ensures stays { OnOk result (significant (tokens_of tokens.old.items) ≡ tokens_of tokens.old.items → significant (tokens_of tokens.new.items) ≡ tokens_of tokens.new.items) }
+    ensures starts { (source : List ℕ) → IsStart source left → BeginIn source tokens.old.items → OnOk result (BeginIn source tokens.new.items) }
 {
     let Some(word) = word else {
         return Ok(());
@@ -56,7 +58,7 @@ fn add<'a>(
         from: from.column,
         to: to.column,
     };
-    tokens.push(Token { word, span })?;
+    tokens.push(Token { word, span, left })?;
     Ok(())
 }
 
@@ -64,6 +66,7 @@ fn all<'a>(alloc: Global, source: &'a [u8]) -> Result<Vec<Token<'a>>, LexError>
     requires few { length source.now < 2 ^ 31 }
     requires text { IsUtf8 source.now }
     ensures read { Gives (λ x. tokens_of x.items) (option_map (λ ps. significant (tokens_from origin ps)) (pieces_at source.now)) result }
+    ensures starts { IfOk result (λ x. BeginIn source.now x.items) }
     ensures fault { IfErr result (λ e. IsWithin source.now e) }
 {
     let mut tokens = Vec::new(alloc);
@@ -74,7 +77,7 @@ fn all<'a>(alloc: Global, source: &'a [u8]) -> Result<Vec<Token<'a>>, LexError>
         let (word, next) = piece(rest)?;
         let from = Place { line, column };
         let to = after(from, &rest[..rest.len() - next.len()]);
-        add(&mut tokens, word, from, to)?;
+        add(&mut tokens, word, from, to, rest.len() as u32)?;
         line = to.line;
         column = to.column;
         rest = next;
@@ -92,6 +95,8 @@ pub fn lex(alloc: Global, source: &str) -> Result<Vec<Token<'_>>, LexError>
     ensures found { IfOk result (λ x. Lexes source.now (tokens_of x.items)) }
     // Its tokens are given, unless memory runs out.
     ensures only { (ts : List tokens.Token) → Lexes source.now ts → ReadsAs (λ x. tokens_of x.items) ts result }
+    // Each begins with as many bytes left as it says, between two characters.
+    ensures starts { IfOk result (λ x. BeginIn source.now x.items) }
     // A fault lies between two characters of it.
     ensures fault { IfErr result (λ e. IsWithin source.now e) }
 {

@@ -5,11 +5,12 @@ use Rattle.pbx_token.specs.declared.token.Place.{Place}
 use Rattle.pbx_token.specs.declared.token.Token as code
 use Rattle.pbx_token.specs.Pieces.{tokens_from, origin, significant, significant_after}
 use Rattle.pbx_token.specs.Scan.{pieces_at}
-use Rattle.pbx_token.specs.View.{tokens_of, word_of}
+use Rattle.pbx_token.specs.View.{BeginIn, tokens_of, word_of}
+use Rattle.pbx_token.proofs.Starts.{begin_none}
 use Rattle.std.proofs.lemmas.Bool.{eqb-true}
 use Rattle.std.proofs.lemmas.List.{length-take}
 use Rattle.pbx_token.specs.Places.{place_after}
-use Rattle.pbx_token.proofs.Faults.{split_whole, split_next, within_more}
+use Rattle.pbx_token.proofs.Faults.{split_whole, split_next, cut_rest, within_more}
 use Rattle.pbx_token.proofs.Laws.{tokens_in}
 use Rattle.pbx_token.proofs.Steps.{goes_on, fails, is_done, not_zero}
 use Rattle.pbx_token.proofs.Utf8.{next_text}
@@ -20,6 +21,7 @@ unfolding significant_after
 pieces-init c = record {
   so_far = ap (λ (s : List code.Token). option_map (λ ps. significant (tokens_of s ++ tokens_from origin ps)) (pieces_at c.args.source.now)) c.new-tokens.ensures.items;
   stay = subst (λ (s : List code.Token). significant (tokens_of s) ≡ tokens_of s) (sym c.new-tokens.ensures.items) refl;
+  starts = subst (BeginIn c.args.source.now) (sym c.new-tokens.ensures.items) (begin_none c.args.source.now);
   left = split_whole c.args.source.now;
   line = omega arith;
   column = omega arith;
@@ -57,6 +59,7 @@ pieces-preserved c =
     record {
       so_far = goes_on (tokens_of c.pieces.tokens.items) (tokens_of c.add.new.tokens.items) from c.after-to.result rest next w total some c.in_ok-word.ensures.read at c.in_ok-add.ensures.same c.pieces.invariant.so_far;
       stay = c.in_ok-add.ensures.stays c.pieces.invariant.stay;
+      starts = c.in_ok-add.ensures.starts c.args.source.now (record { within = omega arith; cut = cut_rest c.args.source.now rest c.requires.text c.pieces.invariant.text c.pieces.invariant.left }) c.pieces.invariant.starts;
       left = split_next c.args.source.now rest next w c.in_ok-word.ensures.read c.pieces.invariant.left;
       line = omega (arith, c.after-to.ensures.line, c.in_ok-word.ensures.shorter, c.pieces.invariant.line);
       column = omega (arith, c.after-to.ensures.column, c.in_ok-word.ensures.shorter, c.pieces.invariant.column);

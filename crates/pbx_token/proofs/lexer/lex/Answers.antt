@@ -7,7 +7,7 @@ use Rattle.pbx_token.specs.declared.piece.LexError.TheVariants as errors
 use Rattle.pbx_token.specs.Tokens.{Token}
 use Rattle.pbx_token.specs.Pieces.{Lexes}
 use Rattle.pbx_token.specs.Scan.{pieces_at, Gives}
-use Rattle.pbx_token.specs.View.{ReadsAs, IsWithin, tokens_of}
+use Rattle.pbx_token.specs.View.{BeginIn, ReadsAs, IsWithin, tokens_of}
 use Rattle.pbx_token.proofs.Options.{some_is}
 use Rattle.pbx_token.proofs.Laws.{tokens_in, all_takes, all_again}
 use Rattle.pbx_token.proofs.lexer.lex.Goals as goal
@@ -36,3 +36,6 @@ all-requires-clause-text c = subst IsUtf8 (sym c.as_bytes.ensures.value) c.utf8.
 
 pub returns-clause-fault : goal.returns-clause-fault
 returns-clause-fault c = subst (λ (s : List ℕ). IfErr c.all.result (λ e. IsWithin s e)) c.as_bytes.ensures.value c.all.ensures.fault
+
+pub returns-clause-starts : goal.returns-clause-starts
+returns-clause-starts c = subst (λ (s : List ℕ). IfOk c.all.result (λ x. BeginIn s x.items)) c.as_bytes.ensures.value c.all.ensures.starts
