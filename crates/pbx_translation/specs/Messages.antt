@@ -81,7 +81,7 @@ abbrev pub oneofs_in : BodyItem → List OneofDescriptorProto
 oneofs_in (plain (item_oneof o)) = oneof_record o.name.text ∷ []
 oneofs_in _ = []
 
--- the names of the fields for which a oneof is made
+-- the names of the fields that have a synthetic oneof
 abbrev pub optional_names_in : Version → BodyItem → List (List ℕ)
 optional_names_in v (plain (item_field f)) = if is_proto3_optional v f.label then f.tail.name.text ∷ [] else []
 optional_names_in v _ = []
@@ -124,30 +124,30 @@ free_within (suc tries) names name = if is_among names name then free_within tri
 abbrev pub free_name : List (List ℕ) → List ℕ → List ℕ
 free_name names name = free_within (length names) names name
 
--- the names of the oneofs that are made for fields, each `_` and the field's name where that is free; those made before are taken
-unfoldable pub made_names : List (List ℕ) → List (List ℕ) → List (List ℕ)
-made_names taken [] = []
-made_names taken (name ∷ names) = let made = free_name taken (95 ∷ name) in made ∷ made_names (taken ++ made ∷ []) names
+-- the names of synthetic oneofs, each `_` and the field's name where that is free; the synthetic ones before are taken
+unfoldable pub synthetic_names : List (List ℕ) → List (List ℕ) → List (List ℕ)
+synthetic_names taken [] = []
+synthetic_names taken (name ∷ names) = let synthetic = free_name taken (95 ∷ name) in synthetic ∷ synthetic_names (taken ++ synthetic ∷ []) names
 
--- the oneofs of a message: those that are written, and then those that are made
+-- the oneofs of a message: those that are written, and then the synthetic ones
 abbrev pub oneof_records : Version → List BodyItem → List OneofDescriptorProto
-oneof_records v ps = flat_map oneofs_in ps ++ map oneof_record (made_names (flat_map names_in ps) (flat_map (optional_names_in v) ps))
+oneof_records v ps = flat_map oneofs_in ps ++ map oneof_record (synthetic_names (flat_map names_in ps) (flat_map (optional_names_in v) ps))
 
 -- ---- fields
 
--- the fields of one item, where so many oneofs are written before it, and the next that is made has this index
+-- the fields of one item, where so many oneofs are written before it, and the next synthetic one has this index
 abbrev pub fields_in : Version → ℕ → ℕ → BodyItem → List FieldDescriptorProto
-fields_in v written made (plain (item_field f)) = field_record v made f ∷ []
-fields_in v written made (plain (item_map m)) = map_record m ∷ []
-fields_in v written made (plain (item_oneof o)) = flat_map (member_records written) o.members
-fields_in v written made _ = []
+fields_in v written synthetic (plain (item_field f)) = field_record v synthetic f ∷ []
+fields_in v written synthetic (plain (item_map m)) = map_record m ∷ []
+fields_in v written synthetic (plain (item_oneof o)) = flat_map (member_records written) o.members
+fields_in v written synthetic _ = []
 
 -- the fields of these items
 unfoldable pub fields_from : Version → ℕ → ℕ → List BodyItem → List FieldDescriptorProto
-fields_from v written made [] = []
-fields_from v written made (p ∷ ps) = fields_in v written made p ++ fields_from v (written + length (oneofs_in p)) (made + length (optional_names_in v p)) ps
+fields_from v written synthetic [] = []
+fields_from v written synthetic (p ∷ ps) = fields_in v written synthetic p ++ fields_from v (written + length (oneofs_in p)) (synthetic + length (optional_names_in v p)) ps
 
--- the fields of a message: oneofs are counted from 0, and those that are made stand behind all that are written
+-- the fields of a message: oneofs are counted from 0, and the synthetic ones stand behind all that are written
 abbrev pub fields_of : Version → List BodyItem → List FieldDescriptorProto
 fields_of v ps = fields_from v 0 (length (flat_map oneofs_in ps)) ps
 

@@ -1,9 +1,9 @@
-//! The names in the scope of a message, and the oneofs that are made for fields.
+//! The names in the scope of a message, and its synthetic oneofs.
 
 ghost use Rattle.std.specs.Prelude.{◌≡◌, ◌++◌, ◌∷◌, [], ℕ, List as ListOf, map, IfOk, OnOk, string_bytes};
 ghost use Rattle.std.specs.List.{flat_map};
 ghost use Rattle.pbx_tree.specs.View.{member_of, extension_of, enum_item_of, item_of};
-ghost use Rattle.pbx_translation.specs.Messages.{oneof_record as oneof_record_of, optional_names_in, member_names, value_names, extension_names, names_in, is_among, free_name as free_name_of, made_names};
+ghost use Rattle.pbx_translation.specs.Messages.{oneof_record as oneof_record_of, optional_names_in, member_names, value_names, extension_names, names_in, is_among, free_name as free_name_of, synthetic_names};
 ghost use Rattle.pbx_translation.specs.Scope.{Holds};
 
 use crate::fields::is_proto3_optional;
@@ -159,23 +159,23 @@ pub(crate) fn oneof_record(alloc: Global, name: &str) -> Result<OneofDescriptorP
 }
 
 /// Adds a oneof for each field of these names.
-fn add_made(
+fn add_synthetic(
     alloc: Global,
     names: &[&str],
     scope: &mut Scope,
     oneofs: &mut List<OneofDescriptorProto>,
 ) -> Result<(), NoMemory>
-    ensures { (taken : ListOf (ListOf ℕ)) → Holds scope.old taken → OnOk result (oneofs.new ≡ oneofs.old ++ map oneof_record_of (made_names taken (map (λ n. n.now) names.now))) }
+    ensures { (taken : ListOf (ListOf ℕ)) → Holds scope.old taken → OnOk result (oneofs.new ≡ oneofs.old ++ map oneof_record_of (synthetic_names taken (map (λ n. n.now) names.now))) }
 {
     'each: for name in names {
-        let made = free_name(alloc, scope, joined(alloc, "_", name)?)?;
-        scope.add(alloc, made.as_str())?;
-        oneofs.add(oneof_record(alloc, made.as_str())?)?;
+        let synthetic = free_name(alloc, scope, joined(alloc, "_", name)?)?;
+        scope.add(alloc, synthetic.as_str())?;
+        oneofs.add(oneof_record(alloc, synthetic.as_str())?)?;
     }
     Ok(())
 }
 
-/// The names of the fields for which oneofs are made.
+/// The names of the fields that have synthetic oneofs.
 fn optional_names<'a>(
     alloc: Global,
     version: Version,
@@ -194,14 +194,14 @@ fn optional_names<'a>(
     Ok(names)
 }
 
-/// Adds the oneofs that are made for the fields of a message.
-pub(crate) fn add_made_oneofs(
+/// Adds the synthetic oneofs of a message.
+pub(crate) fn add_synthetic_oneofs(
     alloc: Global,
     version: Version,
     items: &[Item<'_>],
     oneofs: &mut List<OneofDescriptorProto>,
 ) -> Result<(), NoMemory>
-    ensures { OnOk result (oneofs.new ≡ oneofs.old ++ map oneof_record_of (made_names (flat_map names_in (map item_of items.now)) (flat_map (optional_names_in version) (map item_of items.now)))) }
+    ensures { OnOk result (oneofs.new ≡ oneofs.old ++ map oneof_record_of (synthetic_names (flat_map names_in (map item_of items.now)) (flat_map (optional_names_in version) (map item_of items.now)))) }
 {
     let names = optional_names(alloc, version, items)?;
     if names.is_empty() {
@@ -209,5 +209,5 @@ pub(crate) fn add_made_oneofs(
     }
     let mut scope = Scope::new(alloc);
     add_all_names(alloc, items, &mut scope)?;
-    add_made(alloc, names.as_slice(), &mut scope, oneofs)
+    add_synthetic(alloc, names.as_slice(), &mut scope, oneofs)
 }
