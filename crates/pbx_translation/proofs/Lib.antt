@@ -1,6 +1,7 @@
 pub mod Lists
 pub mod Camel
 pub mod Taken
+pub mod Free
 pub mod Counted
 pub mod Placed
 pub mod Strings

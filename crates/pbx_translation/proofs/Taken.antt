@@ -6,7 +6,8 @@ use Rattle.std.proofs.lemmas.Bool.Decides.{same_from_decides}
 use Rattle.std.proofs.lemmas.List.{flat_map_more, take_more}
 use Rattle.std.proofs.lemmas.Slice.Eq.{bytes_eq-Decides}
 use Rattle.pbx_desc.specs.declared.field.OneofDescriptorProto.{OneofDescriptorProto}
-use Rattle.pbx_translation.specs.Messages.{is_among, free_within, free_name, synthetic_names, oneof_record}
+use Rattle.pbx_translation.specs.Messages.{oneof_record}
+use Rattle.pbx_translation.specs.Synthetic.{is_among, free_name, synthetic_names}
 use Rattle.pbx_translation.proofs.Counted.{rest_seen, none_seen}
 use Rattle.pbx_translation.proofs.Lists.{flat_seen}
 
@@ -24,24 +25,10 @@ among_more (n ∷ ns) name q = ap (λ b. bytes_eq q n || b) (among_more ns name 
     at true false = refl
     at false b = refl
 
--- a try that is taken
-pub one_try : (tries left : ℕ) (names : List (List ℕ)) (name : List ℕ) → tries ≡ suc left → is_among names name ≡ true → free_within tries names name ≡ free_within left names (88 ∷ name)
-unfolding free_within
-one_try tries left names name e taken = ap (λ n. free_within n names name) e ∙ rw taken refl
-
--- one that is free
-pub free_try : (tries left : ℕ) (names : List (List ℕ)) (name : List ℕ) → tries ≡ suc left → is_among names name ≡ false → free_within tries names name ≡ name
-unfolding free_within
-free_try tries left names name e free = ap (λ n. free_within n names name) e ∙ rw free refl
-
-pub no_try : (tries : ℕ) (names : List (List ℕ)) (name : List ℕ) → tries ≡ 0 → free_within tries names name ≡ name
-unfolding free_within
-no_try tries names name e = ap (λ n. free_within n names name) e
-
 -- one more synthetic name
-pub synthetic_one : (taken : List (List ℕ)) (name : List ℕ) (names : List (List ℕ)) (synthetic : List ℕ) → synthetic ≡ free_name taken (95 ∷ name) → synthetic_names taken (name ∷ names) ≡ synthetic ∷ synthetic_names (taken ++ synthetic ∷ []) names
+pub synthetic_one : (taken : List (List ℕ)) (field : List ℕ) (fields : List (List ℕ)) (name : List ℕ) → name ≡ free_name taken field → synthetic_names taken (field ∷ fields) ≡ name ∷ synthetic_names (taken ++ name ∷ []) fields
 unfolding synthetic_names
-synthetic_one taken name names synthetic e = ap (λ m. m ∷ synthetic_names (taken ++ m ∷ []) names) (sym e)
+synthetic_one taken field fields name e = ap (λ m. m ∷ synthetic_names (taken ++ m ∷ []) fields) (sym e)
 
 pub synthetic_none : (taken : List (List ℕ)) → synthetic_names taken [] ≡ []
 unfolding synthetic_names
@@ -68,18 +55,18 @@ parts_named f view before name seen all e =
 
 module _ {A : Type 0} (view : A → List ℕ) (xs : List A) (i : ℕ) where
   -- one more synthetic oneof
-  pub synthetic_goes_on : (x : A) (now : List (List ℕ)) (synthetic : List ℕ) (before after total : List OneofDescriptorProto) → i < length xs → x ≡ get_or xs i x → synthetic ≡ free_name now (95 ∷ view x) → after ≡ before ++ oneof_record synthetic ∷ []
-      → before ++ map oneof_record (synthetic_names now (map view (drop i xs))) ≡ total → after ++ map oneof_record (synthetic_names (now ++ synthetic ∷ []) (map view (drop (i + 1) xs))) ≡ total
-  synthetic_goes_on x now synthetic before after total below is m e so_far =
-      let names = map view (drop (i + 1) xs) in
-      let rest = map oneof_record (synthetic_names (now ++ synthetic ∷ []) names) in
-      let first : synthetic_names now (map view (drop i xs)) ≡ synthetic ∷ synthetic_names (now ++ synthetic ∷ []) names = ap (synthetic_names now) (rest_seen view xs i x below is) ∙ synthetic_one now (view x) names synthetic m in
+  pub synthetic_goes_on : (x : A) (now : List (List ℕ)) (name : List ℕ) (before after total : List OneofDescriptorProto) → i < length xs → x ≡ get_or xs i x → name ≡ free_name now (view x) → after ≡ before ++ oneof_record name ∷ []
+      → before ++ map oneof_record (synthetic_names now (map view (drop i xs))) ≡ total → after ++ map oneof_record (synthetic_names (now ++ name ∷ []) (map view (drop (i + 1) xs))) ≡ total
+  synthetic_goes_on x now name before after total below is m e so_far =
+      let fields = map view (drop (i + 1) xs) in
+      let rest = map oneof_record (synthetic_names (now ++ name ∷ []) fields) in
+      let first : synthetic_names now (map view (drop i xs)) ≡ name ∷ synthetic_names (now ++ name ∷ []) fields = ap (synthetic_names now) (rest_seen view xs i x below is) ∙ synthetic_one now (view x) fields name m in
       ap (λ ys. ys ++ rest) e
-      ∙ append_assoc before (oneof_record synthetic ∷ []) rest
+      ∙ append_assoc before (oneof_record name ∷ []) rest
       ∙ ap (λ ns. before ++ map oneof_record ns) (sym first)
       ∙ so_far
 
-  -- no name is left
+  -- no field is left
   pub synthetic_all : (now : List (List ℕ)) (all total : List OneofDescriptorProto) → length xs ≤ i → all ++ map oneof_record (synthetic_names now (map view (drop i xs))) ≡ total → all ≡ total
   synthetic_all now all total past so_far =
       sym (append-nil all)

@@ -18,7 +18,8 @@ use Rattle.pbx_tree.specs.Tree.{Body, Service}
 use Rattle.pbx_tree.specs.View.{BodyItem, item_of, body_of}
 use Rattle.pbx_translation.specs.Settings.{options_of}
 use Rattle.pbx_translation.specs.Services.{method_records, service_record}
-use Rattle.pbx_translation.specs.Messages.{body_items, oneof_record, oneofs_in, optional_names_in, names_in, synthetic_names, oneof_records, fields_from, fields_of, enums_in, extension_ranges_in, extensions_in, reserved_ranges_in, reserved_names_in, message_with}
+use Rattle.pbx_translation.specs.Messages.{body_items, oneof_record, oneofs_in, optional_names_in, names_in, oneof_records, fields_from, fields_of, enums_in, extension_ranges_in, extensions_in, reserved_ranges_in, reserved_names_in, message_with}
+use Rattle.pbx_translation.specs.Synthetic.{synthetic_names}
 use Rattle.pbx_translation.proofs.Lists.{flat_seen, body_items_seen}
 
 pub service_made : (s : Service) (name : List ℕ) (methods : List MethodDescriptorProto) (options : Option Options) (unknown : List Rec)

@@ -1,7 +1,6 @@
 -- Records of messages.
 use Rattle.std.specs.Prelude.{ℕ, zero, suc, ◌+◌, List, [], ◌∷◌, ◌++◌, map, length, Bool, Option, Some, None, pos, if◌then◌else◌}
-use Rattle.std.specs.List.{flat_map, list_any}
-use Rattle.std.specs.Str.{bytes_eq}
+use Rattle.std.specs.List.{flat_map}
 use Rattle.pbx_desc.specs.declared.enumeration.EnumDescriptorProto.{EnumDescriptorProto}
 use Rattle.pbx_desc.specs.declared.field.FieldDescriptorProto.{FieldDescriptorProto}
 use Rattle.pbx_desc.specs.declared.field.OneofDescriptorProto.{OneofDescriptorProto}
@@ -18,6 +17,7 @@ use Rattle.pbx_translation.specs.Texts.{entry_name}
 use Rattle.pbx_translation.specs.Settings.{options_of}
 use Rattle.pbx_translation.specs.Fields.{is_proto3_optional, field_record, member_records, map_record, entry_record, extend_records}
 use Rattle.pbx_translation.specs.Enums.{names_reserved, enum_record}
+use Rattle.pbx_translation.specs.Synthetic.{synthetic_names}
 
 -- what stands in a body, in its order; messages in it are not entered
 unfoldable pub body_items : Body → List BodyItem
@@ -110,24 +110,6 @@ item_names _ = []
 abbrev pub names_in : BodyItem → List (List ℕ)
 names_in (plain i) = item_names i
 names_in (nested h inner close) = h.name.text ∷ []
-
--- the name is among these
-abbrev pub is_among : List (List ℕ) → List ℕ → Bool
-is_among names name = list_any (bytes_eq name) names
-
--- the name, with `X` put in front while it is among these, at most so many times
-unfoldable pub free_within : ℕ → List (List ℕ) → List ℕ → List ℕ
-free_within zero names name = name
-free_within (suc tries) names name = if is_among names name then free_within tries names (88 ∷ name) else name
-
--- The name, with `X` put in front until it is none of these. Each try is another name, so one that is free comes before there are more tries than names.
-abbrev pub free_name : List (List ℕ) → List ℕ → List ℕ
-free_name names name = free_within (length names) names name
-
--- the names of synthetic oneofs, each `_` and the field's name where that is free; the synthetic ones before are taken
-unfoldable pub synthetic_names : List (List ℕ) → List (List ℕ) → List (List ℕ)
-synthetic_names taken [] = []
-synthetic_names taken (name ∷ names) = let synthetic = free_name taken (95 ∷ name) in synthetic ∷ synthetic_names (taken ++ synthetic ∷ []) names
 
 -- the oneofs of a message: those that are written, and then the synthetic ones
 abbrev pub oneof_records : Version → List BodyItem → List OneofDescriptorProto

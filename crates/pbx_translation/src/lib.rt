@@ -9,6 +9,7 @@ mod passes;
 mod scope;
 mod services;
 mod settings;
+mod synthetic;
 mod texts;
 
 pub use file::translate;

@@ -1,28 +1,28 @@
-//! The names in the scope of a message, and its synthetic oneofs.
+//! The names in the scope of a message.
 
-ghost use Rattle.std.specs.Prelude.{◌≡◌, ◌++◌, ◌∷◌, [], ℕ, List as ListOf, map, IfOk, OnOk, string_bytes};
+ghost use Rattle.std.specs.Prelude.{◌≡◌, ◌++◌, ◌∷◌, [], ℕ, List as ListOf, OnOk};
 ghost use Rattle.std.specs.List.{flat_map};
 ghost use Rattle.pbx_tree.specs.View.{member_of, extension_of, enum_item_of, item_of};
-ghost use Rattle.pbx_translation.specs.Messages.{oneof_record as oneof_record_of, optional_names_in, member_names, value_names, extension_names, names_in, is_among, free_name as free_name_of, synthetic_names};
+ghost use Rattle.pbx_translation.specs.Synthetic.{is_among};
+ghost use Rattle.pbx_translation.specs.Messages.{member_names, value_names, extension_names, names_in};
 ghost use Rattle.pbx_translation.specs.Scope.{Holds};
 
-use crate::fields::is_proto3_optional;
 use crate::texts::entry_name;
-use pbx_desc::OneofDescriptorProto;
-use pbx_tree::{EnumItem, Extension, Item, Member, Version};
-use pbx_wire::{List, NoMemory, Text};
+use pbx_tree::{EnumItem, Extension, Item, Member};
+use pbx_wire::NoMemory;
 use std::alloc::Global;
 use std::collections::BTreeSet;
 
-/// Names, with how often any was added.
+/// Names.
 #[derive(Drop)]
 pub(crate) struct Scope {
     names: BTreeSet<String>,
-    count: usize,
+    /// How often any was added.
+    pub(crate) count: usize,
 }
 
 impl Scope {
-    fn new(alloc: Global) -> Scope
+    pub(crate) fn new(alloc: Global) -> Scope
         ensures { Holds result [] }
     {
         Scope {
@@ -32,13 +32,13 @@ impl Scope {
     }
 
     /// Whether the name was added.
-    fn has(&self, name: &str) -> bool
+    pub(crate) fn has(&self, name: &str) -> bool
         ensures { (names : ListOf (ListOf ℕ)) → Holds self.now names → result ≡ is_among names name.now }
     {
         self.names.contains(name)
     }
 
-    fn add(&mut self, alloc: Global, name: &str) -> Result<(), NoMemory>
+    pub(crate) fn add(&mut self, alloc: Global, name: &str) -> Result<(), NoMemory>
         ensures { (names : ListOf (ListOf ℕ)) → Holds self.old names → OnOk result (Holds self.new (names ++ name.now ∷ [])) }
     {
         let name = String::from_str(alloc, name)?;
@@ -49,7 +49,7 @@ impl Scope {
 }
 
 /// What puts names into the scope of a message.
-trait Names {
+pub(crate) trait Names {
     ghost names: { Self → ListOf (ListOf ℕ) };
 
     fn add_names(&self, alloc: Global, scope: &mut Scope) -> Result<(), NoMemory>
@@ -57,7 +57,11 @@ trait Names {
 }
 
 /// Adds the names of each.
-fn add_all_names<T: Names>(alloc: Global, items: &[T], scope: &mut Scope) -> Result<(), NoMemory>
+pub(crate) fn add_all_names<T: Names>(
+    alloc: Global,
+    items: &[T],
+    scope: &mut Scope,
+) -> Result<(), NoMemory>
     ensures { (before : ListOf (ListOf ℕ)) → Holds scope.old before → OnOk result (Holds scope.new (before ++ flat_map T.names items.now)) }
 {
     'each: for item in items {
@@ -122,92 +126,4 @@ impl Names for Item<'_> {
             Item::Empty(_) | Item::Extensions(_) | Item::Reserved(_) | Item::Option(_) => Ok(()),
         }
     }
-}
-
-/// The two texts, one behind the other.
-fn joined(alloc: Global, front: &str, back: &str) -> Result<String, NoMemory>
-    ensures { IfOk result (λ t. string_bytes t ≡ front.now ++ back.now) }
-{
-    let mut text = String::from_str(alloc, front)?;
-    text.push_str(back)?;
-    Ok(text)
-}
-
-/// The name, with `X` put in front until it is none of the scope.
-fn free_name(alloc: Global, scope: &Scope, name: String) -> Result<String, NoMemory>
-    ensures { (names : ListOf (ListOf ℕ)) → Holds scope.now names → IfOk result (λ t. string_bytes t ≡ free_name_of names (string_bytes name)) }
-{
-    let mut free = name;
-    'tries: for turn in 0..scope.count {
-        if !scope.has(free.as_str()) {
-            return Ok(free);
-        }
-        free = joined(alloc, "X", free.as_str())?;
-    }
-    Ok(free)
-}
-
-/// A oneof of this name.
-#[tactic(auto, unfolding(crate::specs::Messages::oneof_record))]
-pub(crate) fn oneof_record(alloc: Global, name: &str) -> Result<OneofDescriptorProto, NoMemory>
-    ensures { IfOk result (λ it. it ≡ oneof_record_of name.now) }
-{
-    let name = Text::from_str(alloc, name)?;
-    let mut record = OneofDescriptorProto::new(alloc);
-    record.name = Some(name);
-    Ok(record)
-}
-
-/// Adds a oneof for each field of these names.
-fn add_synthetic(
-    alloc: Global,
-    names: &[&str],
-    scope: &mut Scope,
-    oneofs: &mut List<OneofDescriptorProto>,
-) -> Result<(), NoMemory>
-    ensures { (taken : ListOf (ListOf ℕ)) → Holds scope.old taken → OnOk result (oneofs.new ≡ oneofs.old ++ map oneof_record_of (synthetic_names taken (map (λ n. n.now) names.now))) }
-{
-    'each: for name in names {
-        let synthetic = free_name(alloc, scope, joined(alloc, "_", name)?)?;
-        scope.add(alloc, synthetic.as_str())?;
-        oneofs.add(oneof_record(alloc, synthetic.as_str())?)?;
-    }
-    Ok(())
-}
-
-/// The names of the fields that have synthetic oneofs.
-fn optional_names<'a>(
-    alloc: Global,
-    version: Version,
-    items: &'a [Item<'_>],
-) -> Result<Vec<&'a str>, NoMemory>
-    ensures { IfOk result (λ v. map (λ n. n.now) v.items ≡ flat_map (λ i. optional_names_in version (item_of i)) items.now) }
-{
-    let mut names = Vec::new(alloc);
-    'each: for item in items {
-        if let Item::Field(field) = item {
-            if is_proto3_optional(version, &field.label) {
-                names.push(field.tail.name.text)?;
-            }
-        }
-    }
-    Ok(names)
-}
-
-/// Adds the synthetic oneofs of a message.
-pub(crate) fn add_synthetic_oneofs(
-    alloc: Global,
-    version: Version,
-    items: &[Item<'_>],
-    oneofs: &mut List<OneofDescriptorProto>,
-) -> Result<(), NoMemory>
-    ensures { OnOk result (oneofs.new ≡ oneofs.old ++ map oneof_record_of (synthetic_names (flat_map names_in (map item_of items.now)) (flat_map (optional_names_in version) (map item_of items.now)))) }
-{
-    let names = optional_names(alloc, version, items)?;
-    if names.is_empty() {
-        return Ok(());
-    }
-    let mut scope = Scope::new(alloc);
-    add_all_names(alloc, items, &mut scope)?;
-    add_synthetic(alloc, names.as_slice(), &mut scope, oneofs)
 }

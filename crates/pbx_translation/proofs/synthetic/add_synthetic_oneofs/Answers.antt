@@ -4,10 +4,11 @@ use Rattle.std.proofs.lemmas.Grind.{common_steps}
 use Rattle.std.proofs.lemmas.List.{nil_from_length}
 use Rattle.std.proofs.lemmas.Result.{on_ok_weaker}
 use Rattle.pbx_tree.specs.View.{item_of}
-use Rattle.pbx_translation.specs.Messages.{oneof_record, optional_names_in, names_in, synthetic_names}
+use Rattle.pbx_translation.specs.Messages.{oneof_record, optional_names_in, names_in}
+use Rattle.pbx_translation.specs.Synthetic.{synthetic_names}
 use Rattle.pbx_translation.proofs.Lists.{flat_seen}
 use Rattle.pbx_translation.proofs.Taken.{synthetic_none}
-use Rattle.pbx_translation.proofs.scope.add_synthetic_oneofs.Goals as goal
+use Rattle.pbx_translation.proofs.synthetic.add_synthetic_oneofs.Goals as goal
 
 abbrev text_in : Bor (List ℕ) → List ℕ
 text_in n = n.now
