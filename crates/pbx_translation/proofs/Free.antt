@@ -1,23 +1,23 @@
 -- Names that are free.
-use Rattle.std.proofs.Common.{◌≡◌, ◌≢◌, ◌⊎◌, inl, inr, ℕ, zero, suc, ◌+◌, ◌<◌, ◌≤◌, List, [], ◌∷◌, ◌++◌, length, map, get_or, Bool, true, false, not, refl, sym, ap, ◌∙◌, arith, subst, length-append, append_assoc}
-use Rattle.std.proofs.Common.{if◌then◌else◌, cond, Option, Some, None, unwrap_or, Bor}
+use Rattle.std.proofs.Common.{◌≡◌, ◌≢◌, inl, inr, ℕ, zero, suc, ◌+◌, ◌<◌, ◌≤◌, List, [], ◌∷◌, ◌++◌, length, map, get_or, Bool, true, false, not, refl, sym, ap, ◌∙◌, arith, subst}
+use Rattle.std.proofs.Common.{if◌then◌else◌, cond, Option, Some, unwrap_or, Bor}
 use Rattle.std.specs.BTreeMap.{BTreeMap, get_by}
 use Rattle.std.specs.Cmp.Lexicographic.{slice_cmp}
 use Rattle.std.specs.Ordering.{nat_cmp}
 use Rattle.std.specs.Map.{update}
 use Rattle.pbx_translation.proofs.Taken.{among_more}
-use Rattle.std.specs.List.{IsDistinct, Contains, Any, AllPairs, range_with_len, repeat, position_or_len, list_any}
+use Rattle.std.specs.List.{IsDistinct, range_with_len}
 use Rattle.std.specs.Set.{is_member}
 use Rattle.std.specs.Str.{bytes_eq}
 use Rattle.std.proofs.lemmas.Cmp.{nat_list_eq_equiv}
 use Rattle.std.proofs.lemmas.Bool.{cases_lt, false_from_ne_true, not-true, not-false}
-use Rattle.std.proofs.lemmas.List.Folds.{Any-from_list_any, list_any_at}
+use Rattle.std.proofs.lemmas.List.Folds.{Any-from_list_any}
 use Rattle.std.proofs.lemmas.List.FromFn.{length-map-range_with_len, get_or-map-range_with_len, length-range_with_len, get_or-range_with_len}
 use Rattle.std.proofs.lemmas.List.Sums.{position_or_len_is, fails_before_first, passes_at_first, prefix_len-le-length}
 use Rattle.std.proofs.lemmas.Map.Made.{length-le_from_is_member}
 use Rattle.std.proofs.lemmas.Map.Keys.{IsDistinct-from_apart}
 use Rattle.std.proofs.lemmas.Slice.Eq.{bytes_eq-Decides}
-use Rattle.pbx_translation.specs.Synthetic.{is_among, name_with, fewest_x, free_name, synthetic_names}
+use Rattle.pbx_translation.specs.Synthetic.{is_among, name_with, fewest_x, free_name}
 use Rattle.pbx_translation.specs.Scope.{AreTaken, BeginsWell}
 
 -- ---- names by how many `X` they have
@@ -113,12 +113,15 @@ module _ (names : List (List ℕ)) (field : List ℕ) where
 
 -- ---- where searches begin
 
-more_taken : (names : List (List ℕ)) (name q : List ℕ) → is_among names q ≡ true → is_among (names ++ name ∷ []) q ≡ true
+pub more_taken : (names : List (List ℕ)) (name q : List ℕ) → is_among names q ≡ true → is_among (names ++ name ∷ []) q ≡ true
 more_taken names name q e = among_more names name q ∙ at (bytes_eq q name)
   where
     at : (b : Bool) → (if b then true else is_among names q) ≡ true
     at true = refl
     at false = e
+
+pub last_taken : (names : List (List ℕ)) (name : List ℕ) → is_among (names ++ name ∷ []) name ≡ true
+last_taken names name = among_more names name name ∙ ap (λ (b : Bool). if b then true else is_among names name) ((bytes_eq-Decides name name).1 refl)
 
 -- a search for the field's next name begins with the last name that was taken for it
 pub begins_after : (old new : BTreeMap (Bor (List ℕ)) ℕ) (names : List (List ℕ)) (field name : List ℕ) (x_count : ℕ)

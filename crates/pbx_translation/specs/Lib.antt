@@ -6,5 +6,6 @@ pub mod Enums
 pub mod Services
 pub mod Synthetic
 pub mod Messages
+pub mod Oneofs
 pub mod Scope
 pub mod Translation

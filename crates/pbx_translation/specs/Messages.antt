@@ -1,5 +1,5 @@
 -- Records of messages.
-use Rattle.std.specs.Prelude.{ℕ, zero, suc, ◌+◌, List, [], ◌∷◌, ◌++◌, map, length, Bool, Option, Some, None, pos, if◌then◌else◌}
+use Rattle.std.specs.Prelude.{ℕ, ◌+◌, List, [], ◌∷◌, ◌++◌, map, length, Option, Some, None, pos, if◌then◌else◌}
 use Rattle.std.specs.List.{flat_map}
 use Rattle.pbx_desc.specs.declared.enumeration.EnumDescriptorProto.{EnumDescriptorProto}
 use Rattle.pbx_desc.specs.declared.field.FieldDescriptorProto.{FieldDescriptorProto}
@@ -111,9 +111,17 @@ abbrev pub names_in : BodyItem → List (List ℕ)
 names_in (plain i) = item_names i
 names_in (nested h inner close) = h.name.text ∷ []
 
+-- the names in the scope of a message, those of its synthetic oneofs left out
+abbrev pub scope_names : List BodyItem → List (List ℕ)
+scope_names ps = flat_map names_in ps
+
+-- the names of the synthetic oneofs of a message, in the order of their fields
+abbrev pub synthetic_oneofs : Version → List BodyItem → List (List ℕ)
+synthetic_oneofs v ps = synthetic_names (scope_names ps) (flat_map (optional_names_in v) ps)
+
 -- the oneofs of a message: those that are written, and then the synthetic ones
 abbrev pub oneof_records : Version → List BodyItem → List OneofDescriptorProto
-oneof_records v ps = flat_map oneofs_in ps ++ map oneof_record (synthetic_names (flat_map names_in ps) (flat_map (optional_names_in v) ps))
+oneof_records v ps = flat_map oneofs_in ps ++ map oneof_record (synthetic_oneofs v ps)
 
 -- ---- fields
 

@@ -4,6 +4,7 @@
 mod enums;
 mod fields;
 mod file;
+mod laws;
 mod messages;
 mod passes;
 mod scope;
@@ -13,3 +14,4 @@ mod synthetic;
 mod texts;
 
 pub use file::translate;
+pub use laws::{indexes_name_own_oneofs, synthetic_names_are_free};

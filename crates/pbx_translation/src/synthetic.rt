@@ -5,7 +5,7 @@ ghost use Rattle.std.specs.List.{flat_map};
 ghost use Rattle.std.specs.Option.{option_to_list};
 ghost use Rattle.pbx_tree.specs.View.{item_of};
 ghost use Rattle.pbx_translation.specs.Synthetic.{name_with as name_with_of, fewest_x as fewest_x_of, free_name, synthetic_names};
-ghost use Rattle.pbx_translation.specs.Messages.{oneof_record as oneof_record_of, optional_names_in, names_in};
+ghost use Rattle.pbx_translation.specs.Messages.{oneof_record as oneof_record_of, optional_names_in, synthetic_oneofs};
 ghost use Rattle.pbx_translation.specs.Scope.{Holds, AreTaken, BeginsWell};
 
 use crate::fields::is_proto3_optional;
@@ -122,7 +122,7 @@ pub(crate) fn add_synthetic_oneofs(
     items: &[Item<'_>],
     oneofs: &mut List<OneofDescriptorProto>,
 ) -> Result<(), NoMemory>
-    ensures { OnOk result (oneofs.new ≡ oneofs.old ++ map oneof_record_of (synthetic_names (flat_map names_in (map item_of items.now)) (flat_map (optional_names_in version) (map item_of items.now)))) }
+    ensures { OnOk result (oneofs.new ≡ oneofs.old ++ map oneof_record_of (synthetic_oneofs version (map item_of items.now))) }
 {
     let names = optional_names(alloc, version, items)?;
     if names.is_empty() {

@@ -1,7 +1,6 @@
-use Rattle.std.proofs.Common.{◌≡◌, ◌∙◌, ◌++◌, ◌∷◌, [], ℕ, List, Bor, get_or, sym, ap, string_bytes}
+use Rattle.std.proofs.Common.{◌≡◌, ◌∙◌, ◌++◌, ◌∷◌, [], ℕ, List, Bor, get_or, ap, string_bytes}
 use Rattle.std.proofs.lemmas.List.{get_or_default}
 use Rattle.pbx_translation.specs.Messages.{oneof_record}
-use Rattle.pbx_translation.specs.Synthetic.{free_name}
 use Rattle.pbx_translation.proofs.Taken.{synthetic_goes_on, synthetic_all}
 use Rattle.pbx_translation.proofs.synthetic.add_synthetic.Goals as goal
 

@@ -1,4 +1,4 @@
-use Rattle.std.proofs.Common.{Option, unwrap_or, ◌≡◌, ◌∙◌, ◌++◌, ◌∷◌, [], ℕ, List, Some, sym, ap, subst, string_bytes}
+use Rattle.std.proofs.Common.{Option, unwrap_or, ◌≡◌, ◌∙◌, ◌++◌, ◌∷◌, [], ℕ, Some, sym, ap, subst, string_bytes}
 use Rattle.std.proofs.lemmas.Map.Text.{btree_map_updates_str}
 use Rattle.pbx_translation.specs.Synthetic.{name_with, fewest_x}
 use Rattle.pbx_translation.specs.Scope.{Holds, AreTaken, begins_with}
