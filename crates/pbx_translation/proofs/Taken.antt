@@ -1,5 +1,5 @@
 -- The names in the scope of a message, and those that are free.
-use Rattle.std.proofs.Common.{◌≡◌, ℕ, suc, ◌+◌, ◌<◌, ◌≤◌, List, [], ◌∷◌, ◌++◌, length, map, take, drop, get_or, Bool, true, false, ◌||◌, if◌then◌else◌, refl, sym, ap, ◌∙◌, append_assoc, append-nil}
+use Rattle.std.proofs.Common.{◌≡◌, ℕ, ◌+◌, ◌<◌, ◌≤◌, List, [], ◌∷◌, ◌++◌, length, map, take, drop, get_or, Bool, true, false, ◌||◌, if◌then◌else◌, refl, sym, ap, ◌∙◌, append_assoc, append-nil}
 use Rattle.std.specs.List.{flat_map}
 use Rattle.std.specs.Str.{bytes_eq}
 use Rattle.std.proofs.lemmas.Bool.Decides.{same_from_decides}
@@ -48,10 +48,8 @@ taken_more {X} f xs i x before below is =
     ∙ ap (λ ys. before ++ flat_map f ys) (sym (take_more xs i x below))
 
 -- a name, and then those of the parts
-pub parts_named : {A B : Type 0} (f : B → List (List ℕ)) (view : A → B) (before : List (List ℕ)) (name : List ℕ) (seen all : List A) → seen ≡ all → (before ++ name ∷ []) ++ flat_map (λ x. f (view x)) seen ≡ before ++ name ∷ flat_map f (map view all)
-parts_named f view before name seen all e =
-    append_assoc before (name ∷ []) (flat_map (λ x. f (view x)) seen)
-    ∙ ap (λ ys. before ++ name ∷ ys) (ap (flat_map (λ x. f (view x))) e ∙ flat_seen f view all)
+pub parts_named : {A B : Type 0} (f : B → List (List ℕ)) (view : A → B) (before : List (List ℕ)) (name : List ℕ) (seen all : List A) → seen ≡ all → before ++ name ∷ flat_map (λ x. f (view x)) seen ≡ before ++ name ∷ flat_map f (map view all)
+parts_named f view before name seen all e = ap (λ ys. before ++ name ∷ ys) (ap (flat_map (λ x. f (view x))) e ∙ flat_seen f view all)
 
 module _ {A : Type 0} (view : A → List ℕ) (xs : List A) (i : ℕ) where
   -- one more synthetic oneof

@@ -3,6 +3,7 @@
 ghost use Rattle.std.specs.Prelude.{◌≡◌, ◌++◌, ◌∷◌, [], ℕ, List as ListOf, OnOk};
 ghost use Rattle.std.specs.List.{flat_map};
 ghost use Rattle.pbx_tree.specs.View.{member_of, extension_of, enum_item_of, item_of};
+ghost use Rattle.pbx_translation.specs.Texts.{entry_name as entry_name_of};
 ghost use Rattle.pbx_translation.specs.Synthetic.{is_among};
 ghost use Rattle.pbx_translation.specs.Messages.{member_names, value_names, extension_names, names_in};
 ghost use Rattle.pbx_translation.specs.Scope.{Holds};
@@ -70,6 +71,27 @@ pub(crate) fn add_all_names<T: Names>(
     Ok(())
 }
 
+/// Adds the name, and then the names of each of the parts.
+fn add_with_parts<T: Names>(
+    alloc: Global,
+    name: &str,
+    parts: &[T],
+    scope: &mut Scope,
+) -> Result<(), NoMemory>
+    ensures { (before : ListOf (ListOf ℕ)) → Holds scope.old before → OnOk result (Holds scope.new (before ++ name.now ∷ flat_map T.names parts.now)) }
+{
+    scope.add(alloc, name)?;
+    add_all_names(alloc, parts, scope)
+}
+
+/// Adds the names of a map field and of its entry.
+fn add_map_names(alloc: Global, name: &str, scope: &mut Scope) -> Result<(), NoMemory>
+    ensures { (before : ListOf (ListOf ℕ)) → Holds scope.old before → OnOk result (Holds scope.new (before ++ name.now ∷ entry_name_of name.now ∷ [])) }
+{
+    scope.add(alloc, name)?;
+    scope.add(alloc, entry_name(alloc, name)?.as_str())
+}
+
 impl Names for Member<'_> {
     ghost names = { λ member. member_names (member_of member) };
 
@@ -109,19 +131,12 @@ impl Names for Item<'_> {
     fn add_names(&self, alloc: Global, scope: &mut Scope) -> Result<(), NoMemory> {
         match self {
             Item::Field(field) => scope.add(alloc, field.tail.name.text),
-            Item::Map(map) => {
-                scope.add(alloc, map.tail.name.text)?;
-                scope.add(alloc, entry_name(alloc, map.tail.name.text)?.as_str())
-            }
+            Item::Map(map) => add_map_names(alloc, map.tail.name.text, scope),
             Item::Oneof(oneof) => {
-                scope.add(alloc, oneof.name.text)?;
-                add_all_names(alloc, oneof.members.as_slice(), scope)
+                add_with_parts(alloc, oneof.name.text, oneof.members.as_slice(), scope)
             }
             Item::Message(head, _, _) => scope.add(alloc, head.name.text),
-            Item::Enum(item) => {
-                scope.add(alloc, item.name.text)?;
-                add_all_names(alloc, item.items.as_slice(), scope)
-            }
+            Item::Enum(item) => add_with_parts(alloc, item.name.text, item.items.as_slice(), scope),
             Item::Extend(extend) => add_all_names(alloc, extend.extensions.as_slice(), scope),
             Item::Empty(_) | Item::Extensions(_) | Item::Reserved(_) | Item::Option(_) => Ok(()),
         }
