@@ -1,6 +1,9 @@
 pub mod Lists
 pub mod Camel
 pub mod Taken
+pub mod Free
+pub mod Own
+pub mod Indexes
 pub mod Counted
 pub mod Placed
 pub mod Strings

@@ -3,7 +3,7 @@ use Rattle.std.specs.List.{flat_map, filter_map}
 use Rattle.pbx_tree.specs.declared.tree.Modifier.TheVariants as modifiers
 use Rattle.pbx_tree.specs.declared.options.OptionPlace.TheVariants as places
 use Rattle.pbx_tree.specs.Conditions.{packages, top_setting}
-use Rattle.pbx_tree.specs.View.{import_of, top_of, file_of}
+use Rattle.pbx_tree.specs.View.{top_of, file_of}
 use Rattle.pbx_translation.specs.Settings.{options_of}
 use Rattle.pbx_translation.specs.Translation.{imports_in, messages_in, extensions_in, import_name, indexes_from, syntax_name, package_name}
 use Rattle.pbx_translation.proofs.WholeFile.{file_made}

@@ -2,7 +2,7 @@ use Rattle.std.proofs.Common.{◌≡◌, ◌++◌, drop, map}
 use Rattle.std.specs.List.{flat_map}
 use Rattle.pbx_tree.specs.View.{item_of}
 use Rattle.pbx_translation.specs.Messages.{optional_names_in}
-use Rattle.pbx_translation.proofs.scope.optional_names.Given as goal
+use Rattle.pbx_translation.proofs.synthetic.optional_names.Given as goal
 
 abbrev pub invariant-each : goal.invariant-each
 invariant-each l =
