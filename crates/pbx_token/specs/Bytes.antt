@@ -23,7 +23,8 @@ is_start b = (nat_le 65 b && nat_le b 90) || (nat_le 97 b && nat_le b 122) || (b
 
 -- ; { } [ ] ( ) < > = , . -
 abbrev pub is_mark : ℕ → Bool
-is_mark b = (b == 59) || (b == 123) || (b == 125) || (b == 91) || (b == 93) || (b == 40) || (b == 41) || (b == 60) || (b == 62) || (b == 61) || (b == 44) || (b == 46) || (b == 45)
+is_mark b = (b == 59) || (b == 123) || (b == 125) || (b == 91) || (b == 93) || (b == 40) || (b == 41)
+    || (b == 60) || (b == 62) || (b == 61) || (b == 44) || (b == 46) || (b == 45)
 
 -- the value of a hexadecimal digit, and 99 for any other byte
 abbrev pub digit_of : ℕ → ℕ
@@ -42,7 +43,8 @@ is_break b = (b == 10) || (b == 0)
 
 -- what a byte begins
 abbrev pub first_class_of : ℕ → Class
-first_class_of b = if is_blank b then classes.Blank else (if is_start b then classes.Identifier else (if is_digit b then classes.Number else (if (b == 34) || (b == 39) then classes.Quote else (if is_mark b then classes.Mark else classes.Bad))))
+first_class_of b = if is_blank b then classes.Blank else (if is_start b then classes.Identifier else (if is_digit b then classes.Number
+    else (if (b == 34) || (b == 39) then classes.Quote else (if is_mark b then classes.Mark else classes.Bad))))
 
 -- what two bytes begin: `//` and `/*` begin comments
 abbrev pub class_with : ℕ → List ℕ → Class

@@ -40,7 +40,7 @@ class_of_piece (number t n) = classes.Number
 class_of_piece (quoted q t) = classes.Quote
 class_of_piece (sign b) = classes.Mark
 
--- No `*/` begins in the text of a comment, which one follows.
+-- The `*/` behind the text of a comment is the first: none begins in the text.
 abbrev pub HasNoEnd : List ℕ → Type 0
 HasNoEnd text = (front back : List ℕ) → text ++ (42 ∷ []) ≢ front ++ (42 ∷ 47 ∷ back)
 

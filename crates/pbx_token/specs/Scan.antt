@@ -18,7 +18,8 @@ use Rattle.pbx_token.specs.Pieces.{Piece, blank, line, block, name, number, quot
 -- the value of digits after a front of that value
 unfoldable pub digits_from : ℕ → ℕ → List ℕ → Option ℕ
 digits_from base n [] = Some n
-digits_from base n (b ∷ bs) = if nat_lt (digit_of b) base && nat_lt (n * base + digit_of b) (2 ^ 64) then digits_from base (n * base + digit_of b) bs else None
+digits_from base n (b ∷ bs) = if nat_lt (digit_of b) base && nat_lt (n * base + digit_of b) (2 ^ 64)
+    then digits_from base (n * base + digit_of b) bs else None
 
 abbrev pub hexadecimal : List ℕ → Option ℕ
 hexadecimal [] = None
@@ -141,6 +142,10 @@ unfoldable pub ends_after : Bool → List Token → Bool
 ends_after before [] = false
 ends_after before (t ∷ []) = before && is_semicolon t.word
 ends_after before (t ∷ u ∷ us) = ends_after (is_semicolon t.word) (u ∷ us)
+
+-- no `;` among them stands between two
+abbrev pub AllStay : List Token → Type 0
+AllStay tokens = significant tokens ≡ tokens
 
 -- once a token with this word is added, if there is one, to those that are kept, the same is significant, whatever follows
 abbrev pub Keeps : List Token → Option Word → Place → Place → List Token → Type 0

@@ -152,5 +152,5 @@ pub fn stands_for(text: &str, bytes: &[u8]) -> bool
 
 /// A string stands for the values of its characters.
 pub fn stands_for_values()
-    ensures { (quote : ℕ) (characters : List Character) → AreCharacters quote characters → unescaped (characters_text characters) ≡ map value_of characters }
+    ensures { (quote : ℕ) (all : List Character) → AreCharacters quote all → unescaped (characters_text all) ≡ map value_of all }
 {}

@@ -4,8 +4,13 @@ ghost use Rattle.std.specs.Prelude.{◌≡◌, ◌<◌, ◌^◌, ◌++◌, ◌&&
 ghost use Rattle.std.specs.Str.{IsUtf8};
 ghost use Rattle.pbx_token.specs.Tokens as tokens;
 ghost use Rattle.pbx_token.specs.Pieces.{tokens_from, origin, is_semicolon, significant, Lexes};
+<<<<<<< HEAD
 ghost use Rattle.pbx_token.specs.Scan.{pieces_at, Gives, ends_after, Keeps};
 ghost use Rattle.pbx_token.specs.View.{ReadsAs, IsWithin, IsStart, BeginIn, tokens_of, word_of};
+=======
+ghost use Rattle.pbx_token.specs.Scan.{pieces_at, Gives, ends_after, AllStay, Keeps};
+ghost use Rattle.pbx_token.specs.View.{ReadsAs, IsWithin, tokens_of, word_of};
+>>>>>>> ab9407b666d3a6ac97f255dc2cf8edb389305c87
 
 use crate::piece::{LexError, piece};
 use crate::token::{Place, Span, Token, Word, after};
@@ -18,7 +23,6 @@ fn is_semicolon(word: Word<'_>) -> bool
 }
 
 /// Whether the last two tokens are `;`.
-#[tactic(auto, unfolding(crate::specs::Scan::ends_after))]
 fn end_in_semicolons(tokens: &[Token<'_>]) -> bool
     ensures { result ≡ ends_after false (tokens_of tokens.now) }
 {
@@ -44,8 +48,12 @@ fn add<'a>(
     left: u32,
 ) -> Result<(), AllocError>
     ensures same { OnOk result (Keeps (tokens_of tokens.old.items) (option_map word_of word.entry) from to (tokens_of tokens.new.items)) }
+<<<<<<< HEAD
     ensures stays { OnOk result (significant (tokens_of tokens.old.items) ≡ tokens_of tokens.old.items → significant (tokens_of tokens.new.items) ≡ tokens_of tokens.new.items) }
     ensures starts { (source : List ℕ) → IsStart source left → BeginIn source tokens.old.items → OnOk result (BeginIn source tokens.new.items) }
+=======
+    ensures stays { OnOk result (AllStay (tokens_of tokens.old.items) → AllStay (tokens_of tokens.new.items)) }
+>>>>>>> ab9407b666d3a6ac97f255dc2cf8edb389305c87
 {
     let Some(word) = word else {
         return Ok(());
@@ -87,6 +95,8 @@ fn all<'a>(alloc: Global, source: &'a [u8]) -> Result<Vec<Token<'a>>, LexError>
 
 /// The tokens of a source, in order, which borrow from it.
 ///
+/// Of `;` one after another the first and the last are tokens, so many of them take no memory.
+///
 /// A byte that begins no token, a number that is not followed as it must be, a comment or a string that does
 /// not end is a `Fault`; want of memory is `NoMemory`.
 pub fn lex(alloc: Global, source: &str) -> Result<Vec<Token<'_>>, LexError>
@@ -95,9 +105,13 @@ pub fn lex(alloc: Global, source: &str) -> Result<Vec<Token<'_>>, LexError>
     ensures found { IfOk result (λ x. Lexes source.now (tokens_of x.items)) }
     // Its tokens are given, unless memory runs out.
     ensures only { (ts : List tokens.Token) → Lexes source.now ts → ReadsAs (λ x. tokens_of x.items) ts result }
+<<<<<<< HEAD
     // Each begins with as many bytes left as it says, between two characters.
     ensures starts { IfOk result (λ x. BeginIn source.now x.items) }
     // A fault lies between two characters of it.
+=======
+    // A fault lies between two characters of the source.
+>>>>>>> ab9407b666d3a6ac97f255dc2cf8edb389305c87
     ensures fault { IfErr result (λ e. IsWithin source.now e) }
 {
     all(alloc, source.as_bytes())

@@ -4,7 +4,7 @@ ghost use Rattle.std.specs.Prelude.{◌≡◌, ◌≤◌, ◌<◌, ◌+◌, leng
 ghost use Rattle.std.specs.List.{prefix_len};
 ghost use Rattle.std.specs.Str.{IsUtf8};
 ghost use Rattle.pbx_token.specs.Bytes.{passes, class_of, first_class_of, is_break};
-ghost use Rattle.pbx_token.specs.Scan.{block_end, begins_slash, quoted_end, piece_at, quoted_at, Gives, kept};
+ghost use Rattle.pbx_token.specs.Scan.{block_end, begins_slash, quoted_end, piece_at, piece_by, quoted_at, Gives, kept};
 ghost use Rattle.pbx_token.specs.View.{IsCut, IsWithin, word_of};
 ghost use Rattle.pbx_token.specs.declared.piece.LexError.TheVariants.{NoMemory};
 
@@ -242,6 +242,37 @@ fn quoted(bytes: &[u8]) -> Result<(Option<Word<'_>>, &[u8]), LexError>
     Ok((Some(Word::Str(text_of(&text[..n]))), &text[n + 1..]))
 }
 
+/// What follows the comment over lines that begins at the front.
+fn block(bytes: &[u8]) -> Result<(Option<Word<'_>>, &[u8]), LexError>
+    requires { IsUtf8 bytes.now }
+    ensures read { Gives (λ x. (option_map word_of x.0, x.1.now)) (kept (piece_by Class.Block bytes.now)) result }
+    ensures shorter { IfOk result (λ x. length x.1.now < length bytes.now) }
+    ensures fault { IfErr result (λ e. IsWithin bytes.now e) }
+{
+    let text = bytes.get(2..).unwrap_or(&[]);
+    match block_len(text) {
+        None => Err(LexError::Fault {
+            left: 0,
+            begun: bytes.len(),
+            fault: Fault::CommentEnd,
+        }),
+        Some(n) => Ok((None, &text[n + 2..])),
+    }
+}
+
+/// The integer at the front, and what follows it.
+fn integer(bytes: &[u8]) -> Result<(Option<Word<'_>>, &[u8]), LexError>
+    ensures read { Gives (λ x. (option_map word_of x.0, x.1.now)) (kept (piece_by Class.Number bytes.now)) result }
+    ensures shorter { IfOk result (λ x. length x.1.now < length bytes.now) }
+    ensures fault { IfErr result (λ e. IsWithin bytes.now e) }
+{
+    let n = run_len(bytes, Run::Number);
+    match int_of(&bytes[..n]) {
+        None => Err(LexError::at(bytes, Fault::Integer)),
+        Some(value) => Ok((Some(Word::Int(value)), &bytes[n..])),
+    }
+}
+
 /// The piece at the front: its word, if it is a token, and what follows it.
 #[tactic(auto, unfolding(crate::specs::Scan::piece_at))]
 pub fn piece(bytes: &[u8]) -> Result<(Option<Word<'_>>, &[u8]), LexError>
@@ -264,28 +295,12 @@ pub fn piece(bytes: &[u8]) -> Result<(Option<Word<'_>>, &[u8]), LexError>
             let text = bytes.get(2..).unwrap_or(&[]);
             Ok((None, &text[run_len(text, Run::Line)..]))
         }
-        Class::Block => {
-            let text = bytes.get(2..).unwrap_or(&[]);
-            match block_len(text) {
-                None => Err(LexError::Fault {
-                    left: 0,
-                    begun: bytes.len(),
-                    fault: Fault::CommentEnd,
-                }),
-                Some(n) => Ok((None, &text[n + 2..])),
-            }
-        }
+        Class::Block => block(bytes),
         Class::Identifier => {
             let (text, rest) = identifier_at(bytes);
             Ok((Some(Word::Ident(text)), rest))
         }
-        Class::Number => {
-            let n = run_len(bytes, Run::Number);
-            match int_of(&bytes[..n]) {
-                None => Err(LexError::at(bytes, Fault::Integer)),
-                Some(value) => Ok((Some(Word::Int(value)), &bytes[n..])),
-            }
-        }
+        Class::Number => integer(bytes),
         Class::Quote => quoted(bytes),
     }
 }

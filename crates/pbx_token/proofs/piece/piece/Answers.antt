@@ -3,7 +3,6 @@ use Rattle.std.specs.List.{prefix_len}
 use Rattle.std.proofs.lemmas.List.Sums.{prefix_len-le-length}
 use Rattle.pbx_token.specs.declared.run.Run.TheVariants as runs
 use Rattle.pbx_token.specs.Bytes.{passes}
-use Rattle.pbx_token.proofs.Faults.{in_comment}
 use Rattle.pbx_token.proofs.Laws.{identifier_runs}
 use Rattle.pbx_token.proofs.piece.piece.Goals as goal
 
@@ -12,6 +11,3 @@ returns-in-Identifier-clause-shorter c =
     let bytes = c.args.bytes.now in
     let n = prefix_len (passes runs.Identifier) bytes in
     omega (arith, ap length c.identifier_at.ensures.rest, identifier_runs bytes (sym c.in-Identifier.ensures), length-drop n bytes, prefix_len-le-length (passes runs.Identifier) bytes)
-
-pub returns-in-None-clause-fault : goal.returns-in-None-clause-fault
-returns-in-None-clause-fault c = in_comment c.args.bytes.now c.requires
