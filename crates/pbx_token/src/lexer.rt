@@ -4,13 +4,8 @@ ghost use Rattle.std.specs.Prelude.{◌≡◌, ◌<◌, ◌^◌, ◌++◌, ◌&&
 ghost use Rattle.std.specs.Str.{IsUtf8};
 ghost use Rattle.pbx_token.specs.Tokens as tokens;
 ghost use Rattle.pbx_token.specs.Pieces.{tokens_from, origin, is_semicolon, significant, Lexes};
-<<<<<<< HEAD
-ghost use Rattle.pbx_token.specs.Scan.{pieces_at, Gives, ends_after, Keeps};
-ghost use Rattle.pbx_token.specs.View.{ReadsAs, IsWithin, IsStart, BeginIn, tokens_of, word_of};
-=======
 ghost use Rattle.pbx_token.specs.Scan.{pieces_at, Gives, ends_after, AllStay, Keeps};
-ghost use Rattle.pbx_token.specs.View.{ReadsAs, IsWithin, tokens_of, word_of};
->>>>>>> ab9407b666d3a6ac97f255dc2cf8edb389305c87
+ghost use Rattle.pbx_token.specs.View.{ReadsAs, IsWithin, IsStart, BeginIn, tokens_of, word_of};
 
 use crate::piece::{LexError, piece};
 use crate::token::{Place, Span, Token, Word, after};
@@ -48,12 +43,8 @@ fn add<'a>(
     left: u32,
 ) -> Result<(), AllocError>
     ensures same { OnOk result (Keeps (tokens_of tokens.old.items) (option_map word_of word.entry) from to (tokens_of tokens.new.items)) }
-<<<<<<< HEAD
-    ensures stays { OnOk result (significant (tokens_of tokens.old.items) ≡ tokens_of tokens.old.items → significant (tokens_of tokens.new.items) ≡ tokens_of tokens.new.items) }
-    ensures starts { (source : List ℕ) → IsStart source left → BeginIn source tokens.old.items → OnOk result (BeginIn source tokens.new.items) }
-=======
     ensures stays { OnOk result (AllStay (tokens_of tokens.old.items) → AllStay (tokens_of tokens.new.items)) }
->>>>>>> ab9407b666d3a6ac97f255dc2cf8edb389305c87
+    ensures starts { (source : List ℕ) → IsStart source left → BeginIn source tokens.old.items → OnOk result (BeginIn source tokens.new.items) }
 {
     let Some(word) = word else {
         return Ok(());
@@ -105,13 +96,9 @@ pub fn lex(alloc: Global, source: &str) -> Result<Vec<Token<'_>>, LexError>
     ensures found { IfOk result (λ x. Lexes source.now (tokens_of x.items)) }
     // Its tokens are given, unless memory runs out.
     ensures only { (ts : List tokens.Token) → Lexes source.now ts → ReadsAs (λ x. tokens_of x.items) ts result }
-<<<<<<< HEAD
-    // Each begins with as many bytes left as it says, between two characters.
+    // Each begins with as many bytes of the source left as it says, between two characters.
     ensures starts { IfOk result (λ x. BeginIn source.now x.items) }
-    // A fault lies between two characters of it.
-=======
     // A fault lies between two characters of the source.
->>>>>>> ab9407b666d3a6ac97f255dc2cf8edb389305c87
     ensures fault { IfErr result (λ e. IsWithin source.now e) }
 {
     all(alloc, source.as_bytes())
