@@ -10,4 +10,3 @@ pub mod Strings
 pub mod ItemForms
 pub mod Steps
 pub mod Whole
-pub mod WholeFile

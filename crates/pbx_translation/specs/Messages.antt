@@ -135,7 +135,8 @@ fields_in v written synthetic _ = []
 -- the fields of these items
 unfoldable pub fields_from : Version → ℕ → ℕ → List BodyItem → List FieldDescriptorProto
 fields_from v written synthetic [] = []
-fields_from v written synthetic (p ∷ ps) = fields_in v written synthetic p ++ fields_from v (written + length (oneofs_in p)) (synthetic + length (optional_names_in v p)) ps
+fields_from v written synthetic (p ∷ ps) =
+    fields_in v written synthetic p ++ fields_from v (written + length (oneofs_in p)) (synthetic + length (optional_names_in v p)) ps
 
 -- the fields of a message: oneofs are counted from 0, and the synthetic ones stand behind all that are written
 abbrev pub fields_of : Version → List BodyItem → List FieldDescriptorProto
