@@ -1,10 +1,11 @@
 //! Records of services.
 
-ghost use Rattle.std.specs.Prelude.{◌≡◌, map, IfOk};
+ghost use Rattle.std.specs.Prelude.{◌≡◌, Some, map, IfOk, OnOk};
 ghost use Rattle.std.specs.List.{filter_map};
 ghost use Rattle.pbx_tree.specs.declared.options.OptionPlace.TheVariants as places;
 ghost use Rattle.pbx_tree.specs.Conditions.{service_setting};
 ghost use Rattle.pbx_tree.specs.View.{setting_of, method_end_of, method_of, service_item_of, service_of};
+ghost use Rattle.pbx_translation.specs.Texts.{type_text as type_text_of};
 ghost use Rattle.pbx_translation.specs.Settings.{options_of};
 ghost use Rattle.pbx_translation.specs.Services.{streaming as streaming_of, method_settings as method_settings_of, method_record as method_record_of, method_records, service_record as service_record_of};
 
@@ -48,19 +49,37 @@ fn method_options(alloc: Global, end: &MethodEnd<'_>) -> Result<Option<Options>,
     options(alloc, OptionPlace::Method, settings.as_slice())
 }
 
+/// Adds what takes memory.
+fn add_method_parts(
+    alloc: Global,
+    method: &Method<'_>,
+    parts: &mut MethodDescriptorProto,
+) -> Result<(), NoMemory>
+    ensures { OnOk result (parts.new ≡ record parts.old {
+      name = Some (method_of method.now).name.text;
+      input_type = Some (type_text_of (method_of method.now).input.name);
+      output_type = Some (type_text_of (method_of method.now).output.name);
+      options = options_of places.Method (method_settings_of (method_of method.now).end);
+    }) }
+{
+    parts.name = Some(Text::from_str(alloc, method.name.text)?);
+    parts.input_type = Some(type_text(alloc, &method.input.name)?);
+    parts.output_type = Some(type_text(alloc, &method.output.name)?);
+    parts.options = method_options(alloc, &method.end)?;
+    Ok(())
+}
+
 #[tactic(auto, unfolding(crate::specs::Services::method_record))]
 fn method_record(alloc: Global, method: &Method<'_>) -> Result<MethodDescriptorProto, NoMemory>
     ensures { IfOk result (λ it. it ≡ method_record_of (method_of method.now)) }
 {
-    Ok(MethodDescriptorProto {
-        name: Some(Text::from_str(alloc, method.name.text)?),
-        input_type: Some(type_text(alloc, &method.input.name)?),
-        output_type: Some(type_text(alloc, &method.output.name)?),
-        options: method_options(alloc, &method.end)?,
-        client_streaming: streaming(method.input.stream),
-        server_streaming: streaming(method.output.stream),
-        unknown: Recs::new(alloc),
-    })
+    let mut parts = MethodDescriptorProto::new(alloc);
+    parts.client_streaming = streaming(method.input.stream);
+    parts.server_streaming = streaming(method.output.stream);
+    match add_method_parts(alloc, method, &mut parts) {
+        Ok(()) => Ok(parts),
+        Err(error) => Err(error),
+    }
 }
 
 impl Gives<MethodDescriptorProto> for ServiceItem<'_> {
