@@ -1,6 +1,5 @@
 -- What productions begin with.
 use Rattle.std.proofs.Common.{◌≡◌, ℕ, List, [], ◌∷◌, Bool, true, false, not, ◌&&◌, Option, Some, None, codes, refl, sym, ap, ◌∙◌}
-use Rattle.std.proofs.lemmas.Bool.{false≢true}
 use Rattle.std.specs.List.{list_all}
 use Rattle.pbx_token.specs.declared.token.Span.{Span}
 use Rattle.pbx_token.specs.Tokens.{Token}
@@ -112,10 +111,6 @@ tops_begin (top_enum e ∷ ts) = refl
 tops_begin (top_extend e ∷ ts) = refl
 tops_begin (top_service s ∷ ts) = refl
 tops_begin (top_option s ∷ ts) = refl
-
-pub end_of_file : (ts : List Token) → ends_file ts ≡ true → ts ≡ []
-end_of_file [] e = refl
-end_of_file (t ∷ ts) e = absurd (false≢true e)
 
 -- ---- enums
 

@@ -2,10 +2,11 @@
 use Rattle.std.specs.Prelude.{ℕ, zero, suc, List, ◌∷◌, Bool, false, ◌&&◌}
 use Rattle.pbx_token.specs.Tokens.{Token}
 use Rattle.pbx_tree.specs.declared.tree.Version.{Version}
-use Rattle.pbx_tree.specs.Tree.{Body}
+use Rattle.pbx_tree.specs.Tree.{Setting, Body}
 use Rattle.pbx_tree.specs.Grammar.{marked, item_then, head_then, body_then}
-use Rattle.pbx_tree.specs.Conditions.{item_fits, body_fits, message_options_fit}
+use Rattle.pbx_tree.specs.Conditions.{body_fits, message_options_fit}
 use Rattle.pbx_tree.specs.View.{BodyItem, plain, nested}
+use Rattle.pbx_reader.specs.Blocks.{item_behind}
 
 -- the tokens of an item, and then the rest
 abbrev pub body_item_then : BodyItem → List Token → List Token
@@ -16,8 +17,8 @@ body_item_then (nested h inner close) rest = head_then h (body_then inner (marke
 abbrev pub message_fits : Version → ℕ → Body → Bool
 message_fits v levels b = body_fits v levels b && message_options_fit b
 
--- an item fits where messages nest at most so many levels
-abbrev pub body_item_fits : Version → ℕ → BodyItem → Bool
-body_item_fits v levels (plain i) = item_fits v i
-body_item_fits v zero (nested h inner close) = false
-body_item_fits v (suc levels) (nested h inner close) = message_fits v levels inner
+-- an item may stand behind these options, where messages nest at most so many levels
+abbrev pub body_item_behind : Version → ℕ → List Setting → BodyItem → Bool
+body_item_behind v levels before (plain i) = item_behind v before i
+body_item_behind v zero before (nested h inner close) = false
+body_item_behind v (suc levels) before (nested h inner close) = message_fits v levels inner

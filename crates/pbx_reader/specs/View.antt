@@ -131,8 +131,3 @@ Reaches view y rest (Err e) after = FailsNot e
 abbrev pub ReadsAs : {X Y : Type 0} → (X → Y) → Y → Result X ReadError → Type 0
 ReadsAs view y (Ok x) = view x ≡ y
 ReadsAs view y (Err e) = FailsNot e
-
--- nothing, exactly where the test holds, unless memory ran out
-abbrev pub Passes : Bool → Result Unit ReadError → Type 0
-Passes b (Ok u) = b ≡ true
-Passes b (Err e) = b ≡ true → FailsNot e

@@ -6,8 +6,6 @@ ghost use Rattle.std.specs.Prelude.{◌≡◌, ◌∷◌, ◌+◌, [], List, ℕ
 ghost use Rattle.pbx_token.specs.Tokens as tokens;
 ghost use Rattle.pbx_token.specs.declared.token.Span.{Span};
 ghost use Rattle.pbx_token.specs.View.{token_of};
-ghost use Rattle.pbx_token.specs.Escapes.{unescaped};
-ghost use Rattle.std.specs.Str.{is_utf8};
 ghost use Rattle.pbx_tree.specs.Tree as tree;
 ghost use Rattle.pbx_tree.specs.Grammar.{marked, worded, named, quoted, counted, mark_then, word_then, number_then};
 ghost use Rattle.pbx_tree.specs.Conditions.{is_text as text_fits_of, is_field_number, is_range_number, is_enum_number};
@@ -15,7 +13,7 @@ ghost use Rattle.pbx_tree.specs.View.{name_of, literal_of, field_number_of, rang
 ghost use Rattle.pbx_reader.specs.View.{left, sees_mark, sees_word, sees_both, sees_without, word_follows, tail, ends_block, sees_string, sees_number, sees_type, number, Reaches};
 
 use crate::error::ReadError;
-use pbx_token::{Span, Token, Word, stands_for_text};
+use pbx_token::{Span, Token, Word};
 use pbx_tree::{EnumNumber, Expected, FieldNumber, Literal, Name, Number, RangeNumber, text_fits};
 
 /// Tokens, of which those before `at` have been read.
@@ -23,13 +21,6 @@ use pbx_tree::{EnumNumber, Expected, FieldNumber, Literal, Name, Number, RangeNu
 pub struct Cursor<'s, 'a> {
     pub tokens: &'s [Token<'a>],
     pub at: usize,
-}
-
-/// Whether what the string stands for is UTF-8.
-fn is_text(text: &str) -> bool
-    ensures { result ≡ is_utf8 (unescaped text.now) }
-{
-    stands_for_text(text)
 }
 
 /// The greatest number that gives an `i32` with this sign.
@@ -191,6 +182,20 @@ impl<'s, 'a> Cursor<'s, 'a> {
         self.mark_or(wanted, Expected::Mark(wanted))
     }
 
+    /// The mark; where the other mark is next instead, this is told.
+    pub fn mark_unless(&mut self, wanted: u8, other: u8, told: Expected) -> Result<Span, ReadError>
+        ensures found { IfOk result (λ s. left self.old ≡ marked wanted s ∷ left self.new) }
+        ensures only { (s : Span) (rest : List tokens.Token) → left self.old ≡ marked wanted s ∷ rest → Reaches (λ x. x) s rest result (left self.new) }
+        ensures shorter { OnOk result (length (left self.new) < length (left self.old)) }
+    {
+        let expected = if self.sees(other) {
+            told
+        } else {
+            Expected::Mark(wanted)
+        };
+        self.mark_or(wanted, expected)
+    }
+
     /// The mark, if it is next.
     pub fn eat(&mut self, wanted: u8) -> Option<Span>
         ensures found { left self.old ≡ mark_then wanted result (left self.new) }
@@ -278,11 +283,7 @@ impl<'s, 'a> Cursor<'s, 'a> {
         if let Some(token) = self.peek() {
             if let Word::Str(text) = token.word {
                 self.at += 1;
-                return Ok(Literal {
-                    text,
-                    span: token.span,
-                    is_text: is_text(text),
-                });
+                return Ok(Literal::new(text, token.span));
             }
         }
         Err(self.unexpected(expected))

@@ -1,6 +1,7 @@
 //! The syntax tree of a source file, read from its tokens.
 #![tactic(auto)]
 
+mod blocks;
 mod cursor;
 mod enums;
 mod error;

@@ -1,21 +1,23 @@
 //! Readers of names, types, options and ranges.
 
-ghost use Rattle.std.specs.Prelude.{◌≡◌, ◌∷◌, ◌<◌, ◌≤◌, List, Option, option_map, length, true, false, OnOk, IfOk};
+ghost use Rattle.std.specs.Prelude.{◌≡◌, ◌∷◌, ◌<◌, ◌≤◌, List, Option, option_map, length, map, true, false, OnOk, IfOk};
 ghost use Rattle.pbx_token.specs.Tokens as tokens;
+ghost use Rattle.pbx_token.specs.declared.token.Span.{Span};
 ghost use Rattle.pbx_tree.specs.Tree as tree;
-ghost use Rattle.pbx_tree.specs.Words.{is_scalar_word};
-ghost use Rattle.pbx_tree.specs.Grammar.{name_then, full_then, type_then, kind_then, constant_then, setting_then, some_settings_then, settings_then, statement_then};
-ghost use Rattle.pbx_tree.specs.Conditions.{type_fits as type_fits_of, kind_fits, all_fit, settings_of as list_of};
-ghost use Rattle.pbx_tree.specs.Fits.{allowed as allowed_of};
-ghost use Rattle.pbx_tree.specs.View.{name_of, separated_of, type_of, kind_of, constant_of, setting_of, settings_of as some_settings_of, statement_of};
-ghost use Rattle.pbx_reader.specs.View.{left, sees, sees_mark, Reaches, Passes};
+ghost use Rattle.pbx_tree.specs.Tree.{all_of};
+ghost use Rattle.pbx_tree.specs.Grammar.{named, name_then, full_then, type_then, kind_then, constant_then, setting_then, list_then, next_then, separated_then, some_settings_then, settings_then, statement_then};
+ghost use Rattle.pbx_tree.specs.Conditions.{type_fits as type_fits_of, kind_fits, option_fits, all_fit, settings_of as list_of};
+ghost use Rattle.pbx_tree.specs.Fits.{allowed as allowed_of, may_follow, wanted_fits};
+ghost use Rattle.pbx_tree.specs.View.{name_of, next_of, separated_of, type_of, kind_of, constant_of, setting_of, settings_of as some_settings_of, statement_of};
+ghost use Rattle.pbx_reader.specs.View.{left, sees_mark, Reaches};
 
 use crate::cursor::Cursor;
 use crate::error::ReadError;
 use crate::many::{Production, separated};
+use pbx_token::Span;
 use pbx_tree::{
-    Allowed, Constant, Expected, Kind, Name, Separated, Setting, Settings, Statement, TypeName,
-    Version, listed, settings_fit, type_fits,
+    Allowed, Constant, Expected, Kind, Name, OptionPlace, Separated, Setting, Settings, Statement,
+    TypeName, Version, Wanted, name_fits, some_value_fits, type_fits, value_fits,
 };
 use std::alloc::Global;
 
@@ -109,14 +111,53 @@ pub fn constant<'a>(cursor: &mut Cursor<'_, 'a>) -> Result<Constant<'a>, ReadErr
     Ok(Constant::Identifier(cursor.name_or(Expected::Constant)?))
 }
 
-pub fn setting<'a>(cursor: &mut Cursor<'_, 'a>) -> Result<Setting<'a>, ReadError>
-    ensures found { IfOk result (λ s. left cursor.old ≡ setting_then (setting_of s) (left cursor.new)) }
-    ensures only { (s : tree.Setting) (rest : List tokens.Token) → left cursor.old ≡ setting_then s rest → Reaches setting_of s rest result (left cursor.new) }
+/// A value that is wanted.
+fn wanted_value<'a>(
+    cursor: &mut Cursor<'_, 'a>,
+    wanted: Wanted<'_, '_>,
+) -> Result<Constant<'a>, ReadError>
+    ensures found { IfOk result (λ c. left cursor.old ≡ constant_then (constant_of c) (left cursor.new)) }
+    ensures fits { IfOk result (λ c. wanted_fits wanted.entry (constant_of c) ≡ true) }
+    ensures only { (c : tree.Constant) (rest : List tokens.Token) → wanted_fits wanted.entry c ≡ true → left cursor.old ≡ constant_then c rest → Reaches constant_of c rest result (left cursor.new) }
     ensures shorter { OnOk result (length (left cursor.new) < length (left cursor.old)) }
 {
-    let name = cursor.name()?;
-    let equals = cursor.mark(b'=')?;
+    if let Err(expected) = some_value_fits(wanted) {
+        return Err(cursor.unexpected(expected));
+    }
     let value = constant(cursor)?;
+    value_fits(wanted, &value)?;
+    Ok(value)
+}
+
+/// The name of an option.
+fn option_name<'a>(cursor: &mut Cursor<'_, 'a>) -> Result<Name<'a>, ReadError>
+    ensures found { IfOk result (λ n. left cursor.old ≡ named (name_of n) ∷ left cursor.new) }
+    ensures only { (n : tree.Name) (rest : List tokens.Token) → left cursor.old ≡ named n ∷ rest → Reaches name_of n rest result (left cursor.new) }
+    ensures shorter { OnOk result (length (left cursor.new) < length (left cursor.old)) }
+{
+    let expected = if cursor.sees(b'(') {
+        Expected::NoCustomOption
+    } else {
+        Expected::Identifier
+    };
+    cursor.name_or(expected)
+}
+
+/// A setting that may stand behind those that were seen. Its name is judged before what follows it is read.
+pub fn setting<'a>(
+    cursor: &mut Cursor<'_, 'a>,
+    allowed: Allowed<'_, '_>,
+    seen: &[Setting<'_>],
+) -> Result<Setting<'a>, ReadError>
+    ensures found { IfOk result (λ s. left cursor.old ≡ setting_then (setting_of s) (left cursor.new)) }
+    ensures fits { IfOk result (λ s. may_follow (allowed_of allowed.entry) (map setting_of seen.now) (setting_of s) ≡ true) }
+    ensures only { (s : tree.Setting) (rest : List tokens.Token) → may_follow (allowed_of allowed.entry) (map setting_of seen.now) s ≡ true → left cursor.old ≡ setting_then s rest → Reaches setting_of s rest result (left cursor.new) }
+    ensures shorter { OnOk result (length (left cursor.new) < length (left cursor.old)) }
+{
+    let name = option_name(cursor)?;
+    let wanted = name_fits(allowed, &name, seen)?;
+    let equals = cursor.mark(b'=')?;
+    let value = wanted_value(cursor, wanted)?;
     Ok(Setting {
         name,
         equals,
@@ -124,36 +165,79 @@ pub fn setting<'a>(cursor: &mut Cursor<'_, 'a>) -> Result<Setting<'a>, ReadError
     })
 }
 
-impl<'a> Production<'a> for Setting<'a> {
-    ghost Tree = { tree.Setting };
-
-    ghost view = { setting_of };
-
-    ghost spelled = { setting_then };
-
-    ghost fits = { λ _ _. true };
-
-    ghost follows = { λ _. true };
-
-    fn read(
-        _alloc: Global,
-        cursor: &mut Cursor<'_, 'a>,
-        _version: Version,
-    ) -> Result<Setting<'a>, ReadError> {
-        setting(cursor)
-    }
+/// A comma, and a setting that may stand behind those that were seen.
+fn next_setting<'a>(
+    cursor: &mut Cursor<'_, 'a>,
+    allowed: Allowed<'_, '_>,
+    seen: &[Setting<'_>],
+) -> Result<(Span, Setting<'a>), ReadError>
+    ensures found { IfOk result (λ x. left cursor.old ≡ next_then 44 setting_then (next_of setting_of x) (left cursor.new)) }
+    ensures fits { IfOk result (λ x. may_follow (allowed_of allowed.entry) (map setting_of seen.now) (setting_of x.1) ≡ true) }
+    ensures only { (x : Span × tree.Setting) (rest : List tokens.Token) → may_follow (allowed_of allowed.entry) (map setting_of seen.now) x.1 ≡ true → left cursor.old ≡ next_then 44 setting_then x rest → Reaches (next_of setting_of) x rest result (left cursor.new) }
+    ensures shorter { OnOk result (length (left cursor.new) < length (left cursor.old)) }
+{
+    let comma = cursor.mark(b',')?;
+    let setting = setting(cursor, allowed, seen)?;
+    Ok((comma, setting))
 }
 
-/// Settings in brackets.
-#[tactic(auto, using(crate::proofs::Begin::all_names))]
-fn some_settings<'a>(alloc: Global, cursor: &mut Cursor<'_, 'a>) -> Result<Settings<'a>, ReadError>
+/// The settings behind the first in brackets, each with the comma before it.
+fn more_settings<'a>(
+    alloc: Global,
+    cursor: &mut Cursor<'_, 'a>,
+    allowed: Allowed<'_, '_>,
+    first: Setting<'a>,
+) -> Result<Vec<(Span, Setting<'a>)>, ReadError>
+    requires { allowed_of allowed (setting_of first) ≡ true }
+    ensures found { IfOk result (λ x. left cursor.old ≡ list_then (next_then 44 setting_then) (map (next_of setting_of) x.items) (left cursor.new)) }
+    ensures fits { IfOk result (λ x. all_fit (allowed_of allowed.entry) (setting_of first.entry ∷ map (λ y. y.1) (map (next_of setting_of) x.items)) ≡ true) }
+    ensures only { (xs : List (Span × tree.Setting)) (rest : List tokens.Token) → all_fit (allowed_of allowed.entry) (setting_of first.entry ∷ map (λ y. y.1) xs) ≡ true → sees_mark 44 rest ≡ false → left cursor.old ≡ list_then (next_then 44 setting_then) xs rest → Reaches (λ x. map (next_of setting_of) x.items) xs rest result (left cursor.new) }
+    ensures shorter { OnOk result (length (left cursor.new) ≤ length (left cursor.old)) }
+{
+    let mut more = Vec::new(alloc);
+    // Those before the last: it takes no memory where there is one setting only.
+    let mut seen = Vec::new(alloc);
+    let mut last = first;
+    'each: while cursor.sees(b',') {
+        seen.push(last)?;
+        let next = next_setting(cursor, allowed, seen.as_slice())?;
+        last = next.1;
+        more.push(next)?;
+    }
+    more.shrink_to_fit();
+    Ok(more)
+}
+
+/// One or more settings, each allowed, and no name set twice.
+#[tactic(auto, using(crate::proofs::Bracketed::first_is_allowed, crate::proofs::Bracketed::first_may_stand))]
+fn some_settings<'a>(
+    alloc: Global,
+    cursor: &mut Cursor<'_, 'a>,
+    allowed: Allowed<'_, '_>,
+) -> Result<Separated<Setting<'a>>, ReadError>
+    ensures found { IfOk result (λ s. left cursor.old ≡ separated_then 44 setting_then (separated_of setting_of s) (left cursor.new)) }
+    ensures fits { IfOk result (λ s. all_fit (allowed_of allowed.entry) (all_of (separated_of setting_of s)) ≡ true) }
+    ensures only { (s : tree.Separated tree.Setting) (rest : List tokens.Token) → all_fit (allowed_of allowed.entry) (all_of s) ≡ true → sees_mark 44 rest ≡ false → left cursor.old ≡ separated_then 44 setting_then s rest → Reaches (separated_of setting_of) s rest result (left cursor.new) }
+    ensures shorter { OnOk result (length (left cursor.new) < length (left cursor.old)) }
+{
+    let first = setting(cursor, allowed, &[])?;
+    let more = more_settings(alloc, cursor, allowed, first)?;
+    Ok(Separated { first, more })
+}
+
+/// The same in brackets.
+fn bracketed<'a>(
+    alloc: Global,
+    cursor: &mut Cursor<'_, 'a>,
+    allowed: Allowed<'_, '_>,
+) -> Result<Settings<'a>, ReadError>
     ensures found { IfOk result (λ s. left cursor.old ≡ some_settings_then (some_settings_of s) (left cursor.new)) }
-    ensures only { (s : tree.Settings) (rest : List tokens.Token) → left cursor.old ≡ some_settings_then s rest → Reaches some_settings_of s rest result (left cursor.new) }
+    ensures fits { IfOk result (λ s. all_fit (allowed_of allowed.entry) (all_of (some_settings_of s).settings) ≡ true) }
+    ensures only { (s : tree.Settings) (rest : List tokens.Token) → all_fit (allowed_of allowed.entry) (all_of s.settings) ≡ true → left cursor.old ≡ some_settings_then s rest → Reaches some_settings_of s rest result (left cursor.new) }
     ensures shorter { OnOk result (length (left cursor.new) < length (left cursor.old)) }
 {
     let open = cursor.mark(b'[')?;
-    // Settings are alike in all versions.
-    let settings = separated(alloc, cursor, Version::Proto3, b',')?;
+    let settings = some_settings(alloc, cursor, allowed)?;
     let close = cursor.mark(b']')?;
     Ok(Settings {
         open,
@@ -166,42 +250,34 @@ fn some_settings<'a>(alloc: Global, cursor: &mut Cursor<'_, 'a>) -> Result<Setti
 pub fn settings<'a>(
     alloc: Global,
     cursor: &mut Cursor<'_, 'a>,
+    allowed: Allowed<'_, '_>,
 ) -> Result<Option<Settings<'a>>, ReadError>
     ensures found { IfOk result (λ s. left cursor.old ≡ settings_then (option_map some_settings_of s) (left cursor.new)) }
-    ensures only { (s : Option tree.Settings) (rest : List tokens.Token) → sees_mark 91 rest ≡ false → left cursor.old ≡ settings_then s rest → Reaches (option_map some_settings_of) s rest result (left cursor.new) }
+    ensures fits { IfOk result (λ s. all_fit (allowed_of allowed.entry) (list_of (option_map some_settings_of s)) ≡ true) }
+    ensures only { (s : Option tree.Settings) (rest : List tokens.Token) → all_fit (allowed_of allowed.entry) (list_of s) ≡ true → sees_mark 91 rest ≡ false → left cursor.old ≡ settings_then s rest → Reaches (option_map some_settings_of) s rest result (left cursor.new) }
     ensures shorter { OnOk result (length (left cursor.new) ≤ length (left cursor.old)) }
 {
     if cursor.sees(b'[') {
-        Ok(Some(some_settings(alloc, cursor)?))
+        Ok(Some(bracketed(alloc, cursor, allowed)?))
     } else {
         Ok(None)
     }
 }
 
-/// The settings are allowed, and each is set once.
-pub fn settings_pass(
-    alloc: Global,
-    allowed: Allowed<'_, '_>,
-    settings: &Option<Settings<'_>>,
-) -> Result<(), ReadError>
-    ensures { Passes (all_fit (allowed_of allowed.entry) (list_of (option_map some_settings_of settings.now))) result }
-{
-    let set = listed(alloc, settings)?;
-    settings_fit(allowed, set.as_slice())?;
-    Ok(())
-}
-
-/// An option statement, or else what could stand there.
+/// An option statement that may stand behind those that were seen, or else what could stand there.
 pub fn statement<'a>(
     cursor: &mut Cursor<'_, 'a>,
     expected: Expected,
+    place: OptionPlace,
+    seen: &[Setting<'_>],
 ) -> Result<Statement<'a>, ReadError>
     ensures found { IfOk result (λ s. left cursor.old ≡ statement_then (statement_of s) (left cursor.new)) }
-    ensures only { (s : tree.Statement) (rest : List tokens.Token) → left cursor.old ≡ statement_then s rest → Reaches statement_of s rest result (left cursor.new) }
+    ensures fits { IfOk result (λ s. may_follow (option_fits place) (map setting_of seen.now) (statement_of s).setting ≡ true) }
+    ensures only { (s : tree.Statement) (rest : List tokens.Token) → may_follow (option_fits place) (map setting_of seen.now) s.setting ≡ true → left cursor.old ≡ statement_then s rest → Reaches statement_of s rest result (left cursor.new) }
     ensures shorter { OnOk result (length (left cursor.new) < length (left cursor.old)) }
 {
     let keyword = cursor.keyword("option", expected)?;
-    let setting = setting(cursor)?;
+    let setting = setting(cursor, Allowed::Option(place), seen)?;
     let end = cursor.mark(b';')?;
     Ok(Statement {
         keyword,

@@ -157,7 +157,7 @@ pub fn extensions(alloc: Global, cursor: &mut Cursor<'_, '_>) -> Result<Extensio
     let keyword = cursor.keyword("extensions", Expected::Keyword)?;
     // Ranges are alike in all versions.
     let ranges = separated(alloc, cursor, Version::Proto3, b',')?;
-    let end = cursor.mark(b';')?;
+    let end = cursor.mark_unless(b';', b'[', Expected::NoRangeOptions)?;
     Ok(Extensions {
         keyword,
         ranges,

@@ -1,43 +1,23 @@
 //! The reader of a file.
 
-ghost use Rattle.std.specs.Prelude.{◌≡◌, ◌&&◌, List, [], length, map, nat_le, true, IfOk};
-ghost use Rattle.std.specs.List.{filter_map};
+ghost use Rattle.std.specs.Prelude.{◌≡◌, List, [], map, true, IfOk};
 ghost use Rattle.pbx_token.specs.View.{tokens_of};
 ghost use Rattle.pbx_tree.specs.Tree as tree;
 ghost use Rattle.pbx_tree.specs.Grammar.{list_then, top_then, file_then};
-ghost use Rattle.pbx_tree.specs.Conditions.{all_fit, option_fits, packages, top_setting, tops_fit, Conditions};
+ghost use Rattle.pbx_tree.specs.Conditions.{tops_fit, Conditions};
 ghost use Rattle.pbx_tree.specs.View.{top_of, file_of};
-ghost use Rattle.pbx_reader.specs.View.{left, ReadsAs, Passes};
+ghost use Rattle.pbx_reader.specs.View.{left, ReadsAs};
 
+use crate::blocks::block;
 use crate::cursor::Cursor;
 use crate::error::ReadError;
-use crate::many::all;
 use crate::tops::{syntax, version_of};
 use pbx_token::Token;
-use pbx_tree::{
-    Allowed, File, OptionPlace, Top, Version, file_settings, packages_fit, settings_fit,
-};
+use pbx_tree::{File, Top, Version};
 use std::alloc::Global;
 
-/// The options of a file are its own, each set once.
-fn options_fit(alloc: Global, tops: &[Top<'_>]) -> Result<(), ReadError>
-    ensures { Passes (all_fit (option_fits OptionPlace.File) (filter_map top_setting (map top_of tops.now))) result }
-{
-    let set = file_settings(alloc, tops)?;
-    settings_fit(Allowed::Option(OptionPlace::File), set.as_slice())?;
-    Ok(())
-}
-
-/// A file has at most one package, and its options are its own, each set once.
-fn conditions_fit(alloc: Global, tops: &Vec<Top<'_>>) -> Result<(), ReadError>
-    ensures { Passes (nat_le (length (packages (map top_of tops.now.items))) 1 && all_fit (option_fits OptionPlace.File) (filter_map top_setting (map top_of tops.now.items))) result }
-{
-    let tops = tops.as_slice();
-    packages_fit(tops)?;
-    options_fit(alloc, tops)
-}
-
 /// What stands at the top of a file, to its end.
+#[tactic(auto, using(crate::proofs::Judged::tops_judged, crate::proofs::Judged::tops_from))]
 fn tops<'a>(
     alloc: Global,
     cursor: &mut Cursor<'_, 'a>,
@@ -47,9 +27,7 @@ fn tops<'a>(
     ensures fits { IfOk result (λ x. tops_fit version (map top_of x.items) ≡ true) }
     ensures only { (ts : List tree.Top) → tops_fit version ts ≡ true → left cursor.old ≡ list_then top_then ts [] → ReadsAs (λ x. map top_of x.items) ts result }
 {
-    let tops = all(alloc, cursor, version)?;
-    conditions_fit(alloc, &tops)?;
-    Ok(tops)
+    block(alloc, cursor, version)
 }
 
 /// The syntax tree that a file's tokens spell.

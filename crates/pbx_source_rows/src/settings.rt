@@ -2,8 +2,8 @@
 
 use crate::words::{option_place, place, scalar};
 use pbx_tree::{
-    Allowed, Constant, Kind, Literal, Name, Number, Setting, Unfit, known_option, optimize_mode,
-    settings_fit,
+    Allowed, Constant, Kind, Literal, Name, Number, Setting, Unfit, known_option, name_fits,
+    optimize_mode, value_fits,
 };
 use std::alloc::{AllocError, Global};
 use test_rows::Row;
@@ -58,14 +58,25 @@ fn allowed<'k>(row: &Row, kind: &'k Kind<'static>) -> Allowed<'k, 'static> {
     }
 }
 
-/// Whether the settings behind the first two fields, three at most, may stand there.
+/// Whether the setting may stand behind those that were seen.
+fn follows(
+    allowed: Allowed<'_, '_>,
+    seen: &[Setting<'_>],
+    setting: &Setting<'_>,
+) -> Result<(), Unfit> {
+    let wanted = name_fits(allowed, &setting.name, seen)?;
+    value_fits(wanted, &setting.value)
+}
+
+/// Whether the settings behind the first two fields, three at most, may stand there, one behind the other.
 fn fits(row: &Row, kind: &Kind<'static>) -> Result<(), Unfit> {
     let settings = [setting(row, 2), setting(row, 6), setting(row, 10)];
     let count = row.len().saturating_sub(2) / 4;
-    settings_fit(
-        allowed(row, kind),
-        settings.get(..count).unwrap_or(&settings),
-    )
+    let given = settings.get(..count).unwrap_or(&settings);
+    for (at, setting) in given.iter().enumerate() {
+        follows(allowed(row, kind), given.get(..at).unwrap_or(&[]), setting)?;
+    }
+    Ok(())
 }
 
 pub fn fit(alloc: Global, row: &Row) -> Result<String, AllocError> {

@@ -1,9 +1,7 @@
 //! What may be a type, a map's key or a text.
 
 use crate::words::{place, scalar};
-use pbx_tree::{
-    Kind, Literal, Name, Separated, TypeName, Unfit, key_fits, kind_fits, text_fits, type_fits,
-};
+use pbx_tree::{Literal, Name, Separated, TypeName, Unfit, key_fits, text_fits, type_fits};
 use std::alloc::{AllocError, Global};
 use test_rows::Row;
 
@@ -25,14 +23,9 @@ fn type_name(alloc: Global, row: &Row) -> TypeName<'_> {
     }
 }
 
-fn kind(alloc: Global, row: &Row) -> Result<(), Unfit> {
-    kind_fits(&Kind::Named(type_name(alloc, row)))
-}
-
 fn asked(alloc: Global, row: &Row) -> Result<(), Unfit> {
     match row.asked() {
-        "type" => type_fits(&type_name(alloc, row)),
-        "kind" => kind(alloc, row),
+        "type" | "kind" => type_fits(&type_name(alloc, row)),
         "key" => key_fits(scalar(row.text(0)), place(1)),
         _ => text_fits(&Literal::new(row.text(0), place(1))),
     }

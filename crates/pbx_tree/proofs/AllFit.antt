@@ -1,21 +1,11 @@
 -- Lists of settings in which each fits and no name is set twice.
-use Rattle.std.proofs.Common.{◌≡◌, ℕ, ◌+◌, ◌<◌, List, [], ◌∷◌, ◌++◌, length, map, take, drop, get_or, Bool, true, false, not, Result, Ok, Err, refl, sym, ap, ◌∙◌, add-one, drop-cons}
+use Rattle.std.proofs.Common.{◌≡◌, ℕ, List, [], ◌∷◌, ◌++◌, Bool, true, false, not, ◌&&◌, refl, sym, ap, ◌∙◌}
 use Rattle.std.specs.Str.{bytes_eq}
-use Rattle.std.proofs.lemmas.Bool.{false≢true}
 use Rattle.std.proofs.lemmas.Bool.Decides.{same_from_decides}
-use Rattle.std.proofs.lemmas.List.{map-append, take-append-drop, take_more}
 use Rattle.std.proofs.lemmas.Slice.Eq.{bytes_eq-Decides}
-use Rattle.std.specs.Result.{IsErr}
-use Rattle.pbx_tree.specs.declared.conditions.Unfit.{Unfit}
 use Rattle.pbx_tree.specs.Tree.{Setting}
-use Rattle.pbx_tree.specs.Fits.{Fits}
-use Rattle.pbx_tree.proofs.Holds.{both, joined, is_false}
+use Rattle.pbx_tree.proofs.Holds.{both, joined}
 use Rattle.pbx_tree.specs.Conditions.{lacks, all_fit}
-
--- an error, where the test does not hold
-pub fits_not : (b : Bool) (r : Result Unit Unfit) → IsErr r → b ≡ false → Fits b r
-fits_not b (Ok u) e f = absurd (false≢true e)
-fits_not b (Err x) e f = f
 
 -- two names are one in either order
 turned : (t u : List ℕ) → bytes_eq t u ≡ bytes_eq u t
@@ -37,7 +27,7 @@ lacks_one t [] y p q = joined q refl
 lacks_one t (x ∷ xs) y p q = let h = both p in joined h.0 (lacks_one t xs y h.1 q)
 
 -- one more fits after those that fit, if its name is not set yet
-grows : (p : Setting → Bool) (xs : List Setting) (y : Setting) → all_fit p xs ≡ true → p y ≡ true → lacks y.name.text xs ≡ true → all_fit p (xs ++ y ∷ []) ≡ true
+pub grows : (p : Setting → Bool) (xs : List Setting) (y : Setting) → all_fit p xs ≡ true → p y ≡ true → lacks y.name.text xs ≡ true → all_fit p (xs ++ y ∷ []) ≡ true
 unfolding all_fit lacks
 grows p [] y e f g = joined (joined f refl) refl
 grows p (x ∷ xs) y e f g =
@@ -48,7 +38,7 @@ grows p (x ∷ xs) y e f g =
     joined (joined k.0 (lacks_one x.name.text xs y k.1 m)) (grows p xs y h.1 f l.1)
 
 -- where all fit, each does, and its name is not set earlier
-each_fits : (p : Setting → Bool) (xs : List Setting) (y : Setting) (ys : List Setting) → all_fit p (xs ++ y ∷ ys) ≡ true → (p y ≡ true) × (lacks y.name.text xs ≡ true)
+pub each_fits : (p : Setting → Bool) (xs : List Setting) (y : Setting) (ys : List Setting) → all_fit p (xs ++ y ∷ ys) ≡ true → (p y ≡ true) × (lacks y.name.text xs ≡ true)
 unfolding all_fit lacks
 each_fits p [] y ys e = ((both (both e).0).0, refl)
 each_fits p (x ∷ xs) y ys e =
@@ -61,27 +51,3 @@ each_fits p (x ∷ xs) y ys e =
 pub none_fit : (p : Setting → Bool) → all_fit p [] ≡ true
 unfolding all_fit
 none_fit p = refl
-
-module _ {A : Type 0} (view : A → Setting) (p : Setting → Bool) (xs : List A) (i : ℕ) (x : A) (below : i < length xs) (is : x ≡ get_or xs i x) where
-  at_end : map view (take (i + 1) xs) ≡ map view (take i xs) ++ view x ∷ []
-  at_end = ap (map view) (take_more xs i x below) ∙ map-append view (take i xs) (get_or xs i x ∷ []) ∙ ap (λ (y : A). map view (take i xs) ++ view y ∷ []) (sym is)
-
-  parts : map view xs ≡ map view (take i xs) ++ view x ∷ map view (drop (i + 1) xs)
-  parts =
-      let dropped : drop i xs ≡ get_or xs i x ∷ drop (i + 1) xs = rw add-one (drop-cons xs i x below) in
-      ap (map view) (sym (take-append-drop i xs) ∙ ap (λ (ys : List A). take i xs ++ ys) dropped)
-      ∙ map-append view (take i xs) (get_or xs i x ∷ drop (i + 1) xs)
-      ∙ ap (λ (y : A). map view (take i xs) ++ view y ∷ map view (drop (i + 1) xs)) (sym is)
-
-  -- the settings up to this one fit
-  pub fits_up_to : all_fit p (map view (take i xs)) ≡ true → p (view x) ≡ true → lacks (view x).name.text (map view (take i xs)) ≡ true → all_fit p (map view (take (i + 1) xs)) ≡ true
-  fits_up_to e f g = ap (all_fit p) at_end ∙ grows p (map view (take i xs)) (view x) e f g
-
-  unfit : all_fit p (map view xs) ≡ true → (p (view x) ≡ true) × (lacks (view x).name.text (map view (take i xs)) ≡ true)
-  unfit e = each_fits p (map view (take i xs)) (view x) (map view (drop (i + 1) xs)) (sym (ap (all_fit p) parts) ∙ e)
-
-  pub refused : p (view x) ≡ false → all_fit p (map view xs) ≡ false
-  refused f = is_false (λ e. false≢true (sym f ∙ (unfit e).0))
-
-  pub set_twice : lacks (view x).name.text (map view (take i xs)) ≡ false → all_fit p (map view xs) ≡ false
-  set_twice f = is_false (λ e. false≢true (sym f ∙ (unfit e).1))

@@ -16,11 +16,6 @@ pub neither : {a b : Bool} → a || b ≡ false → (a ≡ false) × (b ≡ fals
 neither {a = true} {b = b} e = absurd (false≢true (cc))
 neither {a = false} {b = b} e = (refl, e)
 
--- a test that does not hold
-pub is_false : {b : Bool} → (b ≡ true → ⊥) → b ≡ false
-is_false {b = true} h = absurd (h refl)
-is_false {b = false} h = refl
-
 pub from_not : {b : Bool} → not b ≡ true → b ≡ false
 from_not {b = true} e = absurd (false≢true e)
 from_not {b = false} e = refl

@@ -1,17 +1,15 @@
 //! What the grammar does not say of a tree, as tests of its parts.
 
-ghost use Rattle.std.specs.Prelude.{◌≡◌, map, option_map, IfOk};
-ghost use Rattle.pbx_tree.specs.Conditions.{type_fits as type_fits_of, kind_fits as kind_fits_of, label_fits as label_fits_of, is_key as is_key_of, is_text as is_text_of, is_true_or_false as is_true_or_false_of, is_of_kind as is_of_kind_of, option_fits as option_fits_of, default_fits as default_fits_of, map_setting_fits as map_setting_fits_of, field_setting_fits as field_setting_fits_of, lacks as lacks_of, all_fit as all_fit_of, settings_of as some_settings_of};
+ghost use Rattle.std.specs.Prelude.{◌≡◌, map, option_map, true, false, IfOk, IfErr};
+ghost use Rattle.pbx_tree.specs.Conditions.{type_fits as type_fits_of, is_key as is_key_of, is_text as is_text_of, is_true_or_false as is_true_or_false_of, is_of_kind as is_of_kind_of, option_fits as option_fits_of, default_fits as default_fits_of, map_setting_fits as map_setting_fits_of, field_setting_fits as field_setting_fits_of, lacks as lacks_of, settings_of as some_settings_of};
 ghost use Rattle.pbx_tree.specs.Words.{is_scalar_word as is_scalar_word_of};
-ghost use Rattle.pbx_tree.specs.View.{name_of, literal_of, type_of, kind_of, constant_of, setting_of, settings_of, field_of};
+ghost use Rattle.pbx_tree.specs.View.{name_of, literal_of, type_of, kind_of, constant_of, setting_of, settings_of};
 ghost use Rattle.pbx_token.specs.declared.token.Span.{Span};
 ghost use Rattle.pbx_tree.specs.Tree as tree;
-ghost use Rattle.pbx_tree.specs.Fits.{Fits, allowed as allowed_of};
+ghost use Rattle.pbx_tree.specs.Fits.{Fits, allowed as allowed_of, may_follow, wanted_fits, if_wanted, named_fits};
 
 use crate::options::{KnownOption, OptionKind, OptionPlace, known_option, optimize_mode};
-use crate::tree::{
-    Constant, Field, Kind, Literal, Name, Scalar, Setting, Settings, TypeName, Version,
-};
+use crate::tree::{Constant, Kind, Literal, Name, Scalar, Setting, Settings, TypeName};
 use pbx_token::Span;
 use std::alloc::{AllocError, Global};
 
@@ -44,6 +42,16 @@ pub enum Expected {
     KnownOption,
     /// An option that is not set earlier at the same place.
     UnsetOption,
+    /// An option of the place, where a custom one stands.
+    NoCustomOption,
+    /// An option of the place, where the one of message sets stands.
+    NoMessageSet,
+    /// No default, since a float has none.
+    NoFloatDefault,
+    /// What a field ends with, where a group begins.
+    NoGroup,
+    /// What may stand behind a range, where options of it begin.
+    NoRangeOptions,
     /// No package after the first.
     OnePackage,
     /// The string that names a version of the language.
@@ -107,6 +115,11 @@ impl Expected {
             Expected::OptimizeMode => "'SPEED', 'CODE_SIZE' or 'LITE_RUNTIME'",
             Expected::KnownOption => "a known option",
             Expected::UnsetOption => "an option that is not set yet",
+            Expected::NoCustomOption => "a known option (custom options are not supported)",
+            Expected::NoMessageSet => "a known option (message sets are not supported)",
+            Expected::NoFloatDefault => "no default of a float field, which is not supported",
+            Expected::NoGroup => "';' (groups are not supported)",
+            Expected::NoRangeOptions => "',' or ';' (options of ranges are not supported)",
             Expected::OnePackage => "no second package",
             Expected::Version => "\"proto2\" or \"proto3\"",
             Expected::Keyword => "a keyword",
@@ -138,6 +151,15 @@ pub enum Allowed<'k, 'a> {
     Map,
     /// The options of the place.
     Option(OptionPlace),
+}
+
+/// What a setting may be set to.
+#[derive(Clone, Copy)]
+pub enum Wanted<'k, 'a> {
+    /// A value of the kind.
+    Option(OptionKind),
+    /// A default of a field of the type.
+    Default(&'k Kind<'a>),
 }
 
 /// Nothing, where the test holds.
@@ -185,38 +207,6 @@ pub fn type_fits(name: &TypeName<'_>) -> Result<(), Unfit>
         first.span,
         Expected::Type,
     )
-}
-
-/// The same, for the type of a field.
-pub fn kind_fits(kind: &Kind<'_>) -> Result<(), Unfit>
-    ensures { Fits (kind_fits_of (kind_of kind.now)) result }
-{
-    match kind {
-        Kind::Scalar(_, _) => Ok(()),
-        Kind::Named(name) => type_fits(name),
-    }
-}
-
-/// The first token of a type.
-fn kind_place(kind: &Kind<'_>) -> Span {
-    match kind {
-        Kind::Scalar(_, span) => *span,
-        Kind::Named(name) => match name.dot {
-            Some(span) => span,
-            None => name.full.first.span,
-        },
-    }
-}
-
-/// In proto2 a field has a label.
-pub fn label_fits(version: Version, field: &Field<'_>) -> Result<(), Unfit>
-    ensures { Fits (label_fits_of version field.now.label) result }
-{
-    let fits = match version {
-        Version::Proto2 => field.label.is_some(),
-        Version::Proto3 => true,
-    };
-    fitting(fits, kind_place(&field.kind), Expected::Label)
 }
 
 fn is_key(scalar: Scalar) -> bool
@@ -279,32 +269,15 @@ fn kind_expected(kind: OptionKind) -> Expected {
     }
 }
 
-fn value_fits(kind: OptionKind, value: &Constant<'_>) -> Result<(), Unfit>
-    ensures { Fits (is_of_kind_of kind (constant_of value.now)) result }
-{
-    let fits = is_of_kind(kind, value);
-    fitting(fits, constant_place(value), kind_expected(kind))
-}
-
-/// The place has the option, and the value is one of its kind.
-fn option_fits(place: OptionPlace, setting: &Setting<'_>) -> Result<(), Unfit>
-    ensures { Fits (option_fits_of place (setting_of setting.now)) result }
-{
-    match known_option(place, setting.name.text) {
-        Some(option) => value_fits(option.kind, &setting.value),
-        None => fitting(false, setting.name.span, Expected::KnownOption),
-    }
-}
-
-/// What the default of a field of the type is, if it may have one.
-fn default_expected(kind: &Kind<'_>) -> Option<Expected> {
+/// What the default of a field of the type is.
+fn default_expected(kind: &Kind<'_>) -> Expected {
     match kind {
-        Kind::Scalar(Scalar::Double | Scalar::Float, _) => None,
-        Kind::Scalar(Scalar::Bool, _) => Some(Expected::Bool),
-        Kind::Scalar(Scalar::String, _) => Some(Expected::Text),
-        Kind::Scalar(Scalar::Bytes, _) => Some(Expected::String),
-        Kind::Scalar(_, _) => Some(Expected::Integer),
-        Kind::Named(_) => Some(Expected::Identifier),
+        Kind::Scalar(Scalar::Double | Scalar::Float, _) => Expected::NoFloatDefault,
+        Kind::Scalar(Scalar::Bool, _) => Expected::Bool,
+        Kind::Scalar(Scalar::String, _) => Expected::Text,
+        Kind::Scalar(Scalar::Bytes, _) => Expected::String,
+        Kind::Scalar(_, _) => Expected::Integer,
+        Kind::Named(_) => Expected::Identifier,
     }
 }
 
@@ -329,42 +302,76 @@ fn default_fits(kind: &Kind<'_>, value: &Constant<'_>) -> bool
     }
 }
 
-/// The default of a field of the type.
-fn default_is_set(kind: &Kind<'_>, setting: &Setting<'_>) -> Result<(), Unfit>
-    ensures { Fits (default_fits_of (kind_of kind.now) (constant_of setting.now.value)) result }
+/// The value is one of those that are wanted.
+pub fn value_fits(wanted: Wanted<'_, '_>, value: &Constant<'_>) -> Result<(), Unfit>
+    ensures { Fits (wanted_fits wanted.entry (constant_of value.now)) result }
 {
-    let fits = default_fits(kind, &setting.value);
-    match default_expected(kind) {
-        Some(expected) => fitting(fits, constant_place(&setting.value), expected),
-        None => fitting(fits, setting.name.span, Expected::KnownOption),
+    let place = constant_place(value);
+    match wanted {
+        Wanted::Option(kind) => fitting(is_of_kind(kind, value), place, kind_expected(kind)),
+        Wanted::Default(kind) => fitting(default_fits(kind, value), place, default_expected(kind)),
     }
 }
 
-fn map_setting_fits(setting: &Setting<'_>) -> Result<(), Unfit>
-    ensures { Fits (map_setting_fits_of (setting_of setting.now)) result }
+/// A float has no default, whatever stands there.
+fn is_float(kind: &Kind<'_>) -> bool
+    ensures { result ≡ true → (c : tree.Constant) → default_fits_of (kind_of kind.now) c ≡ false }
 {
-    if setting.name.text == "json_name" {
-        value_fits(OptionKind::Text, &setting.value)
+    matches!(kind, Kind::Scalar(Scalar::Double | Scalar::Float, _))
+}
+
+/// Some value may fit; else what is said of any that stands there.
+pub fn some_value_fits(wanted: Wanted<'_, '_>) -> Result<(), Expected>
+    ensures { IfErr result (λ _. (c : tree.Constant) → wanted_fits wanted.entry c ≡ false) }
+{
+    match wanted {
+        Wanted::Default(kind) if is_float(kind) => Err(Expected::NoFloatDefault),
+        _ => Ok(()),
+    }
+}
+
+/// What an option of the name is set to, if the place has one.
+fn option_wanted<'k, 'a>(place: OptionPlace, name: &Name<'_>) -> Option<Wanted<'k, 'a>>
+    ensures { (equals : Span) (value : tree.Constant) → option_fits_of place (record { name = name_of name.now; equals = equals; value = value }) ≡ if_wanted result value }
+{
+    match known_option(place, name.text) {
+        Some(option) => Some(Wanted::Option(option.kind)),
+        None => None,
+    }
+}
+
+/// What is set of a map by the name, if it may be.
+fn map_wanted<'k, 'a>(name: &Name<'_>) -> Option<Wanted<'k, 'a>>
+    ensures { (equals : Span) (value : tree.Constant) → map_setting_fits_of (record { name = name_of name.now; equals = equals; value = value }) ≡ if_wanted result value }
+{
+    if name.text == "json_name" {
+        Some(Wanted::Option(OptionKind::Text))
     } else {
-        option_fits(OptionPlace::Field, setting)
+        option_wanted(OptionPlace::Field, name)
     }
 }
 
-/// The setting is one of those that may stand there.
-pub fn setting_fits(allowed: Allowed<'_, '_>, setting: &Setting<'_>) -> Result<(), Unfit>
-    ensures { Fits (allowed_of allowed.entry (setting_of setting.now)) result }
+/// What is set of a field of the type by the name, if it may be.
+fn field_wanted<'k, 'a>(kind: &'k Kind<'a>, name: &Name<'_>) -> Option<Wanted<'k, 'a>>
+    ensures { (equals : Span) (value : tree.Constant) → field_setting_fits_of (kind_of kind.now) (record { name = name_of name.now; equals = equals; value = value }) ≡ if_wanted result value }
 {
-    match allowed {
-        Allowed::Field(kind) => {
-            if setting.name.text == "default" {
-                default_is_set(kind, setting)
-            } else {
-                map_setting_fits(setting)
-            }
-        }
-        Allowed::Map => map_setting_fits(setting),
-        Allowed::Option(place) => option_fits(place, setting),
+    if name.text == "default" {
+        return Some(Wanted::Default(kind));
     }
+    map_wanted(name)
+}
+
+/// What a setting of the name is set to, if one may stand there.
+fn wanted_by<'k, 'a>(allowed: Allowed<'k, 'a>, name: &Name<'_>) -> Option<Wanted<'k, 'a>>
+    ensures { (equals : Span) (value : tree.Constant) → allowed_of allowed.entry (record { name = name_of name.now; equals = equals; value = value }) ≡ if_wanted result value }
+{
+    if let Allowed::Field(kind) = allowed {
+        return field_wanted(kind, name);
+    }
+    if let Allowed::Option(place) = allowed {
+        return option_wanted(place, name);
+    }
+    map_wanted(name)
 }
 
 /// No setting of the name stands here.
@@ -386,17 +393,34 @@ fn lacks(name: &str, settings: &[Setting<'_>]) -> bool
     }
 }
 
-/// Each setting is one of those that may stand there, and no name is set twice.
-pub fn settings_fit(allowed: Allowed<'_, '_>, settings: &[Setting<'_>]) -> Result<(), Unfit>
-    ensures { Fits (all_fit_of (allowed_of allowed.entry) (map setting_of settings.now)) result }
-{
-    for i in 0..settings.len() {
-        let setting = &settings[i];
-        setting_fits(allowed, setting)?;
-        let unset = lacks(setting.name.text, &settings[..i]);
-        fitting(unset, setting.name.span, Expected::UnsetOption)?;
+/// What is said of a name that may not be set.
+fn unknown(allowed: Allowed<'_, '_>, name: &Name<'_>) -> Expected {
+    match (allowed, name.text) {
+        (Allowed::Option(OptionPlace::Message), "message_set_wire_format") => {
+            Expected::NoMessageSet
+        }
+        _ => Expected::KnownOption,
     }
-    Ok(())
+}
+
+/// The name is one that may be set there, and is not set yet; gives what it may be set to.
+pub fn name_fits<'k, 'a>(
+    allowed: Allowed<'k, 'a>,
+    name: &Name<'_>,
+    seen: &[Setting<'_>],
+) -> Result<Wanted<'k, 'a>, Unfit>
+    ensures { (equals : Span) (value : tree.Constant) → may_follow (allowed_of allowed.entry) (map setting_of seen.now) (record { name = name_of name.now; equals = equals; value = value }) ≡ named_fits result value }
+{
+    let place = name.span;
+    let Some(wanted) = wanted_by(allowed, name) else {
+        let expected = unknown(allowed, name);
+        return Err(Unfit { place, expected });
+    };
+    if !lacks(name.text, seen) {
+        let expected = Expected::UnsetOption;
+        return Err(Unfit { place, expected });
+    }
+    Ok(wanted)
 }
 
 /// The settings in brackets.

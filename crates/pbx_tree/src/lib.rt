@@ -8,13 +8,13 @@ mod statements;
 mod tree;
 
 pub use conditions::{
-    Allowed, Expected, Unfit, key_fits, kind_fits, label_fits, listed, setting_fits, settings_fit,
-    text_fits, type_fits,
+    Allowed, Expected, Unfit, Wanted, key_fits, listed, name_fits, some_value_fits, text_fits,
+    type_fits, value_fits,
 };
 pub use law::at_most_one;
 pub use options::{KnownOption, OptionKind, OptionPlace, known_option, optimize_mode};
 pub use statements::{
-    enum_settings, file_settings, message_settings, method_settings, packages_fit, service_settings,
+    enum_settings, file_settings, message_settings, method_settings, service_settings,
 };
 pub use tree::{
     Constant, Enum, EnumItem, EnumNumber, Extend, Extension, Extensions, Field, FieldNumber, File,

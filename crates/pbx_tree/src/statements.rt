@@ -1,13 +1,11 @@
-//! The option statements of a block, and the packages of a file.
+//! The option statements of a block.
 
-ghost use Rattle.std.specs.Prelude.{◌≡◌, List, Option, map, option_map, nat_le, length, IfOk};
+ghost use Rattle.std.specs.Prelude.{◌≡◌, List, Option, map, option_map, IfOk};
 ghost use Rattle.std.specs.List.{filter_map};
 ghost use Rattle.pbx_tree.specs.Tree as tree;
-ghost use Rattle.pbx_tree.specs.Conditions.{enum_setting, method_setting, service_setting, top_setting, body_settings, packages};
+ghost use Rattle.pbx_tree.specs.Conditions.{enum_setting, method_setting, service_setting, top_setting, body_settings};
 ghost use Rattle.pbx_tree.specs.View.{setting_of, enum_item_of, method_item_of, service_item_of, item_of, body_item_setting, body_of, top_of};
-ghost use Rattle.pbx_tree.specs.Fits.{Fits};
 
-use crate::conditions::{Expected, Unfit};
 use crate::tree::{EnumItem, Item, MethodItem, ServiceItem, Setting, Top};
 use std::alloc::{AllocError, Global};
 
@@ -133,23 +131,4 @@ pub fn file_settings<'a>(alloc: Global, tops: &'a [Top<'_>]) -> Result<Vec<Setti
     ensures { IfOk result (λ v. map setting_of v.items ≡ filter_map top_setting (map top_of tops.now)) }
 {
     set_among(alloc, tops)
-}
-
-/// A file has at most one package.
-pub fn packages_fit(tops: &[Top<'_>]) -> Result<(), Unfit>
-    ensures { Fits (nat_le (length (packages (map top_of tops.now))) 1) result }
-{
-    let mut named = false;
-    'each: for top in tops {
-        if let Top::Package(package) = top {
-            if named {
-                return Err(Unfit {
-                    place: package.keyword,
-                    expected: Expected::OnePackage,
-                });
-            }
-            named = true;
-        }
-    }
-    Ok(())
 }

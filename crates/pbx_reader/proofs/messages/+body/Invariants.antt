@@ -2,9 +2,12 @@ use Rattle.std.proofs.Common.{◌≡◌, ◌≤◌, ◌+◌, ◌*◌, List, leng
 use Rattle.pbx_token.specs.Tokens.{Token}
 use Rattle.pbx_tree.specs.Tree.{Body}
 use Rattle.pbx_tree.specs.Grammar.{body_then}
-use Rattle.pbx_tree.specs.Conditions.{body_fits}
-use Rattle.pbx_tree.specs.View.{item_of, all_before}
+use Rattle.pbx_tree.specs.declared.options.OptionPlace.TheVariants as places
+use Rattle.pbx_tree.specs.Conditions.{option_fits, all_fit}
+use Rattle.pbx_tree.specs.View.{setting_of, item_of, all_before}
+use Rattle.pbx_reader.specs.Bodies.{message_fits}
 use Rattle.pbx_reader.specs.View.{left, ends_block}
+use Rattle.pbx_reader.proofs.Steps.{body_behind}
 use Rattle.pbx_reader.proofs.messages.+body.Given as goal
 
 abbrev pub decreases-one_item : goal.decreases-one_item
@@ -21,9 +24,10 @@ invariant-items-each l =
     let front = map item_of l.items.items in
     record {
       found : (b : Body) (rest : List Token) → left l.cursor ≡ body_then b rest → left l.fn.cursor ≡ body_then (all_before front b) rest;
-      fits : (b : Body) → body_fits l.version l.levels b ≡ true → body_fits l.version l.levels (all_before front b) ≡ true;
-      only : (b : Body) (rest : List Token) → body_fits l.version l.levels b ≡ true → ends_block rest ≡ true → left l.fn.cursor ≡ body_then b rest
-          → (d : Body) × (b ≡ all_before front d) × (body_fits l.version l.levels d ≡ true) × (left l.cursor ≡ body_then d rest);
+      fits : (b : Body) → body_behind l.version l.levels (map setting_of l.seen.items) b ≡ true → message_fits l.version l.levels (all_before front b) ≡ true;
+      set : all_fit (option_fits places.Message) (map setting_of l.seen.items) ≡ true;
+      only : (b : Body) (rest : List Token) → message_fits l.version l.levels b ≡ true → ends_block rest ≡ true → left l.fn.cursor ≡ body_then b rest
+          → (d : Body) × (b ≡ all_before front d) × (body_behind l.version l.levels (map setting_of l.seen.items) d ≡ true) × (left l.cursor ≡ body_then d rest);
       shorter : length (left l.cursor) ≤ length (left l.fn.cursor);
     }
 
