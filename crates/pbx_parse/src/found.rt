@@ -36,7 +36,7 @@ fn add_escape(text: &mut String, letter: char) -> Result<(), NoMemory>
     add_char(text, letter)
 }
 
-/// Adds a number below 256 as `\u` and four hexadecimal digits.
+/// Adds a number below 256 as `\u` and four hexadecimal digits, of a greater one the last two.
 fn add_number(text: &mut String, number: u32) -> Result<(), NoMemory>
     ensures { IsOneLine (string_bytes text.old) → OnOk result (IsOneLine (string_bytes text.new)) }
 {

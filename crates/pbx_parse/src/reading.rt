@@ -48,8 +48,8 @@ fn record(
 
 /// The descriptor record of a source file, which is given the name.
 ///
-/// The source is in the proto2 or proto3 language of the Protocol Buffers language specifications, without groups,
-/// custom options, aggregate values and editions. The record is the one before linking: the names of types as they
+/// The source is in a profile of the proto2 and proto3 languages of the Protocol Buffers language specifications, which
+/// `Reads` says and docs/DIFFERENCES.md lists. The record is the one before linking: the names of types as they
 /// are written, JSON names where they are written, and the places of its parts in the source. Whether a name is
 /// defined, whether numbers and names are distinct, and whether an imported file is there, is not tested here.
 /// `Syntax` comes exactly where the source is no such file, and `NoMemory` for want of memory.

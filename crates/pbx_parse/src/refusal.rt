@@ -1,7 +1,7 @@
 //! What is said of a source that has no record.
 
 ghost use Rattle.std.specs.Prelude.{◌≡◌, ◌≤◌, ℕ, List, length, IfOk, IfSome};
-ghost use Rattle.pbx_token.specs.View.{IsStart, BeginIn, Within, IsWithin, FailsNot as lexed};
+ghost use Rattle.pbx_token.specs.View.{IsCut, BeginsIn, BeginIn, Within, IsWithin, FailsNot as lexed};
 ghost use Rattle.pbx_reader.specs.View.{FailsNot as spelled};
 ghost use Rattle.pbx_parse.specs.Errors.{Refuses};
 
@@ -15,7 +15,8 @@ use std::alloc::Global;
 
 /// The source before so many last bytes, and those.
 fn cut(source: &str, left: usize) -> (&str, &str)
-    requires { IsStart source.now left }
+    requires within { left ≤ length source.now }
+    requires cut { IsCut source.now left }
     ensures { length result.0.now ≤ length source.now }
 {
     source.split_at(source.len() - left)
@@ -23,7 +24,7 @@ fn cut(source: &str, left: usize) -> (&str, &str)
 
 /// A token as it is written in the source.
 fn token_found<'a>(source: &'a str, token: Token<'a>) -> Found<'a>
-    requires { IsStart source.now token.left }
+    requires { BeginsIn source.now token }
 {
     let (_, rest) = cut(source, token.left as usize);
     match token.word {
@@ -37,10 +38,10 @@ fn token_found<'a>(source: &'a str, token: Token<'a>) -> Found<'a>
 
 /// A number with what may not follow it, else one character.
 fn fault_found(rest: &str, fault: Fault) -> Found<'_> {
-    match (fault, rest.chars().next()) {
-        (Fault::Integer, _) => Found::Number(rest),
-        (_, Some(character)) => Found::Character(character),
-        (_, None) => Found::End,
+    match (rest.chars().next(), fault) {
+        (None, _) => Found::End,
+        (Some(_), Fault::Integer) => Found::Number(rest),
+        (Some(character), _) => Found::Character(character),
     }
 }
 
@@ -79,7 +80,7 @@ fn at_token(
     token: Token<'_>,
     expected: Expected,
 ) -> Result<ParseError, NoMemory>
-    requires { IsStart source.now token.left }
+    requires { BeginsIn source.now token }
     ensures { IfOk result (λ e. Refuses name.now (Unit {0}) e) }
 {
     let place = Place {
@@ -106,7 +107,7 @@ fn at_end(
 
 /// The token of this index.
 fn token_at<'a>(tokens: &[Token<'a>], at: usize) -> Option<Token<'a>>
-    ensures { (source : List ℕ) → BeginIn source tokens.now → IfSome result (λ t. IsStart source t.left) }
+    ensures { (source : List ℕ) → BeginIn source tokens.now → IfSome result (λ t. BeginsIn source t) }
 {
     if at < tokens.len() {
         Some(tokens[at])
@@ -117,7 +118,7 @@ fn token_at<'a>(tokens: &[Token<'a>], at: usize) -> Option<Token<'a>>
 
 /// The token of this span.
 fn token_of<'a>(tokens: &[Token<'a>], span: Span) -> Option<Token<'a>>
-    ensures { (source : List ℕ) → BeginIn source tokens.now → IfSome result (λ t. IsStart source t.left) }
+    ensures { (source : List ℕ) → BeginIn source tokens.now → IfSome result (λ t. BeginsIn source t) }
 {
     'each: for token in tokens {
         if token.span == span {
@@ -129,7 +130,7 @@ fn token_of<'a>(tokens: &[Token<'a>], span: Span) -> Option<Token<'a>>
 
 /// The token at which reading stopped, none at the end, and what could stand there; nothing where memory ran out.
 fn stop_of<'a>(tokens: &[Token<'a>], error: ReadError) -> Option<(Option<Token<'a>>, Expected)>
-    ensures starts { (source : List ℕ) → BeginIn source tokens.now → IfSome result (λ x. IfSome x.0 (λ t. IsStart source t.left)) }
+    ensures starts { (source : List ℕ) → BeginIn source tokens.now → IfSome result (λ x. IfSome x.0 (λ t. BeginsIn source t)) }
     ensures fails { IfSome result (λ _. ¬ (spelled error)) }
 {
     match error {
@@ -143,7 +144,7 @@ fn stop_of<'a>(tokens: &[Token<'a>], error: ReadError) -> Option<(Option<Token<'
 /// there or at the end of the front.
 fn stop<'a>(alloc: Global, front: &'a str) -> Result<(Option<Token<'a>>, Expected), NoMemory>
     requires { length front.now ≤ 2147483647 }
-    ensures { IfOk result (λ x. IfSome x.0 (λ t. IsStart front.now t.left)) }
+    ensures { IfOk result (λ x. IfSome x.0 (λ t. BeginsIn front.now t)) }
 {
     let tokens = match lex(alloc, front) {
         Ok(tokens) => tokens,
@@ -226,7 +227,7 @@ fn at_stop(
     expected: Expected,
 ) -> Result<ParseError, NoMemory>
     requires few { length source.now ≤ 2147483647 }
-    requires start { IfSome token (λ t. IsStart source.now t.left) }
+    requires start { IfSome token (λ t. BeginsIn source.now t) }
     ensures { IfOk result (λ e. Refuses name.now (Unit {0}) e) }
 {
     match token {

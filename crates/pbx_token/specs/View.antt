@@ -5,9 +5,12 @@ use Rattle.std.specs.Str.{IsUtf8}
 use Rattle.pbx_token.specs.declared.token.Word as code_word
 use Rattle.pbx_token.specs.declared.token.Word.TheVariants as words
 use Rattle.pbx_token.specs.declared.token.Token as code_token
+use Rattle.pbx_token.specs.declared.token.Place.{Place}
 use Rattle.pbx_token.specs.declared.piece.LexError.{LexError}
 use Rattle.pbx_token.specs.declared.piece.LexError.TheVariants as errors
+use Rattle.pbx_token.specs.Places.{place_after}
 use Rattle.pbx_token.specs.Tokens.{Word, ident, int, str, mark, Token}
+use Rattle.pbx_token.specs.Pieces.{origin}
 
 abbrev pub word_of : code_word.Word → Word
 word_of (words.Ident t) = ident t.now
@@ -46,11 +49,15 @@ abbrev pub IsWithin : List ℕ → LexError → Type 0
 IsWithin source errors.NoMemory = Unit {0}
 IsWithin source (errors.Fault left begun fault) = Within source left begun
 
--- with so many bytes left a source is cut inside it, between two characters
-pub record IsStart (source : List ℕ) (left : ℕ) : Type 0 where
+-- where so many bytes of a source are left, it is cut between two characters or at an end, at this place
+pub record IsStart (source : List ℕ) (left : ℕ) (at : Place) : Type 0 where
   pub within : left ≤ length source
   pub cut : IsCut source left
+  pub place : place_after (take (length source - left) source) origin ≡ at
 
--- each token begins in the source
+-- a token begins where it says that so many bytes of the source are left
+abbrev pub BeginsIn : List ℕ → code_token.Token → Type 0
+BeginsIn source t = IsStart source t.left (record { line = t.span.line; column = t.span.from })
+
 abbrev pub BeginIn : List ℕ → List code_token.Token → Type 0
-BeginIn source ts = All (λ t. IsStart source t.left) ts
+BeginIn source ts = All (BeginsIn source) ts

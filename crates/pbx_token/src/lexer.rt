@@ -44,7 +44,7 @@ fn add<'a>(
 ) -> Result<(), AllocError>
     ensures same { OnOk result (Keeps (tokens_of tokens.old.items) (option_map word_of word.entry) from to (tokens_of tokens.new.items)) }
     ensures stays { OnOk result (AllStay (tokens_of tokens.old.items) → AllStay (tokens_of tokens.new.items)) }
-    ensures starts { (source : List ℕ) → IsStart source left → BeginIn source tokens.old.items → OnOk result (BeginIn source tokens.new.items) }
+    ensures starts { (source : List ℕ) → IsStart source left from → BeginIn source tokens.old.items → OnOk result (BeginIn source tokens.new.items) }
 {
     let Some(word) = word else {
         return Ok(());
@@ -86,17 +86,18 @@ fn all<'a>(alloc: Global, source: &'a [u8]) -> Result<Vec<Token<'a>>, LexError>
 
 /// The tokens of a source, in order, which borrow from it.
 ///
-/// Of `;` one after another the first and the last are tokens, so many of them take no memory.
+/// Of `;` one after another the first and the last are tokens, so a long run of them takes the memory of two.
 ///
-/// A byte that begins no token, a number that is not followed as it must be, a comment or a string that does
-/// not end is a `Fault`; want of memory is `NoMemory`.
+/// A byte that begins no token, digits that are no integer below 2^64 or that a letter, a `_` or a dot follows, a
+/// string with a bad escape, a line feed or a zero byte, and a comment or a string that does not end is a `Fault`;
+/// want of memory is `NoMemory`.
 pub fn lex(alloc: Global, source: &str) -> Result<Vec<Token<'_>>, LexError>
     requires { length source.now < 2 ^ 31 }
     // What is given are its tokens.
     ensures found { IfOk result (λ x. Lexes source.now (tokens_of x.items)) }
     // Its tokens are given, unless memory runs out.
     ensures only { (ts : List tokens.Token) → Lexes source.now ts → ReadsAs (λ x. tokens_of x.items) ts result }
-    // Each begins with as many bytes of the source left as it says, between two characters.
+    // Each begins where it says that so many bytes of the source are left.
     ensures starts { IfOk result (λ x. BeginIn source.now x.items) }
     // A fault lies between two characters of the source.
     ensures fault { IfErr result (λ e. IsWithin source.now e) }

@@ -1,4 +1,4 @@
-use Rattle.std.proofs.Common.{◌≡◌, ◌-◌, ◌<◌, ◌≤◌, List, ◌++◌, length, take, arith, refl, sym, ap, subst}
+use Rattle.std.proofs.Common.{◌≡◌, ◌-◌, ◌<◌, ◌≤◌, ◌∙◌, List, ◌++◌, length, take, arith, refl, sym, ap, subst}
 use Rattle.std.specs.Prelude.{option_map}
 use Rattle.std.proofs.lemmas.Result.{err_from_is_err_and}
 use Rattle.pbx_token.specs.declared.token.Place.{Place}
@@ -6,7 +6,7 @@ use Rattle.pbx_token.specs.declared.token.Token as code
 use Rattle.pbx_token.specs.Pieces.{tokens_from, origin, significant, significant_after}
 use Rattle.pbx_token.specs.Scan.{pieces_at}
 use Rattle.pbx_token.specs.View.{BeginIn, tokens_of, word_of}
-use Rattle.pbx_token.proofs.Starts.{begin_none}
+use Rattle.pbx_token.proofs.Starts.{begin_none, place_none, place_more}
 use Rattle.std.proofs.lemmas.Bool.{eqb-true}
 use Rattle.std.proofs.lemmas.List.{length-take}
 use Rattle.pbx_token.specs.Places.{place_after}
@@ -22,6 +22,7 @@ pieces-init c = record {
   so_far = ap (λ (s : List code.Token). option_map (λ ps. significant (tokens_of s ++ tokens_from origin ps)) (pieces_at c.args.source.now)) c.new-tokens.ensures.items;
   stay = subst (λ (s : List code.Token). significant (tokens_of s) ≡ tokens_of s) (sym c.new-tokens.ensures.items) refl;
   starts = subst (BeginIn c.args.source.now) (sym c.new-tokens.ensures.items) (begin_none c.args.source.now);
+  at = place_none c.args.source.now;
   left = split_whole c.args.source.now;
   line = omega arith;
   column = omega arith;
@@ -59,7 +60,8 @@ pieces-preserved c =
     record {
       so_far = goes_on (tokens_of c.pieces.tokens.items) (tokens_of c.add.new.tokens.items) from c.after-to.result rest next w total some c.in_ok-word.ensures.read at c.in_ok-add.ensures.same c.pieces.invariant.so_far;
       stay = c.in_ok-add.ensures.stays c.pieces.invariant.stay;
-      starts = c.in_ok-add.ensures.starts c.args.source.now (record { within = omega arith; cut = cut_rest c.args.source.now rest c.requires.text c.pieces.invariant.text c.pieces.invariant.left }) c.pieces.invariant.starts;
+      starts = c.in_ok-add.ensures.starts c.args.source.now (record { within = omega arith; cut = cut_rest c.args.source.now rest c.requires.text c.pieces.invariant.text c.pieces.invariant.left; place = c.pieces.invariant.at }) c.pieces.invariant.starts;
+      at = place_more c.args.source.now rest (length next) from c.pieces.invariant.left (omega (arith, c.in_ok-word.ensures.shorter)) c.pieces.invariant.at ∙ sym at;
       left = split_next c.args.source.now rest next w c.in_ok-word.ensures.read c.pieces.invariant.left;
       line = omega (arith, c.after-to.ensures.line, c.in_ok-word.ensures.shorter, c.pieces.invariant.line);
       column = omega (arith, c.after-to.ensures.column, c.in_ok-word.ensures.shorter, c.pieces.invariant.column);
