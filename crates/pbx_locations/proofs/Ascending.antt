@@ -1,17 +1,17 @@
 -- The locations of each part of a file ascend, and begin with its path.
-use Rattle.std.proofs.Common.{◌≡◌, ℕ, ◌+◌, ◌≤◌, length, refl, ℤ, pos, Bool, true, false, List, [], ◌∷◌, ◌++◌, map, append_assoc, arith, Option, Some, None, unwrap_or}
+use Rattle.std.proofs.Common.{◌≡◌, ℕ, ◌+◌, ◌≤◌, length, refl, ℤ, pos, Bool, true, false, List, [], ◌∷◌, ◌++◌, append_assoc, arith, Option, Some, None, unwrap_or}
 use Rattle.std.specs.Prelude.{if◌then◌else◌}
 use Rattle.std.specs.List.{flat_map}
 use Rattle.pbx_token.specs.declared.token.Span.{Span}
 use Rattle.pbx_desc.specs.declared.source.Location.{Location}
 use Rattle.pbx_locations.specs.declared.file.Extent.{Extent}
-use Rattle.pbx_tree.specs.Tree.{Name, Settings, Value, Enum, Method, Service, Oneof, Head, Body, end, item, message, Syntax, Import, Top, top_package, File}
+use Rattle.pbx_tree.specs.Tree.{Settings, Value, Enum, Method, Service, Oneof, Body, end, item, message, Syntax, Import, Top, top_package, File}
 use Rattle.pbx_tree.specs.Conditions.{packages}
 use Rattle.pbx_locations.specs.Locations.{first_of_number, last_of_method, first_of_type, last_of_type, part, element, numbered, block, settings_part, label_part, Parts, field_locations, field_at, value_locations, value_at, enum_locations, enum_at, method_locations, method_at, service_locations, item_values, item_methods, item_fields, item_enums, item_extensions, item_oneofs, of_items, entries, oneof_at, message_with, nested_from, message_locations, package_location, import_at, top_imports, message_at, top_messages, top_enums, service_at, top_services, top_extensions, syntax_location, locations_in}
 use Rattle.pbx_locations.proofs.Paths.{At, From, none_at, none_from, join, last_from, less_from, at, at_element, head, alone, elements, settings_from}
 
-pub block_at : (p : List ℤ) (keyword : Span) (n : Name) (close : Span) (ls : List Location) → From p 2 ls → At p (block p keyword n close ++ ls)
-block_at p keyword n close ls h = head p keyword close (join 1 (omega arith) (alone p 1 n.span n.span) h)
+pub block_at : (p : List ℤ) (keyword name close : Span) (ls : List Location) → From p 2 ls → At p (block p keyword name close ++ ls)
+block_at p keyword name close ls h = head p keyword close (join 1 (omega arith) (alone p 1 name name) h)
 
 -- ---- fields
 
@@ -41,7 +41,7 @@ value_is p v = head p v.name.span v.end
     (join 2 (omega arith) (alone p 2 (first_of_number v.number) v.number.span) (settings_from 3 v.settings (omega arith))))
 
 pub enum_is : (p : List ℤ) (e : Enum) → At p (enum_locations p e)
-enum_is p e = block_at p e.keyword e.name e.close _
+enum_is p e = block_at p e.keyword e.name.span e.close _
     (last_from 2 (omega arith) (elements (value_at p) p 2 (λ i v. value_is (element p 2 i) v) (flat_map item_values e.items)))
 
 pub enums_at : (p : List ℤ) (n : ℕ) (es : List Enum) → At (p ++ pos n ∷ []) (numbered (enum_at p n) 0 es)
@@ -56,17 +56,17 @@ method_is p m = head p m.keyword (last_of_method m.end)
     (last_from 3 (omega arith) (alone p 3 (first_of_type m.output.name) (last_of_type m.output.name)))))
 
 pub service_is : (p : List ℤ) (s : Service) → At p (service_locations p s)
-service_is p s = block_at p s.keyword s.name s.close _
+service_is p s = block_at p s.keyword s.name.span s.close _
     (last_from 2 (omega arith) (elements (method_at p) p 2 (λ i m. method_is (element p 2 i) m) (flat_map item_methods s.items)))
 
 -- ---- messages
 
 oneof_is : (p : List ℤ) (i : ℕ) (o : Oneof) → At (element p 8 i) (oneof_at p i o)
-oneof_is p i o = block_at (element p 8 i) o.keyword o.name o.close [] (none_from (element p 8 i) 2)
+oneof_is p i o = block_at (element p 8 i) o.keyword o.name.span o.close [] (none_from (element p 8 i) 2)
 
-with_nested : (p : List ℤ) (h : Head) (b : Body) (close : Span) (nested : List Location) → At (p ++ pos 3 ∷ []) nested → At p (message_with nested p h b close)
-with_nested p h b close nested at_3 = simp append_assoc
-    (block_at p h.keyword h.name close _
+with_nested : (p : List ℤ) (keyword name : Span) (b : Body) (close : Span) (nested : List Location) → At (p ++ pos 3 ∷ []) nested → At p (message_with nested p keyword name b close)
+with_nested p keyword name b close nested at_3 = simp append_assoc
+    (block_at p keyword name close _
     (join 2 (omega arith) (fields_at p 2 (of_items item_fields b))
     (join 3 (omega arith) at_3
     (join 4 (omega arith) (enums_at p 4 (of_items item_enums b))
@@ -79,10 +79,10 @@ nested_is p i end = none_from (p ++ pos 3 ∷ []) i
 nested_is p i (item x b) = less_from (omega arith) (nested_is p (i + entries x) b)
 nested_is p i (message h inner close b) =
     let below = at (nested_is (element p 3 i) 0 inner) in
-    join i (omega arith) (at_element p 3 i (with_nested (element p 3 i) h inner close _ below)) (nested_is p (i + 1) b)
+    join i (omega arith) (at_element p 3 i (with_nested (element p 3 i) h.keyword h.name.span inner close _ below)) (nested_is p (i + 1) b)
 
-pub message_is : (p : List ℤ) (h : Head) (b : Body) (close : Span) → At p (message_locations p h b close)
-message_is p h b close = with_nested p h b close (nested_from p 0 b) (at (nested_is p 0 b))
+pub message_is : (p : List ℤ) (keyword name : Span) (b : Body) (close : Span) → At p (message_locations p keyword name b close)
+message_is p keyword name b close = with_nested p keyword name b close (nested_from p 0 b) (at (nested_is p 0 b))
 
 -- ---- files
 
@@ -110,7 +110,7 @@ file_is whole f h = simp append_assoc
     (head [] whole.from whole.to
     (join 2 (omega arith) (package_at f.tops h)
     (join 3 (omega arith) (elements import_at [] 3 import_is (flat_map top_imports f.tops))
-    (join 4 (omega arith) (elements message_at [] 4 (λ i m. message_is (element [] 4 i) m.0 m.1 m.2) (flat_map top_messages f.tops))
+    (join 4 (omega arith) (elements message_at [] 4 (λ i m. message_is (element [] 4 i) m.0.keyword m.0.name.span m.1 m.2) (flat_map top_messages f.tops))
     (join 5 (omega arith) (enums_at [] 5 (flat_map top_enums f.tops))
     (join 6 (omega arith) (elements service_at [] 6 (λ i s. service_is (element [] 6 i) s) (flat_map top_services f.tops))
     (join 7 (omega arith) (fields_at [] 7 (flat_map top_extensions f.tops))

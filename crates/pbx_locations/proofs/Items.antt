@@ -1,5 +1,5 @@
 -- The items of a message as items of its body.
-use Rattle.std.proofs.Common.{◌≡◌, ℕ, ◌+◌, ◌<◌, ◌≤◌, ℤ, List, [], ◌∷◌, ◌++◌, length, drop, get_or, refl, sym, ap, ◌∙◌, append_assoc, append-nil, add-zero, add-one, drop-cons}
+use Rattle.std.proofs.Common.{◌≡◌, ℕ, zero, suc, arith, ◌+◌, ◌<◌, ◌≤◌, ℤ, List, [], ◌∷◌, ◌++◌, length, drop, get_or, refl, sym, ap, ◌∙◌, append_assoc, append-nil, add-one, drop-cons}
 use Rattle.std.proofs.lemmas.List.{drop_all}
 use Rattle.std.specs.List.{flat_map}
 use Rattle.std.specs.declared.vec.Vec.{Vec}
@@ -14,12 +14,14 @@ use Rattle.pbx_tree.specs.declared.tree.Item as items
 use Rattle.pbx_tree.specs.declared.tree.Item.TheOpen as layers
 use Rattle.pbx_tree.specs.declared.tree.Item.{Item, out-Item, roll-Item, roll-out-Item, map-Item, fold_out-Item}
 use Rattle.pbx_tree.specs.declared.tree.Item.TheVariants.{rolls-Map, rolls-Oneof, rolls-Message, rolls-Enum, rolls-Extend, outs-Map, outs-Oneof, outs-Message, outs-Enum, outs-Extend}
-use Rattle.pbx_tree.specs.Tree.{item_map, item_oneof, item_enum, item_extend, Body, end}
+use Rattle.pbx_tree.specs.Tree.{item_map, item_oneof, item_enum, item_extend, Body, end, item, message}
 use Rattle.pbx_tree.specs.Tree as tree
 use Rattle.pbx_tree.specs.View.{head_of, map_of, oneof_of, enum_of, extend_of, BodyItem, plain, nested, add, all_before, item_step, item_of, body_of}
 use Rattle.pbx_desc.specs.declared.source.Location.{Location}
 use Rattle.pbx_locations.specs.Locations.{element, of_items, item_enums, item_extensions, item_oneofs, nested_from, message_locations}
 use Rattle.pbx_locations.specs.BodyItems.{of_body_item}
+use Rattle.pbx_locations.specs.declared.block.Block.{Block}
+use Rattle.pbx_locations.specs.Blocks.{IsMessageIn, IsPlain}
 
 -- an item by its outermost layer
 abbrev layer : layers.Item-F Item → BodyItem
@@ -67,29 +69,55 @@ pub no_oneof : (x : Item) → ((o : code_oneof.Oneof) → x ≡ items.Oneof o �
 no_oneof x h = ap (of_body_item item_oneofs) (layer_of x) ∙ no_oneof_in (out-Item x) (λ o p. h o (sym (roll-out-Item x) ∙ p))
 
 -- what is neither a message nor a map field makes no nested message
-no_nested_in : (path : List ℤ) (i : ℕ) (b : Body) (l : layers.Item-F Item)
+plain_in : (l : layers.Item-F Item)
     → ((h : code_head.Head) (is : Vec Item Global) (close : Span) → roll-Item l ≡ items.Message h is close → ⊥) → ((m : code_map.MapField) → roll-Item l ≡ items.Map m → ⊥)
-    → nested_from path i (add (layer l) b) ≡ nested_from path i b
-unfolding nested_from
-no_nested_in path i b (layers.Message h is close) p q = absurd (p h is close (rolls-Message h is close))
-no_nested_in path i b (layers.Map m) p q = absurd (q m (rolls-Map m))
-no_nested_in path i b _ p q = ap (λ n. nested_from path n b) (add-zero i)
+    → IsPlain (layer l) 0
+plain_in (layers.Message h is close) p q = absurd (p h is close (rolls-Message h is close))
+plain_in (layers.Map m) p q = absurd (q m (rolls-Map m))
+plain_in _ p q = record { item = _; is = refl; made = refl }
 
-pub no_nested : (path : List ℤ) (i : ℕ) (b : Body) (x : Item)
+pub plain_is : (x : Item)
     → ((h : code_head.Head) (is : Vec Item Global) (close : Span) → x ≡ items.Message h is close → ⊥) → ((m : code_map.MapField) → x ≡ items.Map m → ⊥)
-    → nested_from path i (add (item_of x) b) ≡ [] ++ nested_from path i b
-no_nested path i b x p q =
-    ap (λ c. nested_from path i (add c b)) (layer_of x)
-    ∙ no_nested_in path i b (out-Item x) (λ h is close e. p h is close (sym (roll-out-Item x) ∙ e)) (λ m e. q m (sym (roll-out-Item x) ∙ e))
+    → IsPlain (item_of x) 0
+plain_is x p q = rw (layer_of x) (plain_in (out-Item x) (λ h is close e. p h is close (sym (roll-out-Item x) ∙ e)) (λ m e. q m (sym (roll-out-Item x) ∙ e)))
 
-pub map_nested : (path : List ℤ) (i : ℕ) (b : Body) (x : Item) (m : code_map.MapField) → x ≡ items.Map m → nested_from path i (add (item_of x) b) ≡ [] ++ nested_from path (i + 1) b
+-- what they add to the locations of nested messages
+pub plain_nested : (path : List ℤ) (i n : ℕ) (rest : Body) (x : BodyItem) → IsPlain x n → nested_from path i (add x rest) ≡ [] ++ nested_from path (i + n) rest
 unfolding nested_from
-map_nested path i b x m e = ap (λ c. nested_from path i (add c b)) (ap item_of e ∙ body_item_of_map m)
+plain_nested path i n rest x h =
+    ap (λ y. nested_from path i (add y rest)) h.is ∙ ap (λ k. nested_from path (i + k) rest) h.made
 
-pub message_nested : (path : List ℤ) (i : ℕ) (b : Body) (x : Item) (h : code_head.Head) (is : Vec Item Global) (close : Span) → x ≡ items.Message h is close
-    → nested_from path i (add (item_of x) b) ≡ message_locations (element path 3 i) (head_of h) (body_of is.items) close ++ nested_from path (i + 1) b
+pub message_nested : (path : List ℤ) (i : ℕ) (rest : Body) (x : BodyItem) (b : Block) → IsMessageIn x b
+    → nested_from path i (add x rest) ≡ message_locations (element path 3 i) b.keyword b.name (body_of b.items.now) b.close ++ nested_from path (i + 1) rest
 unfolding nested_from
-message_nested path i b x h is close e = ap (λ c. nested_from path i (add c b)) (ap item_of e ∙ body_item_of_message h is close)
+message_nested path i rest x b h =
+    ap (λ y. nested_from path i (add y rest)) h.is
+    ∙ ap (λ k. message_locations (element path 3 i) k h.head.name.span (body_of b.items.now) b.close ++ nested_from path (i + 1) rest) h.keyword
+    ∙ ap (λ n. message_locations (element path 3 i) b.keyword n (body_of b.items.now) b.close ++ nested_from path (i + 1) rest) h.name
+
+-- ---- how much there is in a body
+
+abbrev pub size : Body → ℕ
+size end = 0
+size (item x b) = suc (size b)
+size (message h inner close b) = suc (size inner + size b)
+
+grows : (x : BodyItem) (b : Body) → size b ≤ size (add x b)
+grows (plain i) b = omega arith
+grows (nested h inner close) b = omega arith
+
+-- a message that is one of these items has less
+pub smaller : (xs : List Item) (n : ℕ) (x : Item) (b : Block) → n < length xs → x ≡ get_or xs n x → IsMessageIn (item_of x) b → size (body_of b.items.now) < size (body_of xs)
+smaller [] n x b below is h = absurd (omega arith)
+smaller (y ∷ ys) zero x b below is h =
+    let same : item_of y ≡ nested h.head (body_of b.items.now) b.close = sym (ap item_of is) ∙ h.is in
+    let whole : size (body_of (y ∷ ys)) ≡ suc (size (body_of b.items.now) + size (body_of ys)) = ap (λ z. size (add z (body_of ys))) same in
+    omega arith
+smaller (y ∷ ys) (suc n) x b below is h =
+    let fewer : n < length ys = omega arith in
+    let less = smaller ys n x b fewer is h in
+    let more = grows (item_of y) (body_of ys) in
+    omega arith
 
 -- ---- bodies
 

@@ -1,3 +1,4 @@
 pub mod Ascends
+pub mod Blocks
 pub mod BodyItems
 pub mod Locations

@@ -5,7 +5,7 @@ use Rattle.std.specs.List.{flat_map}
 use Rattle.pbx_desc.specs.declared.source.Location.{Location}
 use Rattle.pbx_token.specs.declared.token.Span.{Span}
 use Rattle.pbx_token.specs.Tokens.{Token}
-use Rattle.pbx_tree.specs.Tree.{Name, Number, TypeName, Kind, scalar, named_type, Settings, Tail, Field, MapField, Member, empty_member, member, Oneof, Extension, empty_extension, extension, Extend, Value, EnumItem, enum_value, Enum, MethodEnd, method_semicolon, method_block, Method, ServiceItem, service_method, Service, Item, item_field, item_map, item_oneof, item_enum, item_extend, Head, Body, end, item, message, Syntax, Import, Top, top_package, top_import, top_message, top_enum, top_extend, top_service, File}
+use Rattle.pbx_tree.specs.Tree.{Number, TypeName, Kind, scalar, named_type, Settings, Tail, Field, MapField, Member, empty_member, member, Oneof, Extension, empty_extension, extension, Extend, Value, EnumItem, enum_value, Enum, MethodEnd, method_semicolon, method_block, Method, ServiceItem, service_method, Service, Item, item_field, item_map, item_oneof, item_enum, item_extend, Head, Body, end, item, message, Syntax, Import, Top, top_package, top_import, top_message, top_enum, top_extend, top_service, File}
 use Rattle.pbx_locations.specs.declared.field.Typed.{Typed}
 use Rattle.pbx_locations.specs.declared.file.Extent.{Extent}
 
@@ -43,8 +43,8 @@ last_of x [] = x
 last_of x (y ∷ ys) = last_of y ys
 
 -- what has a keyword, a name and a block up to its `}`, and its name
-abbrev pub block : List ℤ → Span → Name → Span → List Location
-block path keyword n close = place path keyword close ∷ part path 1 n.span n.span ∷ []
+abbrev pub block : List ℤ → Span → Span → Span → List Location
+block path keyword name close = place path keyword close ∷ part path 1 name name ∷ []
 
 -- ---- names of types, and options
 
@@ -133,7 +133,7 @@ item_values _ = []
 
 -- an enum, its name and its values
 abbrev pub enum_locations : List ℤ → Enum → List Location
-enum_locations path e = block path e.keyword e.name e.close ++ numbered (value_at path) 0 (flat_map item_values e.items)
+enum_locations path e = block path e.keyword e.name.span e.close ++ numbered (value_at path) 0 (flat_map item_values e.items)
 
 abbrev pub enum_at : List ℤ → ℕ → ℕ → Enum → List Location
 enum_at path n i e = enum_locations (element path n i) e
@@ -159,7 +159,7 @@ item_methods _ = []
 
 -- a service, its name and its methods
 abbrev pub service_locations : List ℤ → Service → List Location
-service_locations path s = block path s.keyword s.name s.close ++ numbered (method_at path) 0 (flat_map item_methods s.items)
+service_locations path s = block path s.keyword s.name.span s.close ++ numbered (method_at path) 0 (flat_map item_methods s.items)
 
 -- ---- messages
 
@@ -194,12 +194,12 @@ of_items one (item i b) = one i ++ of_items one b
 of_items one (message h inner close b) = of_items one b
 
 abbrev pub oneof_at : List ℤ → ℕ → Oneof → List Location
-oneof_at path i o = block (element path 8 i) o.keyword o.name o.close
+oneof_at path i o = block (element path 8 i) o.keyword o.name.span o.close
 
 -- a message, its name and what it holds, with these as the locations of its nested messages
-abbrev pub message_with : List Location → List ℤ → Head → Body → Span → List Location
-message_with nested path h b close =
-    block path h.keyword h.name close
+abbrev pub message_with : List Location → List ℤ → Span → Span → Body → Span → List Location
+message_with nested path keyword name b close =
+    block path keyword name close
     ++ numbered (field_at path 2) 0 (of_items item_fields b)
     ++ nested
     ++ numbered (enum_at path 4) 0 (of_items item_enums b)
@@ -211,11 +211,11 @@ unfoldable pub nested_from : List ℤ → ℕ → Body → List Location
 nested_from path i end = []
 nested_from path i (item x b) = nested_from path (i + entries x) b
 nested_from path i (message h inner close b) =
-    message_with (nested_from (element path 3 i) 0 inner) (element path 3 i) h inner close
+    message_with (nested_from (element path 3 i) 0 inner) (element path 3 i) h.keyword h.name.span inner close
     ++ nested_from path (i + 1) b
 
-abbrev pub message_locations : List ℤ → Head → Body → Span → List Location
-message_locations path h b close = message_with (nested_from path 0 b) path h b close
+abbrev pub message_locations : List ℤ → Span → Span → Body → Span → List Location
+message_locations path keyword name b close = message_with (nested_from path 0 b) path keyword name b close
 
 -- ---- files
 
@@ -247,7 +247,7 @@ abbrev pub import_at : ℕ → Import → List Location
 import_at i x = place (element [] 3 i) x.keyword x.end ∷ []
 
 abbrev pub message_at : ℕ → Head × Body × Span → List Location
-message_at i m = message_locations (element [] 4 i) m.0 m.1 m.2
+message_at i m = message_locations (element [] 4 i) m.0.keyword m.0.name.span m.1 m.2
 
 abbrev pub service_at : ℕ → Service → List Location
 service_at i s = service_locations (element [] 6 i) s

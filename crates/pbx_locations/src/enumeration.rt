@@ -58,6 +58,6 @@ pub fn add_enum(
 ) -> Result<(), NoMemory>
     ensures { OnOk result (out.new ≡ out.old ++ enum_locations path.now (enum_of item.now)) }
 {
-    add_block(alloc, out, path, item.keyword, &item.name, item.close)?;
+    add_block(alloc, out, path, item.keyword, item.name.span, item.close)?;
     add_values(alloc, out, path, item.items.as_slice())
 }

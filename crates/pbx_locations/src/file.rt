@@ -9,6 +9,7 @@ ghost use Rattle.pbx_tree.specs.Conditions.{packages};
 ghost use Rattle.pbx_locations.specs.Locations.{extent_of, package_location, import_at, top_imports, message_at, top_messages, enum_at, top_enums, service_at, top_services, field_at, top_extensions, syntax_location, numbered, locations_in};
 ghost use Rattle.pbx_locations.specs.Ascends.{Ascends};
 
+use crate::block::top_message;
 use crate::count::location_count;
 use crate::enumeration::add_enum;
 use crate::field::add_extensions;
@@ -86,10 +87,9 @@ fn add_messages(alloc: Global, out: &mut List<Location>, tops: &[Top<'_>]) -> Re
     let file = List::new(alloc);
     let mut index = 0;
     'each: for top in tops {
-        if let Top::Message(message) = top {
+        if let Some(block) = top_message(top) {
             let path = element(alloc, &file, tag::file::MESSAGE_TYPE, index)?;
-            let items = message.items.as_slice();
-            add_message(alloc, out, &path, &message.head, items, message.close)?;
+            add_message(alloc, out, &path, block)?;
             index = next(index)?;
         }
     }
@@ -182,6 +182,12 @@ fn add_tops(alloc: Global, out: &mut List<Location>, tops: &[Top<'_>]) -> Result
     add_extension_blocks(alloc, out, tops)
 }
 
+fn tops_of<'a, 's>(file: &'a File<'s>) -> &'a [Top<'s>]
+    ensures { result.now ≡ file.now.tops.items }
+{
+    file.tops.as_slice()
+}
+
 /// Adds the locations of a file.
 fn add_file(
     alloc: Global,
@@ -192,7 +198,7 @@ fn add_file(
     ensures { OnOk result (out.old ≡ [] → out.new ≡ locations_in whole (file_of file.now)) }
 {
     add(alloc, out, &List::new(alloc), whole.from, whole.to)?;
-    add_tops(alloc, out, file.tops.as_slice())?;
+    add_tops(alloc, out, tops_of(file))?;
     add_syntax(alloc, out, &file.syntax)
 }
 

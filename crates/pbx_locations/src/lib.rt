@@ -1,6 +1,7 @@
 //! Where the parts of a source file stand, from its tokens and its syntax tree.
 #![tactic(auto)]
 
+mod block;
 mod count;
 mod enumeration;
 mod field;

@@ -1,17 +1,17 @@
 //! Messages, with what they hold.
 
 ghost use Rattle.std.specs.Prelude.{◌≡◌, ◌++◌, pos, IfOk, OnOk};
-ghost use Rattle.pbx_tree.specs.View.{head_of, item_of, body_of};
+ghost use Rattle.pbx_tree.specs.View.{item_of, body_of};
 ghost use Rattle.pbx_locations.specs.Locations.{field_at, enum_at, oneof_at, item_fields, item_enums, item_extensions, item_oneofs, of_items, numbered, Adds, nested_from, message_locations};
 ghost use Rattle.pbx_locations.specs.BodyItems.{of_body_item};
 
+use crate::block::{Block, Nested, nested_message};
 use crate::enumeration::add_enum;
 use crate::field::{add_extensions, add_labelled, add_map, add_members};
 use crate::place::{add_block, element, next};
 use crate::tag;
 use pbx_desc::Location;
-use pbx_token::Span;
-use pbx_tree::{Head, Item};
+use pbx_tree::Item;
 use pbx_wire::{List, NoMemory};
 use std::alloc::Global;
 
@@ -105,7 +105,14 @@ fn add_oneofs(
     'each: for item in items {
         if let Item::Oneof(oneof) = item {
             let path = element(alloc, path, tag::message::ONEOF_DECL, index)?;
-            add_block(alloc, out, &path, oneof.keyword, &oneof.name, oneof.close)?;
+            add_block(
+                alloc,
+                out,
+                &path,
+                oneof.keyword,
+                oneof.name.span,
+                oneof.close,
+            )?;
             index = next(index)?;
         }
     }
@@ -124,14 +131,14 @@ fn add_nested(
 {
     let mut index = 0;
     'each: for item in items {
-        match item {
-            Item::Message(head, items, close) => {
+        match nested_message(item) {
+            Nested::Message(block) => {
                 let path = element(alloc, path, tag::message::NESTED_TYPE, index)?;
-                add_message(alloc, out, &path, head, items.as_slice(), *close)?;
+                add_message(alloc, out, &path, block)?;
                 index = next(index)?;
             }
-            Item::Map(_) => index = next(index)?,
-            _ => {}
+            Nested::Entry => index = next(index)?,
+            Nested::None => {}
         }
     }
     Ok(())
@@ -143,16 +150,14 @@ pub fn add_message(
     alloc: Global,
     out: &mut List<Location>,
     path: &List<i32>,
-    head: &Head<'_>,
-    items: &[Item<'_>],
-    close: Span,
+    block: Block<'_, '_>,
 ) -> Result<(), NoMemory>
-    ensures { OnOk result (out.new ≡ out.old ++ message_locations path.now (head_of head.now) (body_of items.now) close) }
+    ensures { OnOk result (out.new ≡ out.old ++ message_locations path.now block.entry.keyword block.entry.name (body_of block.entry.items.now) block.entry.close) }
 {
-    add_block(alloc, out, path, head.keyword, &head.name, close)?;
-    add_fields(alloc, out, path, items)?;
-    add_nested(alloc, out, path, items)?;
-    add_enums(alloc, out, path, items)?;
-    add_extension_blocks(alloc, out, path, items)?;
-    add_oneofs(alloc, out, path, items)
+    add_block(alloc, out, path, block.keyword, block.name, block.close)?;
+    add_fields(alloc, out, path, block.items)?;
+    add_nested(alloc, out, path, block.items)?;
+    add_enums(alloc, out, path, block.items)?;
+    add_extension_blocks(alloc, out, path, block.items)?;
+    add_oneofs(alloc, out, path, block.items)
 }

@@ -1,13 +1,11 @@
 //! One location, and the paths of locations.
 
 ghost use Rattle.std.specs.Prelude.{◌≡◌, ◌+◌, ◌++◌, [], ◌∷◌, pos, IfOk, OnOk};
-ghost use Rattle.pbx_tree.specs.View.{name_of};
 ghost use Rattle.pbx_locations.specs.Locations.{span_of, place, part, element as element_of, block};
 
 use crate::tag::NAME;
 use pbx_desc::Location;
 use pbx_token::Span;
-use pbx_tree::Name;
 use pbx_wire::{List, NoMemory};
 use std::alloc::Global;
 
@@ -137,11 +135,11 @@ pub fn add_block(
     out: &mut List<Location>,
     path: &List<i32>,
     keyword: Span,
-    name: &Name<'_>,
+    name: Span,
     close: Span,
 ) -> Result<(), NoMemory>
-    ensures { OnOk result (out.new ≡ out.old ++ block path.now keyword (name_of name.now) close) }
+    ensures { OnOk result (out.new ≡ out.old ++ block path.now keyword name close) }
 {
     add(alloc, out, path, keyword, close)?;
-    add_token(alloc, out, path, NAME, name.span)
+    add_token(alloc, out, path, NAME, name)
 }

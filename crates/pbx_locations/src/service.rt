@@ -88,7 +88,7 @@ pub fn add_service(
         out,
         path,
         service.keyword,
-        &service.name,
+        service.name.span,
         service.close,
     )?;
     add_methods(alloc, out, path, service.items.as_slice())

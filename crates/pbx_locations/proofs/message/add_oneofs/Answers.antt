@@ -1,5 +1,5 @@
 use Rattle.std.proofs.Common.{◌++◌, map, ap, ◌∙◌}
-use Rattle.pbx_tree.specs.View.{item_of, name_of}
+use Rattle.pbx_tree.specs.View.{item_of}
 use Rattle.pbx_locations.specs.Locations.{oneof_at, item_oneofs, numbered, block}
 use Rattle.pbx_locations.specs.BodyItems.{of_body_item}
 use Rattle.pbx_locations.proofs.Added.{one_more, skips, is_over}
@@ -15,7 +15,7 @@ each-preserved c =
       | in-Oneof+in_ok-path+in_ok-add_block+in_ok-index w ↦
           let here = ap (λ i. of_body_item item_oneofs (item_of i)) w.in-Oneof.is ∙ ap (of_body_item item_oneofs) (body_item_of_oneof w.in-Oneof.oneof) in
           rw (w.out-is, w.index-is)
-          (one_more (oneof_at c.args.path.now) (of_body_item item_oneofs) item_of xs c.each.item-index x _ _ _ _ _ _ _ _ c.each-test.true c.item-item.is here c.each.invariant w.in_ok-add_block.ensures (ap (λ p. block p w.in-Oneof.oneof.keyword (name_of w.in-Oneof.oneof.name) w.in-Oneof.oneof.close) w.in_ok-path.ensures) w.in_ok-index.ensures)
+          (one_more (oneof_at c.args.path.now) (of_body_item item_oneofs) item_of xs c.each.item-index x _ _ _ _ _ _ _ _ c.each-test.true c.item-item.is here c.each.invariant w.in_ok-add_block.ensures (ap (λ p. block p w.in-Oneof.oneof.keyword w.in-Oneof.oneof.name.span w.in-Oneof.oneof.close) w.in_ok-path.ensures) w.in_ok-index.ensures)
       | in_default w ↦ rw (w.out-is, w.index-is) (skips (oneof_at c.args.path.now) (of_body_item item_oneofs) item_of xs c.each.item-index x _ _ _ _ c.each-test.true c.item-item.is (no_oneof x w.in_default.not-Oneof) c.each.invariant)
     ]
 
