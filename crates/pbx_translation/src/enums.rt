@@ -1,7 +1,7 @@
 //! Records of enums.
 
-ghost use Rattle.std.specs.Prelude.{◌≡◌, Some, map, pos, IfOk, OnOk};
-ghost use Rattle.std.specs.List.{flat_map, filter_map};
+ghost use Rattle.std.specs.Prelude.{◌≡◌, map, pos, IfOk};
+ghost use Rattle.std.specs.List.{filter_map};
 ghost use Rattle.pbx_tree.specs.declared.options.OptionPlace.TheVariants as places;
 ghost use Rattle.pbx_tree.specs.Conditions.{enum_setting};
 ghost use Rattle.pbx_tree.specs.View.{literal_of, range_of, enum_number_of, value_of, enum_item_of, enum_of};
@@ -119,31 +119,8 @@ fn enum_options(alloc: Global, items: &[EnumItem<'_>]) -> Result<Option<Options>
     options(alloc, OptionPlace::Enum, settings.as_slice())
 }
 
-/// Adds all that an enum has.
-fn add_enum_parts(
-    alloc: Global,
-    version: Version,
-    item: &Enum<'_>,
-    parts: &mut EnumDescriptorProto,
-) -> Result<(), NoMemory>
-    ensures { OnOk result (parts.new ≡ record parts.old {
-      name = Some item.now.name.text.now;
-      value = flat_map (λ i. enum_value_records (enum_item_of i)) item.now.items.items;
-      options = options_of places.Enum (filter_map enum_setting (map enum_item_of item.now.items.items));
-      reserved_range = flat_map (λ i. range_records (enum_item_of i)) item.now.items.items;
-      reserved_name = flat_map (λ i. reserved_names_in (enum_item_of i)) item.now.items.items;
-    }) }
-{
-    let items = item.items.as_slice();
-    parts.name = Some(Text::from_str(alloc, item.name.text)?);
-    parts.value = all_given(alloc, version, items)?;
-    parts.options = enum_options(alloc, items)?;
-    parts.reserved_range = all_given(alloc, version, items)?;
-    parts.reserved_name = all_given(alloc, version, items)?;
-    Ok(())
-}
-
 /// The record of an enum.
+#[tactic(auto, unfolding(crate::specs::Enums::enum_record))]
 pub(crate) fn enum_record(
     alloc: Global,
     version: Version,
@@ -151,9 +128,13 @@ pub(crate) fn enum_record(
 ) -> Result<EnumDescriptorProto, NoMemory>
     ensures { IfOk result (λ it. it ≡ enum_record_of (enum_of item.now)) }
 {
-    let mut parts = EnumDescriptorProto::new(alloc);
-    match add_enum_parts(alloc, version, item, &mut parts) {
-        Ok(()) => Ok(parts),
-        Err(error) => Err(error),
-    }
+    let items = item.items.as_slice();
+    Ok(EnumDescriptorProto {
+        name: Some(Text::from_str(alloc, item.name.text)?),
+        value: all_given(alloc, version, items)?,
+        options: enum_options(alloc, items)?,
+        reserved_range: all_given(alloc, version, items)?,
+        reserved_name: all_given(alloc, version, items)?,
+        unknown: Recs::new(alloc),
+    })
 }
