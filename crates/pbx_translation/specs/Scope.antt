@@ -17,9 +17,9 @@ abbrev pub AreTaken : List (List ℕ) → List ℕ → ℕ → Type 0
 AreTaken names field x_count = (k : ℕ) → k < x_count → is_among names (name_with k field) ≡ true
 
 -- the count of `X` with which the search for a field of this name begins, none where it is the first
-abbrev pub begins_with : BTreeMap (Bor (List ℕ)) ℕ → List ℕ → ℕ
-begins_with x_counts field = unwrap_or (get_by (λ k. slice_cmp nat_cmp field k.now) x_counts) 0
+abbrev pub first_x : BTreeMap (Bor (List ℕ)) ℕ → List ℕ → ℕ
+first_x x_counts field = unwrap_or (get_by (λ k. slice_cmp nat_cmp field k.now) x_counts) 0
 
 -- no search begins behind a name that is free
 abbrev pub BeginsWell : BTreeMap (Bor (List ℕ)) ℕ → List (List ℕ) → Type 0
-BeginsWell x_counts names = (field : List ℕ) → AreTaken names field (begins_with x_counts field)
+BeginsWell x_counts names = (field : List ℕ) → AreTaken names field (first_x x_counts field)

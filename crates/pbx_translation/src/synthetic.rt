@@ -41,7 +41,7 @@ fn fewest_x(alloc: Global, scope: &Scope, field: &str, first: usize) -> Result<u
 }
 
 /// Takes a free name for the field's synthetic oneof. The counts of `X` are those of the last name that was taken for
-/// a field of each name: those below them are not tried again, so all searches together try each name of the scope once.
+/// a field of each name: lower ones are not tried again, so all searches together try each name at most twice.
 fn take_name<'a>(
     alloc: Global,
     field: &'a str,
