@@ -1,2 +1,3 @@
-pub mod Locations
+pub mod Ascends
 pub mod BodyItems
+pub mod Locations

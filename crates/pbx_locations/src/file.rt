@@ -1,10 +1,13 @@
 //! The locations of a file.
 
-ghost use Rattle.std.specs.Prelude.{◌≡◌, ◌++◌, [], ◌∷◌, map, option_map, pos, IfOk, OnOk};
+ghost use Rattle.std.specs.Prelude.{◌≡◌, ◌≤◌, ◌++◌, [], ◌∷◌, length, map, option_map, pos, IfOk, OnOk};
 ghost use Rattle.std.specs.List.{flat_map};
 ghost use Rattle.pbx_token.specs.View.{tokens_of};
+ghost use Rattle.pbx_tree.specs.Tree as tree;
 ghost use Rattle.pbx_tree.specs.View.{syntax_of, top_of, file_of};
+ghost use Rattle.pbx_tree.specs.Conditions.{packages};
 ghost use Rattle.pbx_locations.specs.Locations.{extent_of, package_location, import_at, top_imports, message_at, top_messages, enum_at, top_enums, service_at, top_services, field_at, top_extensions, syntax_location, numbered, locations_in};
+ghost use Rattle.pbx_locations.specs.Ascends.{Ascends};
 
 use crate::count::location_count;
 use crate::enumeration::add_enum;
@@ -207,3 +210,8 @@ pub fn locations(alloc: Global, whole: Extent, file: &File<'_>) -> Result<List<L
         }
     }
 }
+
+/// The locations of a file with at most one package, as each has that meets `Conditions`, ascend by path, each path once.
+pub fn locations_ascend()
+    ensures { (whole : Extent) (f : tree.File) → length (packages f.tops) ≤ 1 → Ascends (locations_in whole f) }
+{}

@@ -10,4 +10,4 @@ mod place;
 mod service;
 mod tag;
 
-pub use file::{Extent, file_extent, locations};
+pub use file::{Extent, file_extent, locations, locations_ascend};

@@ -2,6 +2,7 @@
 #![tactic(auto)]
 
 mod error;
+mod found;
 mod reading;
 mod refusal;
 

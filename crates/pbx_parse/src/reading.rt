@@ -36,8 +36,14 @@ fn record(
 ) -> Result<FileDescriptorProto, NoMemory>
     ensures { IfOk result (λ r. r ≡ translate_of name.now (file_of file.entry) (locations_in whole (file_of file.entry))) }
 {
-    let locations = locations(alloc, whole, &file)?;
-    translate(alloc, name, file, locations)
+    match locations(alloc, whole, &file) {
+        Ok(locations) => translate(alloc, name, file, locations),
+        Err(error) => {
+            // One call, which costs less proof than the drop of each part.
+            drop(file);
+            Err(error)
+        }
+    }
 }
 
 /// The descriptor record of a source file, which is given the name.

@@ -1,46 +1,55 @@
 //! What is said of a source that has no record.
 
-ghost use Rattle.std.specs.Prelude.{◌≤◌, length, IfOk};
-ghost use Rattle.pbx_token.specs.View.{FailsNot as lexed};
+ghost use Rattle.std.specs.Prelude.{◌≡◌, ◌≤◌, ℕ, List, length, IfOk, IfSome};
+ghost use Rattle.pbx_token.specs.View.{IsStart, BeginIn, Within, IsWithin, FailsNot as lexed};
 ghost use Rattle.pbx_reader.specs.View.{FailsNot as spelled};
 ghost use Rattle.pbx_parse.specs.Errors.{Refuses};
 
 use crate::error::ParseError;
+use crate::found::{Found, found_text};
 use pbx_reader::{ReadError, read_file};
-use pbx_token::{Fault, LexError, Place, Span, Token, after, lex};
+use pbx_token::{Fault, LexError, Place, Span, Token, Word, after, lex};
 use pbx_tree::Expected;
 use pbx_wire::{NoMemory, Text};
 use std::alloc::Global;
 
-/// What stands there; only the end has no text.
-fn found_text(alloc: Global, found: &str) -> Result<Text, NoMemory> {
-    if found.is_empty() {
-        return Text::from_str(alloc, "end of file");
-    }
-    let text = format!(in alloc; "'{found}'")?;
-    Text::from_str(alloc, text.as_str())
+/// The source before so many last bytes, and those.
+fn cut(source: &str, left: usize) -> (&str, &str)
+    requires { IsStart source.now left }
+    ensures { length result.0.now ≤ length source.now }
+{
+    source.split_at(source.len() - left)
 }
 
-/// The text that the span of a token covers.
-fn span_text(source: &str, span: Span) -> &str {
-    let line = source.split('\n').nth(span.line as usize).unwrap_or("");
-    line.get(span.from as usize..span.to as usize).unwrap_or("")
+/// A token as it is written in the source.
+fn token_found<'a>(source: &'a str, token: Token<'a>) -> Found<'a>
+    requires { IsStart source.now token.left }
+{
+    let (_, rest) = cut(source, token.left as usize);
+    match token.word {
+        Word::Ident(text) => Found::Name(text),
+        Word::Int(_) => Found::Number(rest),
+        Word::Str(text) if rest.starts_with('"') => Found::String('"', text),
+        Word::Str(text) => Found::String('\'', text),
+        Word::Mark(mark) => Found::Character(mark as char),
+    }
 }
 
 /// A number with what may not follow it, else one character.
-fn fault_found(rest: &str, fault: Fault) -> &str {
-    let end = match fault {
-        Fault::Integer => rest.find(|c: char| !(c.is_ascii_alphanumeric() || c == '_' || c == '.')),
-        _ => rest.char_indices().nth(1).map(|(at, _)| at),
-    };
-    rest.get(..end.unwrap_or(rest.len())).unwrap_or("")
+fn fault_found(rest: &str, fault: Fault) -> Found<'_> {
+    match (fault, rest.chars().next()) {
+        (Fault::Integer, _) => Found::Number(rest),
+        (_, Some(character)) => Found::Character(character),
+        (_, None) => Found::End,
+    }
 }
 
-fn place_at(source: &str, end: usize) -> Place
-    requires { length source.now ≤ 2147483647 }
+/// The place behind a text.
+fn place_behind(text: &str) -> Place
+    requires { length text.now ≤ 2147483647 }
 {
     let origin = Place { line: 0, column: 0 };
-    after(origin, source.as_bytes().get(..end).unwrap_or(&[]))
+    after(origin, text.as_bytes())
 }
 
 /// The error of this place. The sums do not saturate, since a source has fewer lines and columns.
@@ -49,7 +58,7 @@ fn refused(
     name: &str,
     place: Place,
     expected: Text,
-    found: &str,
+    found: Found<'_>,
 ) -> Result<ParseError, NoMemory>
     ensures { IfOk result (λ e. Refuses name.now (Unit {0}) e) }
 {
@@ -63,27 +72,78 @@ fn refused(
 }
 
 /// The error of a token that cannot stand where it does.
-fn at_span(
+fn at_token(
     alloc: Global,
     name: &str,
     source: &str,
-    span: Span,
+    token: Token<'_>,
     expected: Expected,
 ) -> Result<ParseError, NoMemory>
+    requires { IsStart source.now token.left }
     ensures { IfOk result (λ e. Refuses name.now (Unit {0}) e) }
 {
     let place = Place {
-        line: span.line,
-        column: span.from,
+        line: token.span.line,
+        column: token.span.from,
     };
     let expected = Text::from_str(alloc, expected.words())?;
-    refused(alloc, name, place, expected, span_text(source, span))
+    refused(alloc, name, place, expected, token_found(source, token))
+}
+
+/// The error of a source that ends where something has to stand.
+fn at_end(
+    alloc: Global,
+    name: &str,
+    source: &str,
+    expected: Expected,
+) -> Result<ParseError, NoMemory>
+    requires { length source.now ≤ 2147483647 }
+    ensures { IfOk result (λ e. Refuses name.now (Unit {0}) e) }
+{
+    let expected = Text::from_str(alloc, expected.words())?;
+    refused(alloc, name, place_behind(source), expected, Found::End)
+}
+
+/// The token of this index.
+fn token_at<'a>(tokens: &[Token<'a>], at: usize) -> Option<Token<'a>>
+    ensures { (source : List ℕ) → BeginIn source tokens.now → IfSome result (λ t. IsStart source t.left) }
+{
+    if at < tokens.len() {
+        Some(tokens[at])
+    } else {
+        None
+    }
+}
+
+/// The token of this span.
+fn token_of<'a>(tokens: &[Token<'a>], span: Span) -> Option<Token<'a>>
+    ensures { (source : List ℕ) → BeginIn source tokens.now → IfSome result (λ t. IsStart source t.left) }
+{
+    'each: for token in tokens {
+        if token.span == span {
+            return Some(*token);
+        }
+    }
+    None
+}
+
+/// The token at which reading stopped, none at the end, and what could stand there; nothing where memory ran out.
+fn stop_of<'a>(tokens: &[Token<'a>], error: ReadError) -> Option<(Option<Token<'a>>, Expected)>
+    ensures starts { (source : List ℕ) → BeginIn source tokens.now → IfSome result (λ x. IfSome x.0 (λ t. IsStart source t.left)) }
+    ensures fails { IfSome result (λ _. ¬ (spelled error)) }
+{
+    match error {
+        ReadError::NoMemory => None,
+        ReadError::Unexpected { at, expected } => Some((token_at(tokens, at), expected)),
+        ReadError::Unfit(unfit) => Some((token_of(tokens, unfit.place), unfit.expected)),
+    }
 }
 
 /// The first token of a source's front that cannot stand where it does, if there is one, and what could stand
 /// there or at the end of the front.
-fn stop(alloc: Global, front: &str) -> Result<(Option<Span>, Expected), NoMemory>
+fn stop<'a>(alloc: Global, front: &'a str) -> Result<(Option<Token<'a>>, Expected), NoMemory>
     requires { length front.now ≤ 2147483647 }
+    ensures { IfOk result (λ x. IfSome x.0 (λ t. IsStart front.now t.left)) }
 {
     let tokens = match lex(alloc, front) {
         Ok(tokens) => tokens,
@@ -94,12 +154,10 @@ fn stop(alloc: Global, front: &str) -> Result<(Option<Span>, Expected), NoMemory
     match read_file(alloc, tokens.as_slice()) {
         // A statement could follow a whole file.
         Ok(_) => Ok((None, Expected::Top)),
-        Err(ReadError::NoMemory) => Err(NoMemory),
-        Err(ReadError::Unexpected { at, expected }) => {
-            let token = tokens.as_slice().get(at);
-            Ok((token.map(|token| token.span), expected))
-        }
-        Err(ReadError::Unfit(unfit)) => Ok((Some(unfit.place), unfit.expected)),
+        Err(error) => match stop_of(tokens.as_slice(), error) {
+            Some(stop) => Ok(stop),
+            None => Err(NoMemory),
+        },
     }
 }
 
@@ -113,16 +171,6 @@ fn fault_text(alloc: Global, fault: Fault, expected: Expected) -> Result<Text, N
     }
 }
 
-/// The source less its last bytes.
-fn front(source: &str, less: usize) -> &str
-    ensures { length result.now ≤ length source.now }
-{
-    match source.split_at_checked(source.len().saturating_sub(less)) {
-        Some((front, _)) => front,
-        None => "",
-    }
-}
-
 /// The error of a fault, or of a token before it that cannot stand where it does.
 fn at_fault(
     alloc: Global,
@@ -132,22 +180,30 @@ fn at_fault(
     begun: usize,
     fault: Fault,
 ) -> Result<ParseError, NoMemory>
-    requires { length source.now ≤ 2147483647 }
+    requires few { length source.now ≤ 2147483647 }
+    requires within { Within source.now left begun }
     ensures { IfOk result (λ e. Refuses name.now (Unit {0}) e) }
 {
-    let (earlier, expected) = stop(alloc, front(source, begun))?;
-    if let Some(span) = earlier {
-        return at_span(alloc, name, source, span, expected);
+    let (front, _) = cut(source, begun);
+    let (earlier, expected) = stop(alloc, front)?;
+    if let Some(token) = earlier {
+        return at_token(alloc, name, front, token, expected);
     }
-    let end = source.len().saturating_sub(left);
-    let found = fault_found(source.get(end..).unwrap_or(""), fault);
+    let (before, rest) = cut(source, left);
     let expected = fault_text(alloc, fault, expected)?;
-    refused(alloc, name, place_at(source, end), expected, found)
+    refused(
+        alloc,
+        name,
+        place_behind(before),
+        expected,
+        fault_found(rest, fault),
+    )
 }
 
 /// The error of a source without tokens.
 pub fn of_lexing(alloc: Global, name: &str, source: &str, error: LexError) -> ParseError
-    requires { length source.now ≤ 2147483647 }
+    requires few { length source.now ≤ 2147483647 }
+    requires within { IsWithin source.now error }
     ensures { Refuses name.now (¬ (lexed error)) result }
 {
     match error {
@@ -161,22 +217,21 @@ pub fn of_lexing(alloc: Global, name: &str, source: &str, error: LexError) -> Pa
     }
 }
 
-fn at_index(
+/// The error of a token that cannot stand where it does, or of the end.
+fn at_stop(
     alloc: Global,
     name: &str,
     source: &str,
-    token: Option<&Token<'_>>,
+    token: Option<Token<'_>>,
     expected: Expected,
 ) -> Result<ParseError, NoMemory>
-    requires { length source.now ≤ 2147483647 }
+    requires few { length source.now ≤ 2147483647 }
+    requires start { IfSome token (λ t. IsStart source.now t.left) }
     ensures { IfOk result (λ e. Refuses name.now (Unit {0}) e) }
 {
     match token {
-        Some(token) => at_span(alloc, name, source, token.span, expected),
-        None => {
-            let expected = Text::from_str(alloc, expected.words())?;
-            refused(alloc, name, place_at(source, source.len()), expected, "")
-        }
+        Some(token) => at_token(alloc, name, source, token, expected),
+        None => at_end(alloc, name, source, expected),
     }
 }
 
@@ -188,22 +243,15 @@ pub fn of_reading(
     tokens: &[Token<'_>],
     error: ReadError,
 ) -> ParseError
-    requires { length source.now ≤ 2147483647 }
+    requires few { length source.now ≤ 2147483647 }
+    requires starts { BeginIn source.now tokens.now }
     ensures { Refuses name.now (¬ (spelled error)) result }
 {
-    match error {
-        ReadError::NoMemory => ParseError::NoMemory,
-        ReadError::Unexpected { at, expected } => {
-            match at_index(alloc, name, source, tokens.get(at), expected) {
-                Ok(refused) => refused,
-                Err(_) => ParseError::NoMemory,
-            }
-        }
-        ReadError::Unfit(unfit) => {
-            match at_span(alloc, name, source, unfit.place, unfit.expected) {
-                Ok(refused) => refused,
-                Err(_) => ParseError::NoMemory,
-            }
-        }
+    let Some((token, expected)) = stop_of(tokens, error) else {
+        return ParseError::NoMemory;
+    };
+    match at_stop(alloc, name, source, token, expected) {
+        Ok(refused) => refused,
+        Err(_) => ParseError::NoMemory,
     }
 }

@@ -9,18 +9,15 @@ use Rattle.pbx_token.specs.declared.run.Run.{Run}
 use Rattle.pbx_token.specs.declared.run.Run.TheVariants as runs
 use Rattle.pbx_token.specs.declared.piece.Class.{Class}
 use Rattle.pbx_token.specs.declared.piece.Class.TheVariants as classes
-use Rattle.pbx_token.specs.Bytes.{not, is_start, is_digit, is_break, passes, class_of, int_value}
-use Rattle.pbx_token.specs.Escapes.{has_good_escapes}
+use Rattle.pbx_token.specs.Bytes.{not, is_start, is_digit, is_break, passes, class_of}
 use Rattle.pbx_token.specs.Tokens.{Token}
-use Rattle.pbx_token.specs.Pieces.{Piece, blank, line, block, name, number, quoted, sign, piece_then, class_of_piece, block_end, quoted_end, Extent, FitsPiece, pieces_text, FitAll, begins_slash, tokens_from, origin, Lexes}
-use Rattle.pbx_token.specs.Scan.{more, pieces_by, pieces_in, pieces_at, number_with, block_with, quoted_with, quoted_at, one_at, piece_by, piece_at}
-use Rattle.pbx_token.proofs.Classes.{first_of, line_is, block_is, first_start, first_digit, by_test, both}
-
-abbrev pub done : {A : Type 0} → A → Option A
-done x = Some x
-
-pub some_is : {A : Type 0} (x y : A) → done x ≡ done y → x ≡ y
-some_is x y e = cc
+use Rattle.pbx_token.specs.Pieces.{Piece, blank, line, block, name, number, quoted, sign, piece_then, class_of_piece, Extent, FitsPiece, pieces_text, FitAll, tokens_from, origin, significant, Lexes}
+use Rattle.pbx_token.specs.Scan.{int_value, quoted_end, has_good_escapes, block_end, begins_slash, more, pieces_by, pieces_in, pieces_at, number_with, block_with, quoted_with, quoted_at, one_at, piece_by, piece_at}
+use Rattle.pbx_token.proofs.Options.{done, some_is, map_some, mapped}
+use Rattle.pbx_token.proofs.Integers.{to_integer, from_integer}
+use Rattle.pbx_token.proofs.Strings.{to_string, from_string}
+use Rattle.pbx_token.proofs.Comments.{slash_is, no_end, first_end}
+use Rattle.pbx_token.proofs.Classes.{first_of, quote_of, line_is, block_is, first_start, first_digit, by_test, both}
 
 pub at_end : (P : Piece → List ℕ → Type 0) (p : Piece) (rest : List ℕ) (y : Piece × List ℕ) → done (p, rest) ≡ Some y → P p rest → P y.0 y.1
 at_end P p rest y e h = subst (λ z. P z.0 z.1) (some_is (p, rest) y e) h
@@ -42,13 +39,13 @@ one_takes : (make : ℕ → Piece) (k : Class) → ((b : ℕ) → class_of_piece
 one_takes make k kind text fit [] x h e = absurd cc
 one_takes make k kind text fit (b ∷ bytes) x h e = at_end (Taken (b ∷ bytes)) (make b) bytes x e (spelled (b ∷ bytes) (make b) bytes (sym (text b bytes)) (h ∙ sym (kind b)) (fit b bytes))
 
-name_takes : (bytes : List ℕ) (x : Piece × List ℕ) → class_of bytes ≡ classes.Word → piece_by classes.Word bytes ≡ Some x → Taken bytes x.0 x.1
+name_takes : (bytes : List ℕ) (x : Piece × List ℕ) → class_of bytes ≡ classes.Identifier → piece_by classes.Identifier bytes ≡ Some x → Taken bytes x.0 x.1
 name_takes bytes x h e =
-    let n = prefix_len (passes runs.Word) bytes in
-    let le = prefix_len-le-length (passes runs.Word) bytes in
+    let n = prefix_len (passes runs.Identifier) bytes in
+    let le = prefix_len-le-length (passes runs.Identifier) bytes in
     let whole = take-append-drop n bytes in
     at_end (Taken bytes) (name (take n bytes)) (drop n bytes) x e
-    (spelled bytes (name (take n bytes)) (drop n bytes) (sym whole) h (ap (prefix_len (passes runs.Word)) whole ∙ sym (front_length bytes n le)))
+    (spelled bytes (name (take n bytes)) (drop n bytes) (sym whole) h (ap (prefix_len (passes runs.Identifier)) whole ∙ sym (front_length bytes n le)))
 
 line_takes : (bytes : List ℕ) (x : Piece × List ℕ) → class_of bytes ≡ classes.Line → piece_by classes.Line bytes ≡ Some x → Taken bytes x.0 x.1
 line_takes bytes x h e =
@@ -64,21 +61,13 @@ number_with_takes None n bytes x le is v h e = absurd cc
 number_with_takes (Some k) n bytes x le is v h e =
     let whole = take-append-drop n bytes in
     at_end (Taken bytes) (number (take n bytes) k) (drop n bytes) x e
-    (spelled bytes (number (take n bytes) k) (drop n bytes) (sym whole) h (ap (prefix_len (passes runs.Number)) whole ∙ sym is ∙ sym (front_length bytes n le), v))
+    (spelled bytes (number (take n bytes) k) (drop n bytes) (sym whole) h (ap (prefix_len (passes runs.Number)) whole ∙ sym is ∙ sym (front_length bytes n le), to_integer (take n bytes) k v))
 
 -- a `*/` that was found stands there
-map_some : (o : Option ℕ) (n : ℕ) → option_map (λ k. 1 + k) o ≡ Some n → (m : ℕ) × (o ≡ Some m) × (suc m ≡ n)
-map_some None n e = absurd cc
-map_some (Some m) n e = (m, refl, omega (arith, some_is (1 + m) n e))
-
 one_more : (a : ℕ) (bs gap : List ℕ) (m g : ℕ) → m ≤ length bs → bs ≡ take m bs ++ (gap ++ drop (m + g) bs) → (suc m ≤ length (a ∷ bs)) × (a ∷ bs ≡ take (suc m) (a ∷ bs) ++ (gap ++ drop (suc m + g) (a ∷ bs)))
 one_more a bs gap m g le is =
     let k : suc m + g ≡ suc (m + g) = omega arith in
     (omega arith, rw k (ap (λ (r : List ℕ). a ∷ r) is))
-
-slash_is : (bs : List ℕ) → begins_slash bs ≡ true → bs ≡ 47 ∷ drop 1 bs
-slash_is [] e = absurd cc
-slash_is (b ∷ bs) e = rw (eqb-true b 47 e) refl
 
 block_found : (bytes : List ℕ) (n : ℕ) → block_end bytes ≡ Some n → (n ≤ length bytes) × (bytes ≡ take n bytes ++ (42 ∷ 47 ∷ drop (n + 2) bytes))
 unfolding block_end
@@ -113,7 +102,7 @@ block_with_takes (Some n) bytes x is h e =
     let d = drop 2 bytes in
     let f = block_found d n is in
     at_end (Taken bytes) (block (take n d)) (drop (n + 2) d) x e
-    (spelled bytes (block (take n d)) (drop (n + 2) d) (block_is bytes h ∙ ap (λ (r : List ℕ). 47 ∷ 42 ∷ r) f.1) h (ap block_end (sym f.1) ∙ is ∙ ap done (sym (front_length d n f.0))))
+    (spelled bytes (block (take n d)) (drop (n + 2) d) (block_is bytes h ∙ ap (λ (r : List ℕ). 47 ∷ 42 ∷ r) f.1) h (no_end (take n d) (drop (n + 2) d) (ap block_end (sym f.1) ∙ is ∙ ap done (sym (front_length d n f.0)))))
 
 quoted_with_takes : (q : ℕ) (o : Option ℕ) (bytes : List ℕ) (x : Piece × List ℕ) → quoted_end q false bytes ≡ o → class_of (q ∷ bytes) ≡ classes.Quote → quoted_with q o bytes ≡ Some x → Taken (q ∷ bytes) x.0 x.1
 quoted_with_takes q None bytes x is h e = absurd cc
@@ -121,7 +110,7 @@ quoted_with_takes q (Some n) bytes x is h e =
     let f = quoted_found q false bytes n is in
     by_test (has_good_escapes (take n bytes)) (done (quoted q (take n bytes), drop (n + 1) bytes)) None (Some x) e
     (λ good e2. at_end (Taken (q ∷ bytes)) (quoted q (take n bytes)) (drop (n + 1) bytes) x e2
-    (spelled (q ∷ bytes) (quoted q (take n bytes)) (drop (n + 1) bytes) (ap (λ (r : List ℕ). q ∷ r) f.1) h (ap (quoted_end q false) (sym f.1) ∙ is ∙ ap done (sym (front_length bytes n f.0)), good)))
+    (spelled (q ∷ bytes) (quoted q (take n bytes)) (drop (n + 1) bytes) (ap (λ (r : List ℕ). q ∷ r) f.1) h (to_string q (quote_of q bytes h) (take n bytes) (drop (n + 1) bytes) (ap (quoted_end q false) (sym f.1) ∙ is ∙ ap done (sym (front_length bytes n f.0))) good)))
     (λ bad e2. absurd cc)
 
 pub quoted_at_takes : (bytes : List ℕ) (x : Piece × List ℕ) → class_of bytes ≡ classes.Quote → quoted_at bytes ≡ Some x → Taken bytes x.0 x.1
@@ -132,7 +121,7 @@ by_takes : (k : Class) (bytes : List ℕ) (x : Piece × List ℕ) → class_of b
 by_takes classes.Blank bytes x h e = one_takes blank classes.Blank (λ b. refl) (λ b rest. refl) (λ b rest. tt) bytes x h e
 by_takes classes.Line bytes x h e = line_takes bytes x h e
 by_takes classes.Block bytes x h e = block_with_takes (block_end (drop 2 bytes)) bytes x refl h e
-by_takes classes.Word bytes x h e = name_takes bytes x h e
+by_takes classes.Identifier bytes x h e = name_takes bytes x h e
 by_takes classes.Number bytes x h e =
     let n = prefix_len (passes runs.Number) bytes in
     number_with_takes (int_value (take n bytes)) n bytes x (prefix_len-le-length (passes runs.Number) bytes) refl refl h e
@@ -149,23 +138,25 @@ piece_takes bytes x e = by_takes (class_of bytes) bytes x refl e
 past : (t gap rest : List ℕ) → drop (length t + length gap) (t ++ (gap ++ rest)) ≡ rest
 past t gap rest = ap (drop (length t + length gap)) (sym (append_assoc t gap rest)) ∙ drop_at (t ++ gap) rest (length t + length gap) (length-append t gap)
 
-by_again : (p : Piece) (rest : List ℕ) → Extent p rest → piece_by (class_of_piece p) (piece_then p rest) ≡ Some (p, rest)
+by_again : (p : Piece) (rest : List ℕ) → FitsPiece p rest → piece_by (class_of_piece p) (piece_then p rest) ≡ Some (p, rest)
 by_again (blank b) rest x = refl
-by_again (line t) rest x = rw (x, take_at t rest (length t) refl, drop_at t rest (length t) refl) refl
-by_again (block t) rest x = rw (x) (rw (take_at t (42 ∷ 47 ∷ rest) (length t) refl) (ap (λ r. done (block t, r)) (past t (42 ∷ 47 ∷ []) rest)))
-by_again (name t) rest x = rw (x, take_at t rest (length t) refl, drop_at t rest (length t) refl) refl
+by_again (line t) rest x = rw (x.extent, take_at t rest (length t) refl, drop_at t rest (length t) refl) refl
+by_again (block t) rest x = rw (first_end t rest x.extent) (rw (take_at t (42 ∷ 47 ∷ rest) (length t) refl) (ap (λ r. done (block t, r)) (past t (42 ∷ 47 ∷ []) rest)))
+by_again (name t) rest x = rw (x.extent, take_at t rest (length t) refl, drop_at t rest (length t) refl) refl
 by_again (number t n) rest x =
     let tk = take_at t rest (length t) refl in
-    ap (λ k. number_with (int_value (take k (t ++ rest))) k (t ++ rest)) x.0
-    ∙ ap (λ o. number_with o (length t) (t ++ rest)) (ap int_value tk ∙ x.1)
+    ap (λ k. number_with (int_value (take k (t ++ rest))) k (t ++ rest)) x.extent.0
+    ∙ ap (λ o. number_with o (length t) (t ++ rest)) (ap int_value tk ∙ from_integer t n x.extent.1)
     ∙ ap (λ (s : List ℕ). done (number s n, drop (length t) (t ++ rest))) tk
     ∙ ap (λ (r : List ℕ). done (number t n, r)) (drop_at t rest (length t) refl)
-by_again (quoted q t) rest x = rw (x.0) (rw (take_at t (q ∷ rest) (length t) refl) (rw (x.1) (ap (λ r. done (quoted q t, r)) (past t (q ∷ []) rest))))
+by_again (quoted q t) rest x =
+    let read = from_string q (quote_of q (t ++ (q ∷ rest)) x.class) t rest x.extent in
+    rw (read.0) (rw (take_at t (q ∷ rest) (length t) refl) (rw (read.1) (ap (λ r. done (quoted q t, r)) (past t (q ∷ []) rest))))
 by_again (sign b) rest x = refl
 
 pub piece_again : (p : Piece) (rest : List ℕ) → FitsPiece p rest → piece_at (piece_then p rest) ≡ Some (p, rest)
 unfolding piece_at
-piece_again p rest fits = ap (λ k. piece_by k (piece_then p rest)) fits.class ∙ by_again p rest fits.extent
+piece_again p rest fits = ap (λ k. piece_by k (piece_then p rest)) fits.class ∙ by_again p rest fits
 
 -- ---- a piece is not empty
 
@@ -180,18 +171,18 @@ true_or : (a b : Bool) → a ≡ true → (a || b) ≡ true
 true_or true b e = refl
 true_or false b e = absurd cc
 
-pub word_runs : (bytes : List ℕ) → class_of bytes ≡ classes.Word → 0 < prefix_len (passes runs.Word) bytes
-word_runs bytes e =
-    let f = first_of bytes classes.Word tt (λ h. absurd cc) e in
-    positive runs.Word bytes f.byte f.rest f.is (true_or (is_start f.byte) (is_digit f.byte) (first_start f.byte f.its))
+pub identifier_runs : (bytes : List ℕ) → class_of bytes ≡ classes.Identifier → 0 < prefix_len (passes runs.Identifier) bytes
+identifier_runs bytes e =
+    let f = first_of bytes classes.Identifier tt (λ h. absurd cc) e in
+    positive runs.Identifier bytes f.byte f.rest f.is (true_or (is_start f.byte) (is_digit f.byte) (first_start f.byte f.its))
 
 pub piece_longer : (p : Piece) (rest : List ℕ) → FitsPiece p rest → length rest < length (piece_then p rest)
 piece_longer (blank b) rest fits = omega arith
 piece_longer (line t) rest fits = omega (arith, length-append t rest)
 piece_longer (block t) rest fits = omega (arith, length-append t (42 ∷ 47 ∷ rest))
 piece_longer (name t) rest fits =
-    let f = first_of (t ++ rest) classes.Word tt (λ h. absurd cc) fits.class in
-    omega (arith, length-append t rest, fits.extent, positive runs.Word (t ++ rest) f.byte f.rest f.is (true_or (is_start f.byte) (is_digit f.byte) (first_start f.byte f.its)))
+    let f = first_of (t ++ rest) classes.Identifier tt (λ h. absurd cc) fits.class in
+    omega (arith, length-append t rest, fits.extent, positive runs.Identifier (t ++ rest) f.byte f.rest f.is (true_or (is_start f.byte) (is_digit f.byte) (first_start f.byte f.its)))
 piece_longer (number t n) rest fits =
     let f = first_of (t ++ rest) classes.Number tt (λ h. absurd cc) fits.class in
     omega (arith, length-append t rest, fits.extent.0, positive runs.Number (t ++ rest) f.byte f.rest f.is (true_or (is_start f.byte || is_digit f.byte) (f.byte == 46) (or_true (is_start f.byte) (is_digit f.byte) (first_digit f.byte f.its))))
@@ -199,10 +190,6 @@ piece_longer (quoted q t) rest fits = omega (arith, length-append t (q ∷ rest)
 piece_longer (sign b) rest fits = omega arith
 
 -- ---- all pieces
-
-mapped : {A B : Type 0} (f : A → B) (o : Option A) (y : B) → option_map f o ≡ Some y → (x : A) × (o ≡ Some x) × (f x ≡ y)
-mapped f None y e = absurd cc
-mapped f (Some x) y e = (x, refl, some_is (f x) y e)
 
 pub more_takes : (o : Option (Piece × List ℕ)) (self : List ℕ → Option (List Piece)) (ps : List Piece) → more o self ≡ Some ps → (x : Piece × List ℕ) × (qs : List Piece) × (o ≡ Some x) × (self x.1 ≡ Some qs) × (x.0 ∷ qs ≡ ps)
 more_takes None self ps e = absurd cc
@@ -251,18 +238,22 @@ pub pieces_step : (bytes : List ℕ) → 0 < length bytes → pieces_at bytes �
 unfolding pieces_at pieces_in
 pieces_step bytes lt = by_nonempty (λ us. pieces_in (length bytes) us) bytes lt ∙ more_same (piece_at bytes) (λ us. pieces_in (length bytes) us) pieces_at (λ x e. let s = shorter bytes x e in in_same (length bytes) (suc (length x.1)) x.1 s (omega arith))
 
-pub all_takes : (source : List ℕ) (ts : List Token) → option_map (tokens_from origin) (pieces_at source) ≡ Some ts → Lexes source ts
+-- the tokens of pieces
+abbrev pub tokens_in : List Piece → List Token
+tokens_in ps = significant (tokens_from origin ps)
+
+pub all_takes : (source : List ℕ) (ts : List Token) → option_map tokens_in (pieces_at source) ≡ Some ts → Lexes source ts
 unfolding pieces_at
 all_takes source ts e =
-    let m = mapped (tokens_from origin) (pieces_in (suc (length source)) source) ts e in
+    let m = mapped tokens_in (pieces_in (suc (length source)) source) ts e in
     let t = in_takes (suc (length source)) source m.0 m.1 in
     (m.0, t.0, t.1, sym m.2)
 
-pub all_again : (source : List ℕ) (ts : List Token) → Lexes source ts → option_map (tokens_from origin) (pieces_at source) ≡ Some ts
+pub all_again : (source : List ℕ) (ts : List Token) → Lexes source ts → option_map tokens_in (pieces_at source) ≡ Some ts
 unfolding pieces_at
 all_again source ts h =
     let one : pieces_in (suc (length source)) source ≡ Some h.0 = ap (λ (s : List ℕ). pieces_in (suc (length s)) s) h.2 ∙ in_again (suc (length (pieces_text h.0))) h.0 h.1 (omega arith) in
-    ap (option_map (tokens_from origin)) one ∙ ap done (sym h.3)
+    ap (option_map tokens_in) one ∙ ap done (sym h.3)
 
 pub one_list : (source : List ℕ) (a b : List Token) → Lexes source a → Lexes source b → a ≡ b
 one_list source a b p q = some_is a b (sym (all_again source a p) ∙ all_again source b q)

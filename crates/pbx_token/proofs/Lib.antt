@@ -1,7 +1,14 @@
 pub mod Ascii
 pub mod Characters
 pub mod Classes
+pub mod Comments
+pub mod Faults
+pub mod Integers
 pub mod Laws
+pub mod Options
+pub mod Semicolons
+pub mod Starts
 pub mod Steps
+pub mod Strings
 pub mod Unescaping
 pub mod Utf8

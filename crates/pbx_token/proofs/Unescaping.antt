@@ -5,7 +5,8 @@ use Rattle.std.proofs.lemmas.Bool.{eqb-true}
 use Rattle.std.proofs.lemmas.List.{take_all}
 use Rattle.pbx_token.specs.declared.escape.Escape.{Escape}
 use Rattle.pbx_token.specs.Bytes.{not}
-use Rattle.pbx_token.specs.Escapes.{is_bad, first_at, are_good_after, has_good_escapes, unescaped_after, unescaped}
+use Rattle.pbx_token.specs.Escapes.{first_at, unescaped_after, unescaped}
+use Rattle.pbx_token.specs.Scan.{is_bad, are_good_after, has_good_escapes}
 
 good_past : (n : ℕ) (bs : List ℕ) → are_good_after n bs ≡ are_good_after 0 (drop n bs)
 unfolding are_good_after
@@ -26,11 +27,11 @@ tail_of bs = take (length bs - 1) (drop 1 bs)
 abbrev pub slice_from : ℕ → List ℕ → List ℕ
 slice_from n bs = take (length bs - n) (drop n bs)
 
-slice_is : (n : ℕ) (bs : List ℕ) → slice_from n bs ≡ drop n bs
+pub slice_is : (n : ℕ) (bs : List ℕ) → slice_from n bs ≡ drop n bs
 slice_is n bs = take_all (length bs - n) (drop n bs) (omega (arith, length-drop n bs))
 
 -- what is left is no longer
-slice_length : (n : ℕ) (bs : List ℕ) → length (slice_from n bs) ≡ length bs - n
+pub slice_length : (n : ℕ) (bs : List ℕ) → length (slice_from n bs) ≡ length bs - n
 slice_length n bs = ap length (slice_is n bs) ∙ length-drop n bs
 
 pub next_length : (n : ℕ) (bs : List ℕ) → length (slice_from n (tail_of bs)) ≤ length bs
@@ -41,7 +42,7 @@ unfolding are_good_after
 good_none [] lt = refl
 good_none (b ∷ bs) lt = absurd (omega arith)
 
-good_first : (b : ℕ) (bs : List ℕ) → has_good_escapes (b ∷ bs) ≡ (not (is_bad b bs) && has_good_escapes (drop (first_at b bs).size bs))
+pub good_first : (b : ℕ) (bs : List ℕ) → has_good_escapes (b ∷ bs) ≡ (not (is_bad b bs) && has_good_escapes (drop (first_at b bs).size bs))
 unfolding are_good_after
 good_first b bs = ap (λ (t : Bool). not (is_bad b bs) && t) (good_past (first_at b bs).size bs)
 
@@ -57,7 +58,7 @@ unfolding unescaped_after
 unescaped_none [] lt = refl
 unescaped_none (b ∷ bs) lt = absurd (omega arith)
 
-unescaped_first : (b : ℕ) (bs : List ℕ) → unescaped (b ∷ bs) ≡ (first_at b bs).value ∷ unescaped (drop (first_at b bs).size bs)
+pub unescaped_first : (b : ℕ) (bs : List ℕ) → unescaped (b ∷ bs) ≡ (first_at b bs).value ∷ unescaped (drop (first_at b bs).size bs)
 unfolding unescaped_after
 unescaped_first b bs = ap (λ (t : List ℕ). (first_at b bs).value ∷ t) (unescaped_past (first_at b bs).size bs)
 

@@ -13,10 +13,9 @@ use Rattle.pbx_token.specs.declared.piece.Class.{Class}
 use Rattle.pbx_token.specs.declared.piece.Class.TheVariants as classes
 use Rattle.pbx_token.specs.Bytes.{is_blank, is_start, is_digit, is_mark, passes, class_of, first_class_of}
 use Rattle.pbx_token.specs.Tokens.{Word}
-use Rattle.pbx_token.specs.Pieces.{Piece, blank, line, block, name, number, quoted, sign, piece_then, quoted_end, FitsPiece}
-use Rattle.pbx_token.specs.Scan.{piece_at}
-use Rattle.pbx_token.specs.View.{kept}
-use Rattle.pbx_token.proofs.Ascii.{word_byte}
+use Rattle.pbx_token.specs.Pieces.{Piece, blank, line, block, name, number, quoted, sign, piece_then, FitsPiece}
+use Rattle.pbx_token.specs.Scan.{quoted_end, piece_at, kept}
+use Rattle.pbx_token.proofs.Ascii.{identifier_byte}
 use Rattle.pbx_token.proofs.Classes.{NoComment, first_of, by_test}
 use Rattle.pbx_token.proofs.Laws.{piece_takes, quoted_found}
 use Rattle.pbx_token.proofs.Steps.{kept_is}
@@ -48,7 +47,7 @@ line_end_byte b e = grind arith
 first_byte : (b : ℕ) (k : Class) → first_class_of b ≡ k → classes.Bad ≢ k → b < 128
 first_byte b k e bad =
     by_test (is_blank b) classes.Blank _ k e (λ p q. blank_byte b p) (λ p q.
-    by_test (is_start b) classes.Word _ k q (λ p2 q2. start_byte b p2) (λ p2 q2.
+    by_test (is_start b) classes.Identifier _ k q (λ p2 q2. start_byte b p2) (λ p2 q2.
     by_test (is_digit b) classes.Number _ k q2 (λ p3 q3. digit_byte b p3) (λ p3 q3.
     by_test ((b == 34) || (b == 39)) classes.Quote _ k q3 (λ p4 q4. quote_byte b p4) (λ p4 q4.
     by_test (is_mark b) classes.Mark classes.Bad k q4 (λ p5 q5. mark_byte b p5) (λ p5 q5. absurd (bad q5))))))
@@ -56,7 +55,7 @@ first_byte b k e bad =
 -- ---- where a text may be cut
 
 -- a text is cut before a byte that is ASCII
-cut : (front : List ℕ) (b : ℕ) (rest : List ℕ) → b < 128 → IsUtf8 (front ++ b ∷ rest) → IsUtf8 front × IsUtf8 (b ∷ rest)
+pub cut : (front : List ℕ) (b : ℕ) (rest : List ℕ) → b < 128 → IsUtf8 (front ++ b ∷ rest) → IsUtf8 front × IsUtf8 (b ∷ rest)
 cut front b rest small u =
     let bs = front ++ b ∷ rest in
     let there : get_or bs (length front) 0 ≡ b = get_or-append_seam front b rest 0 in
@@ -66,7 +65,7 @@ cut front b rest small u =
     )
 
 -- and behind it
-behind : (b : ℕ) (rest : List ℕ) → b < 128 → IsUtf8 (b ∷ rest) → IsUtf8 rest
+pub behind : (b : ℕ) (rest : List ℕ) → b < 128 → IsUtf8 (b ∷ rest) → IsUtf8 rest
 behind b rest small u = IsUtf8-drop (b ∷ rest) 1 u (IsCharBoundary-after_ascii (b ∷ rest) 0 u (omega arith) small)
 
 after_mark : (front : List ℕ) (b : ℕ) (rest : List ℕ) → b < 128 → IsUtf8 (front ++ b ∷ rest) → IsUtf8 rest
@@ -92,7 +91,7 @@ after_line t (b ∷ rest) e u = (cut t b rest (line_end_byte b (stops t b rest e
 
 -- ---- pieces
 
-first_small : (b : ℕ) (bs : List ℕ) (k : Class) → NoComment k → classes.Bad ≢ k → class_of (b ∷ bs) ≡ k → b < 128
+pub first_small : (b : ℕ) (bs : List ℕ) (k : Class) → NoComment k → classes.Bad ≢ k → class_of (b ∷ bs) ≡ k → b < 128
 first_small b bs k n bad e =
     let f = first_of (b ∷ bs) k n bad e in
     let same : b ≡ f.byte = cc in
@@ -104,7 +103,7 @@ after_piece (line t) rest fits u = after_line t rest fits.extent (behind 47 (t +
 after_piece (block t) rest fits u =
     let more = t ++ (42 ∷ 47 ∷ rest) in
     behind 47 rest (omega arith) (after_mark t 42 (47 ∷ rest) (omega arith) (behind 42 more (omega arith) (behind 47 (42 ∷ more) (omega arith) u)))
-after_piece (name t) rest fits u = after_run runs.Word t rest word_byte fits.extent u
+after_piece (name t) rest fits u = after_run runs.Identifier t rest identifier_byte fits.extent u
 after_piece (number t n) rest fits u = after_run runs.Number t rest number_byte fits.extent.0 u
 after_piece (quoted q t) rest fits u =
     let small = first_small q (t ++ (q ∷ rest)) classes.Quote tt (λ h. absurd cc) fits.class in

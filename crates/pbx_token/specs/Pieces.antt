@@ -1,14 +1,14 @@
 -- A source as blanks, comments and tokens: the lexical elements of the language specification, each the longest
 -- that fits.
-use Rattle.std.specs.Prelude.{◌≡◌, ℕ, ◌+◌, List, [], ◌∷◌, ◌++◌, length, Bool, true, false, ◌==◌, ◌&&◌, Option, Some, None, option_map, if◌then◌else◌}
+use Rattle.std.specs.Prelude.{◌≡◌, ◌≢◌, ℕ, List, [], ◌∷◌, ◌++◌, length, Bool, true, false, ◌==◌, ◌&&◌, Option, Some, None, if◌then◌else◌}
 use Rattle.std.specs.List.{prefix_len}
 use Rattle.pbx_token.specs.declared.token.Place.{Place}
 use Rattle.pbx_token.specs.Tokens.{Word, ident, int, str, mark, Token}
 use Rattle.pbx_token.specs.declared.run.Run.TheVariants as runs
 use Rattle.pbx_token.specs.declared.piece.Class.{Class}
 use Rattle.pbx_token.specs.declared.piece.Class.TheVariants as classes
-use Rattle.pbx_token.specs.Bytes.{not, passes, is_break, class_of, int_value}
-use Rattle.pbx_token.specs.Escapes.{has_good_escapes}
+use Rattle.pbx_token.specs.Bytes.{passes, class_of, IsInteger}
+use Rattle.pbx_token.specs.Escapes.{IsString}
 use Rattle.pbx_token.specs.Places.{place_after}
 
 -- a blank, a `//` comment, a `/*` comment, an identifier, an integer with its value, a string with its quote, a mark
@@ -35,35 +35,23 @@ abbrev pub class_of_piece : Piece → Class
 class_of_piece (blank b) = classes.Blank
 class_of_piece (line t) = classes.Line
 class_of_piece (block t) = classes.Block
-class_of_piece (name t) = classes.Word
+class_of_piece (name t) = classes.Identifier
 class_of_piece (number t n) = classes.Number
 class_of_piece (quoted q t) = classes.Quote
 class_of_piece (sign b) = classes.Mark
 
-abbrev pub begins_slash : List ℕ → Bool
-begins_slash [] = false
-begins_slash (b ∷ bs) = b == 47
+-- The `*/` behind the text of a comment is the first: none begins in the text.
+abbrev pub HasNoEnd : List ℕ → Type 0
+HasNoEnd text = (front back : List ℕ) → text ++ (42 ∷ []) ≢ front ++ (42 ∷ 47 ∷ back)
 
--- how many bytes stand before the first `*/`
-unfoldable pub block_end : List ℕ → Option ℕ
-block_end [] = None
-block_end (a ∷ bs) = if (a == 42) && begins_slash bs then Some 0 else option_map (λ n. 1 + n) (block_end bs)
-
--- how many bytes stand before the first quote that no backslash escapes, if no line feed and no zero byte comes
--- before it; and whether a backslash escapes the first byte
-unfoldable pub quoted_end : ℕ → Bool → List ℕ → Option ℕ
-quoted_end q escaped [] = None
-quoted_end q escaped (a ∷ bs) = if (a == q) && not escaped then Some 0
-    else (if is_break a then None else option_map (λ n. 1 + n) (quoted_end q ((a == 92) && not escaped) bs))
-
--- it is the longest that fits there, an integer has a value, and each escape of a string is one
+-- it is the longest that fits there, an integer has a value, and a string has characters
 abbrev pub Extent : Piece → List ℕ → Type 0
 Extent (blank b) rest = Unit {0}
 Extent (line t) rest = prefix_len (passes runs.Line) (t ++ rest) ≡ length t
-Extent (block t) rest = block_end (t ++ (42 ∷ 47 ∷ rest)) ≡ Some (length t)
-Extent (name t) rest = prefix_len (passes runs.Word) (t ++ rest) ≡ length t
-Extent (number t n) rest = (prefix_len (passes runs.Number) (t ++ rest) ≡ length t) × (int_value t ≡ Some n)
-Extent (quoted q t) rest = (quoted_end q false (t ++ (q ∷ rest)) ≡ Some (length t)) × (has_good_escapes t ≡ true)
+Extent (block t) rest = HasNoEnd t
+Extent (name t) rest = prefix_len (passes runs.Identifier) (t ++ rest) ≡ length t
+Extent (number t n) rest = (prefix_len (passes runs.Number) (t ++ rest) ≡ length t) × IsInteger t n
+Extent (quoted q t) rest = IsString q t
 Extent (sign b) rest = Unit {0}
 
 -- the bytes there begin such a piece, and it is the longest
@@ -101,9 +89,30 @@ abbrev pub tokens_from : Place → List Piece → List Token
 tokens_from p [] = []
 tokens_from p (x ∷ xs) = token_before (word_of_piece x) p (place_after (piece_then x []) p) (tokens_from (place_after (piece_then x []) p) xs)
 
+-- a `;`
+abbrev pub is_semicolon : Word → Bool
+is_semicolon (ident t) = false
+is_semicolon (int n) = false
+is_semicolon (str t) = false
+is_semicolon (mark b) = b == 59
+
+abbrev pub begins_semicolon : List Token → Bool
+begins_semicolon [] = false
+begins_semicolon (t ∷ ts) = is_semicolon t.word
+
+-- the tokens without each `;` that stands between two `;`; and whether a `;` stands before them
+unfoldable pub significant_after : Bool → List Token → List Token
+significant_after before [] = []
+significant_after before (t ∷ ts) = if before && is_semicolon t.word && begins_semicolon ts then significant_after true ts
+    else t ∷ significant_after (is_semicolon t.word) ts
+
+-- Of `;` one after another the first and the last: those between are empty statements of the language specification, which say nothing.
+abbrev pub significant : List Token → List Token
+significant ts = significant_after false ts
+
 abbrev pub origin : Place
 origin = record { line = 0; column = 0 }
 
--- The source is the bytes of pieces that fit, and these are their tokens.
+-- The source is the bytes of pieces that fit, and these are their tokens but for each `;` between two `;`.
 abbrev pub Lexes : List ℕ → List Token → Type 0
-Lexes source tokens = (ps : List Piece) × FitAll ps × (source ≡ pieces_text ps) × (tokens ≡ tokens_from origin ps)
+Lexes source tokens = (ps : List Piece) × FitAll ps × (source ≡ pieces_text ps) × (tokens ≡ significant (tokens_from origin ps))

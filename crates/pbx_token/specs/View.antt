@@ -1,12 +1,13 @@
 -- What the code's values stand for.
-use Rattle.std.specs.Prelude.{◌≡◌, ℕ, List, map, Option, Some, None, Result, Ok, Err}
+use Rattle.std.specs.Prelude.{◌≡◌, ℕ, ◌-◌, ◌≤◌, List, length, take, map, Result, Ok, Err}
+use Rattle.std.specs.List.{All}
+use Rattle.std.specs.Str.{IsUtf8}
 use Rattle.pbx_token.specs.declared.token.Word as code_word
 use Rattle.pbx_token.specs.declared.token.Word.TheVariants as words
 use Rattle.pbx_token.specs.declared.token.Token as code_token
 use Rattle.pbx_token.specs.declared.piece.LexError.{LexError}
 use Rattle.pbx_token.specs.declared.piece.LexError.TheVariants as errors
 use Rattle.pbx_token.specs.Tokens.{Word, ident, int, str, mark, Token}
-use Rattle.pbx_token.specs.Pieces.{Piece, word_of_piece}
 
 abbrev pub word_of : code_word.Word → Word
 word_of (words.Ident t) = ident t.now
@@ -20,19 +21,6 @@ token_of t = record { word = word_of t.word; span = t.span }
 abbrev pub tokens_of : List code_token.Token → List Token
 tokens_of ts = map token_of ts
 
--- a piece, of which the code keeps its word
-abbrev pub kept : Option (Piece × List ℕ) → Option (Option Word × List ℕ)
-kept None = None
-kept (Some x) = Some (word_of_piece x.0, x.1)
-
-abbrev pub Fails : {Y : Type 0} → LexError → Option Y → Type 0
-Fails errors.NoMemory read = Unit {0}
-Fails (errors.Fault left begun fault) read = read ≡ None
-
-abbrev pub Gives : {X Y : Type 0} → (X → Y) → Option Y → Result X LexError → Type 0
-Gives view read (Ok x) = read ≡ Some (view x)
-Gives view read (Err e) = Fails e read
-
 abbrev pub FailsNot : LexError → Type 0
 FailsNot errors.NoMemory = Unit {0}
 FailsNot (errors.Fault left begun fault) = ⊥
@@ -41,3 +29,28 @@ FailsNot (errors.Fault left begun fault) = ⊥
 abbrev pub ReadsAs : {X Y : Type 0} → (X → Y) → Y → Result X LexError → Type 0
 ReadsAs view y (Ok x) = view x ≡ y
 ReadsAs view y (Err e) = FailsNot e
+
+-- with so many bytes left, a source that is a text is cut between two characters
+abbrev pub IsCut : List ℕ → ℕ → Type 0
+IsCut source left = IsUtf8 (take (length source - left) source)
+
+-- a fault lies in the source, its token or comment begins no later, and both are between two characters
+pub record Within (source : List ℕ) (left begun : ℕ) : Type 0 where
+  pub order : left ≤ begun
+  pub within : begun ≤ length source
+  pub begun_cut : IsCut source begun
+  pub left_cut : IsCut source left
+
+-- a fault lies in the source
+abbrev pub IsWithin : List ℕ → LexError → Type 0
+IsWithin source errors.NoMemory = Unit {0}
+IsWithin source (errors.Fault left begun fault) = Within source left begun
+
+-- with so many bytes left a source is cut inside it, between two characters
+pub record IsStart (source : List ℕ) (left : ℕ) : Type 0 where
+  pub within : left ≤ length source
+  pub cut : IsCut source left
+
+-- each token begins in the source
+abbrev pub BeginIn : List ℕ → List code_token.Token → Type 0
+BeginIn source ts = All (λ t. IsStart source t.left) ts

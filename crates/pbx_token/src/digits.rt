@@ -1,10 +1,11 @@
 //! The values of digits and of integers.
 
 ghost use Rattle.std.specs.Prelude.{◌≡◌, ◌≤◌, ◌<◌};
-ghost use Rattle.pbx_token.specs.Bytes.{digit_of, digits_from, int_value};
+ghost use Rattle.pbx_token.specs.Bytes.{digit_of};
+ghost use Rattle.pbx_token.specs.Scan.{digits_from, int_value};
 
 /// The value of digits after a front of that value.
-#[tactic(auto, unfolding(crate::specs::Bytes::digits_from))]
+#[tactic(auto, unfolding(crate::specs::Scan::digits_from))]
 pub fn digits_value(base: u64, front: u64, digits: &[u8]) -> Option<u64>
     requires { base ≤ 16 }
     ensures { result ≡ digits_from base front digits.now }

@@ -1,7 +1,10 @@
 //! The escapes of strings, and the bytes that strings stand for.
 
-ghost use Rattle.std.specs.Prelude.{◌≡◌, ◌≤◌, length, IfOk, IfSome, IsTrue, is_none, ◌↔◌};
-ghost use Rattle.pbx_token.specs.Escapes.{simple_value, number_at, escape_at, first_at, is_bad, has_good_escapes, unescaped};
+ghost use Rattle.std.specs.Prelude.{◌≡◌, ◌≤◌, ℕ, List, map, length, IfOk, IfSome, IsTrue, is_none, ◌↔◌};
+ghost use Rattle.std.specs.Str.{IsUtf8};
+ghost use Rattle.pbx_token.specs.View.{IsCut};
+ghost use Rattle.pbx_token.specs.Escapes.{simple_value, number_at, escape_at, first_at, Character, value_of, characters_text, AreCharacters, unescaped};
+ghost use Rattle.pbx_token.specs.Scan.{is_bad, has_good_escapes};
 
 use crate::digits::digits_value;
 use crate::run::{Run, run_len};
@@ -89,6 +92,7 @@ fn is_bad(b: u8, rest: &[u8]) -> bool
 pub fn bad_escape(text: &[u8]) -> Option<usize>
     ensures is { has_good_escapes text.now ≡ is_none result }
     ensures within { IfSome result (λ left. left ≤ length text.now) }
+    ensures cut { IfSome result (λ left. IsUtf8 text.now → IsCut text.now left) }
 {
     let mut rest = text;
     'scan: loop {
@@ -145,3 +149,8 @@ pub fn stands_for(text: &str, bytes: &[u8]) -> bool
         wanted = others;
     }
 }
+
+/// A string stands for the values of its characters.
+pub fn stands_for_values()
+    ensures { (quote : ℕ) (all : List Character) → AreCharacters quote all → unescaped (characters_text all) ≡ map value_of all }
+{}

@@ -1,39 +1,72 @@
 //! All tokens of a source.
 
-ghost use Rattle.std.specs.Prelude.{◌≡◌, ◌<◌, ◌^◌, ◌++◌, [], ℕ, List, length, option_map, IfOk, OnOk};
+ghost use Rattle.std.specs.Prelude.{◌≡◌, ◌<◌, ◌^◌, ◌++◌, ◌&&◌, ℕ, List, length, false, option_map, IfOk, IfErr, OnOk};
 ghost use Rattle.std.specs.Str.{IsUtf8};
 ghost use Rattle.pbx_token.specs.Tokens as tokens;
-ghost use Rattle.pbx_token.specs.Pieces.{tokens_from, origin, token_before, Lexes};
-ghost use Rattle.pbx_token.specs.Scan.{pieces_at};
-ghost use Rattle.pbx_token.specs.View.{Gives, ReadsAs, tokens_of, word_of};
+ghost use Rattle.pbx_token.specs.Pieces.{tokens_from, origin, is_semicolon, significant, Lexes};
+ghost use Rattle.pbx_token.specs.Scan.{pieces_at, Gives, ends_after, AllStay, Keeps};
+ghost use Rattle.pbx_token.specs.View.{ReadsAs, IsWithin, IsStart, BeginIn, tokens_of, word_of};
 
 use crate::piece::{LexError, piece};
 use crate::token::{Place, Span, Token, Word, after};
 use std::alloc::{AllocError, Global};
 
+fn is_semicolon(word: Word<'_>) -> bool
+    ensures { result ≡ is_semicolon (word_of word.entry) }
+{
+    matches!(word, Word::Mark(b';'))
+}
+
+/// Whether the last two tokens are `;`.
+fn end_in_semicolons(tokens: &[Token<'_>]) -> bool
+    ensures { result ≡ ends_after false (tokens_of tokens.now) }
+{
+    match tokens {
+        [.., first, second] => is_semicolon(first.word) && is_semicolon(second.word),
+        _ => false,
+    }
+}
+
+/// Whether a token with this word is a `;` behind two.
+fn is_third_semicolon(tokens: &[Token<'_>], word: Word<'_>) -> bool
+    ensures { result ≡ (is_semicolon (word_of word.entry) && ends_after false (tokens_of tokens.now)) }
+{
+    is_semicolon(word) && end_in_semicolons(tokens)
+}
+
+/// Adds a token with this word, if there is one, which begins with so many bytes left. A `;` that then stands between two `;` goes.
 fn add<'a>(
     tokens: &mut Vec<Token<'a>>,
     word: Option<Word<'a>>,
     from: Place,
     to: Place,
+    left: u32,
 ) -> Result<(), AllocError>
-    ensures { OnOk result (tokens_of tokens.new.items ≡ tokens_of tokens.old.items ++ token_before (option_map word_of word.entry) from to []) }
+    ensures same { OnOk result (Keeps (tokens_of tokens.old.items) (option_map word_of word.entry) from to (tokens_of tokens.new.items)) }
+    ensures stays { OnOk result (AllStay (tokens_of tokens.old.items) → AllStay (tokens_of tokens.new.items)) }
+    ensures starts { (source : List ℕ) → IsStart source left → BeginIn source tokens.old.items → OnOk result (BeginIn source tokens.new.items) }
 {
-    if let Some(word) = word {
-        let span = Span {
-            line: from.line,
-            from: from.column,
-            to: to.column,
-        };
-        tokens.push(Token { word, span })?;
+    let Some(word) = word else {
+        return Ok(());
+    };
+    if is_third_semicolon(tokens.as_slice(), word) {
+        tokens.pop();
     }
+    let span = Span {
+        line: from.line,
+        from: from.column,
+        to: to.column,
+    };
+    tokens.push(Token { word, span, left })?;
     Ok(())
 }
 
 fn all<'a>(alloc: Global, source: &'a [u8]) -> Result<Vec<Token<'a>>, LexError>
     requires few { length source.now < 2 ^ 31 }
     requires text { IsUtf8 source.now }
-    ensures { Gives (λ x. tokens_of x.items) (option_map (tokens_from origin) (pieces_at source.now)) result }
+    ensures read { Gives (λ x. tokens_of x.items) (option_map (λ ps. significant (tokens_from origin ps)) (pieces_at source.now)) result }
+    ensures starts { IfOk result (λ x. BeginIn source.now x.items) }
+    ensures fault { IfErr result (λ e. IsWithin source.now e) }
 {
     let mut tokens = Vec::new(alloc);
     let mut rest = source;
@@ -43,7 +76,7 @@ fn all<'a>(alloc: Global, source: &'a [u8]) -> Result<Vec<Token<'a>>, LexError>
         let (word, next) = piece(rest)?;
         let from = Place { line, column };
         let to = after(from, &rest[..rest.len() - next.len()]);
-        add(&mut tokens, word, from, to)?;
+        add(&mut tokens, word, from, to, rest.len() as u32)?;
         line = to.line;
         column = to.column;
         rest = next;
@@ -53,6 +86,8 @@ fn all<'a>(alloc: Global, source: &'a [u8]) -> Result<Vec<Token<'a>>, LexError>
 
 /// The tokens of a source, in order, which borrow from it.
 ///
+/// Of `;` one after another the first and the last are tokens, so many of them take no memory.
+///
 /// A byte that begins no token, a number that is not followed as it must be, a comment or a string that does
 /// not end is a `Fault`; want of memory is `NoMemory`.
 pub fn lex(alloc: Global, source: &str) -> Result<Vec<Token<'_>>, LexError>
@@ -61,6 +96,10 @@ pub fn lex(alloc: Global, source: &str) -> Result<Vec<Token<'_>>, LexError>
     ensures found { IfOk result (λ x. Lexes source.now (tokens_of x.items)) }
     // Its tokens are given, unless memory runs out.
     ensures only { (ts : List tokens.Token) → Lexes source.now ts → ReadsAs (λ x. tokens_of x.items) ts result }
+    // Each begins with as many bytes of the source left as it says, between two characters.
+    ensures starts { IfOk result (λ x. BeginIn source.now x.items) }
+    // A fault lies between two characters of the source.
+    ensures fault { IfErr result (λ e. IsWithin source.now e) }
 {
     all(alloc, source.as_bytes())
 }

@@ -9,7 +9,7 @@ mod run;
 mod text;
 mod token;
 
-pub use escape::{stands_for, unescape};
+pub use escape::{stands_for, stands_for_values, unescape};
 pub use lexer::{at_most_one, lex};
 pub use piece::{Fault, LexError};
 pub use text::stands_for_text;

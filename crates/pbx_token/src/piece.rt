@@ -1,12 +1,11 @@
 //! One piece of a source: a blank, a comment or a token.
 
-ghost use Rattle.std.specs.Prelude.{◌≡◌, ◌≤◌, ◌<◌, ◌+◌, length, take, drop, false, IfSome, IfOk, IsTrue, option_map};
+ghost use Rattle.std.specs.Prelude.{◌≡◌, ◌≤◌, ◌<◌, ◌+◌, length, take, drop, false, IfSome, IfOk, IfErr, IsTrue, option_map};
 ghost use Rattle.std.specs.List.{prefix_len};
 ghost use Rattle.std.specs.Str.{IsUtf8};
 ghost use Rattle.pbx_token.specs.Bytes.{passes, class_of, first_class_of, is_break};
-ghost use Rattle.pbx_token.specs.Pieces.{block_end, quoted_end, begins_slash};
-ghost use Rattle.pbx_token.specs.Scan.{piece_at, quoted_at};
-ghost use Rattle.pbx_token.specs.View.{Gives, kept, word_of};
+ghost use Rattle.pbx_token.specs.Scan.{block_end, begins_slash, quoted_end, piece_at, piece_by, quoted_at, Gives, kept};
+ghost use Rattle.pbx_token.specs.View.{IsCut, IsWithin, word_of};
 ghost use Rattle.pbx_token.specs.declared.piece.LexError.TheVariants.{NoMemory};
 
 use crate::digits::int_of;
@@ -45,7 +44,8 @@ pub enum LexError {
 
 impl LexError {
     fn at(rest: &[u8], fault: Fault) -> LexError
-        ensures { result ≡ LexError.Fault (length rest.now) (length rest.now) fault }
+        ensures is { result ≡ LexError.Fault (length rest.now) (length rest.now) fault }
+        ensures within { IsWithin rest.now result }
     {
         LexError::Fault {
             left: rest.len(),
@@ -77,7 +77,7 @@ pub enum Class {
     Blank,
     Line,
     Block,
-    Word,
+    Identifier,
     Number,
     Quote,
     Mark,
@@ -89,7 +89,7 @@ fn first_class(b: u8) -> Class
 {
     match b {
         b' ' | 9..=13 => Class::Blank,
-        b'a'..=b'z' | b'A'..=b'Z' | b'_' => Class::Word,
+        b'a'..=b'z' | b'A'..=b'Z' | b'_' => Class::Identifier,
         b'0'..=b'9' => Class::Number,
         b'"' | b'\'' => Class::Quote,
         b';' | b'{' | b'}' | b'[' | b']' | b'(' | b')' | b'<' | b'>' | b'=' | b',' | b'.' | b'-' =>
@@ -110,7 +110,7 @@ fn class_at(bytes: &[u8]) -> Class
 }
 
 /// How many bytes stand before the first `*/`.
-#[tactic(auto, unfolding(crate::specs::Pieces::block_end))]
+#[tactic(auto, unfolding(crate::specs::Scan::block_end))]
 fn block_len(bytes: &[u8]) -> Option<usize>
     ensures is { result ≡ block_end bytes.now }
     ensures within { IfSome result (λ n. n + 2 ≤ length bytes.now) }
@@ -149,7 +149,7 @@ fn breaks(b: u8) -> bool
 }
 
 /// How many bytes stand before the first quote that no backslash escapes.
-#[tactic(auto, unfolding(crate::specs::Pieces::quoted_end))]
+#[tactic(auto, unfolding(crate::specs::Scan::quoted_end))]
 fn quoted_len(bytes: &[u8], quote: u8) -> Option<usize>
     ensures is { result ≡ quoted_end quote false bytes.now }
     ensures within { IfSome result (λ n. n + 1 ≤ length bytes.now) }
@@ -176,7 +176,10 @@ fn quoted_len(bytes: &[u8], quote: u8) -> Option<usize>
 }
 
 /// How many bytes are left at the first that no string holds, or at the end.
-fn left_unbroken(text: &[u8]) -> usize {
+fn left_unbroken(text: &[u8]) -> usize
+    ensures within { result ≤ length text.now }
+    ensures cut { IsUtf8 text.now → IsCut text.now result }
+{
     let mut rest = text;
     'scan: loop {
         match rest {
@@ -203,11 +206,11 @@ fn text_of(bytes: &[u8]) -> &str
 }
 
 /// The letters, digits and `_` at the front, which are text since they are ASCII.
-fn word_at(bytes: &[u8]) -> (&str, &[u8])
-    ensures text { result.0.now ≡ take (prefix_len (passes Run.Word) bytes.now) bytes.now }
-    ensures rest { result.1.now ≡ drop (prefix_len (passes Run.Word) bytes.now) bytes.now }
+fn identifier_at(bytes: &[u8]) -> (&str, &[u8])
+    ensures text { result.0.now ≡ take (prefix_len (passes Run.Identifier) bytes.now) bytes.now }
+    ensures rest { result.1.now ≡ drop (prefix_len (passes Run.Identifier) bytes.now) bytes.now }
 {
-    let n = run_len(bytes, Run::Word);
+    let n = run_len(bytes, Run::Identifier);
     (text_of(&bytes[..n]), &bytes[n..])
 }
 
@@ -217,6 +220,7 @@ fn quoted(bytes: &[u8]) -> Result<(Option<Word<'_>>, &[u8]), LexError>
     requires text { IsUtf8 bytes.now }
     ensures read { Gives (λ x. (option_map word_of x.0, x.1.now)) (kept (quoted_at bytes.now)) result }
     ensures shorter { IfOk result (λ x. length x.1.now < length bytes.now) }
+    ensures fault { IfErr result (λ e. IsWithin bytes.now e) }
 {
     let [quote, text @ ..] = bytes else {
         return Err(LexError::at(bytes, Fault::Token));
@@ -238,12 +242,44 @@ fn quoted(bytes: &[u8]) -> Result<(Option<Word<'_>>, &[u8]), LexError>
     Ok((Some(Word::Str(text_of(&text[..n]))), &text[n + 1..]))
 }
 
+/// What follows the comment over lines that begins at the front.
+fn block(bytes: &[u8]) -> Result<(Option<Word<'_>>, &[u8]), LexError>
+    requires { IsUtf8 bytes.now }
+    ensures read { Gives (λ x. (option_map word_of x.0, x.1.now)) (kept (piece_by Class.Block bytes.now)) result }
+    ensures shorter { IfOk result (λ x. length x.1.now < length bytes.now) }
+    ensures fault { IfErr result (λ e. IsWithin bytes.now e) }
+{
+    let text = bytes.get(2..).unwrap_or(&[]);
+    match block_len(text) {
+        None => Err(LexError::Fault {
+            left: 0,
+            begun: bytes.len(),
+            fault: Fault::CommentEnd,
+        }),
+        Some(n) => Ok((None, &text[n + 2..])),
+    }
+}
+
+/// The integer at the front, and what follows it.
+fn integer(bytes: &[u8]) -> Result<(Option<Word<'_>>, &[u8]), LexError>
+    ensures read { Gives (λ x. (option_map word_of x.0, x.1.now)) (kept (piece_by Class.Number bytes.now)) result }
+    ensures shorter { IfOk result (λ x. length x.1.now < length bytes.now) }
+    ensures fault { IfErr result (λ e. IsWithin bytes.now e) }
+{
+    let n = run_len(bytes, Run::Number);
+    match int_of(&bytes[..n]) {
+        None => Err(LexError::at(bytes, Fault::Integer)),
+        Some(value) => Ok((Some(Word::Int(value)), &bytes[n..])),
+    }
+}
+
 /// The piece at the front: its word, if it is a token, and what follows it.
 #[tactic(auto, unfolding(crate::specs::Scan::piece_at))]
 pub fn piece(bytes: &[u8]) -> Result<(Option<Word<'_>>, &[u8]), LexError>
     requires { IsUtf8 bytes.now }
     ensures read { Gives (λ x. (option_map word_of x.0, x.1.now)) (kept (piece_at bytes.now)) result }
     ensures shorter { IfOk result (λ x. length x.1.now < length bytes.now) }
+    ensures fault { IfErr result (λ e. IsWithin bytes.now e) }
 {
     match class_at(bytes) {
         Class::Bad => Err(LexError::at(bytes, Fault::Token)),
@@ -259,28 +295,12 @@ pub fn piece(bytes: &[u8]) -> Result<(Option<Word<'_>>, &[u8]), LexError>
             let text = bytes.get(2..).unwrap_or(&[]);
             Ok((None, &text[run_len(text, Run::Line)..]))
         }
-        Class::Block => {
-            let text = bytes.get(2..).unwrap_or(&[]);
-            match block_len(text) {
-                None => Err(LexError::Fault {
-                    left: 0,
-                    begun: bytes.len(),
-                    fault: Fault::CommentEnd,
-                }),
-                Some(n) => Ok((None, &text[n + 2..])),
-            }
-        }
-        Class::Word => {
-            let (text, rest) = word_at(bytes);
+        Class::Block => block(bytes),
+        Class::Identifier => {
+            let (text, rest) = identifier_at(bytes);
             Ok((Some(Word::Ident(text)), rest))
         }
-        Class::Number => {
-            let n = run_len(bytes, Run::Number);
-            match int_of(&bytes[..n]) {
-                None => Err(LexError::at(bytes, Fault::Integer)),
-                Some(value) => Ok((Some(Word::Int(value)), &bytes[n..])),
-            }
-        }
+        Class::Number => integer(bytes),
         Class::Quote => quoted(bytes),
     }
 }

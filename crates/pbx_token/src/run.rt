@@ -9,7 +9,7 @@ use crate::digits::digit_value;
 /// Bytes that are read as far as they go.
 #[derive(Clone, Copy, Debug)]
 pub enum Run {
-    Word,
+    Identifier,
     Number,
     Line,
     /// Digits of this base.
@@ -20,7 +20,7 @@ fn passes_run(run: Run, b: u8) -> bool
     ensures { result ≡ passes run b }
 {
     match run {
-        Run::Word => b.is_ascii_alphanumeric() || b == b'_',
+        Run::Identifier => b.is_ascii_alphanumeric() || b == b'_',
         Run::Number => b.is_ascii_alphanumeric() || b == b'_' || b == b'.',
         Run::Line => b != b'\n',
         Run::Digits(base) => digit_value(b) < base,

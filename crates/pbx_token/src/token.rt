@@ -37,6 +37,8 @@ pub enum Word<'a> {
 pub struct Token<'a> {
     pub word: Word<'a>,
     pub span: Span,
+    /// How many bytes of the source are left where it begins.
+    pub left: u32,
 }
 
 /// The place after a text that begins at a place.

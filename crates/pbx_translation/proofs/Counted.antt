@@ -21,13 +21,13 @@ none_seen view xs i past = ap (map view) (drop_of_length-le xs past)
 
 -- ---- fields
 
-pub fields_more : (v : Version) (written made : ℕ) (p : BodyItem) (ps : List BodyItem) → fields_from v written made (p ∷ ps) ≡ fields_in v written made p ++ fields_from v (written + length (oneofs_in p)) (made + length (optional_names_in v p)) ps
+pub fields_more : (v : Version) (written synthetic : ℕ) (p : BodyItem) (ps : List BodyItem) → fields_from v written synthetic (p ∷ ps) ≡ fields_in v written synthetic p ++ fields_from v (written + length (oneofs_in p)) (synthetic + length (optional_names_in v p)) ps
 unfolding fields_from
-fields_more v written made p ps = refl
+fields_more v written synthetic p ps = refl
 
-pub fields_none : (v : Version) (written made : ℕ) → fields_from v written made [] ≡ []
+pub fields_none : (v : Version) (written synthetic : ℕ) → fields_from v written synthetic [] ≡ []
 unfolding fields_from
-fields_none v written made = refl
+fields_none v written synthetic = refl
 
 -- ---- nested types
 

@@ -1,10 +1,12 @@
 pub mod Lists
 pub mod Camel
 pub mod Taken
+pub mod Free
+pub mod Own
+pub mod Indexes
 pub mod Counted
 pub mod Placed
 pub mod Strings
 pub mod ItemForms
 pub mod Steps
 pub mod Whole
-pub mod WholeFile

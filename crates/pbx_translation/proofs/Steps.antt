@@ -23,26 +23,26 @@ module _ {A : Type 0} where
 
 -- ---- fields
 
-module _ (v : Version) (items : List code_item.Item) (i written made : ℕ) where
-  pub fields_go_on : (x : code_item.Item) (written_then made_then : ℕ) (before after total : List FieldDescriptorProto) → i < length items → x ≡ get_or items i x
-      → before ++ fields_from v written made (map item_of (drop i items)) ≡ total
-      → after ≡ before ++ fields_in v written made (item_of x)
+module _ (v : Version) (items : List code_item.Item) (i written synthetic : ℕ) where
+  pub fields_go_on : (x : code_item.Item) (written_then synthetic_then : ℕ) (before after total : List FieldDescriptorProto) → i < length items → x ≡ get_or items i x
+      → before ++ fields_from v written synthetic (map item_of (drop i items)) ≡ total
+      → after ≡ before ++ fields_in v written synthetic (item_of x)
       → written_then ≡ written + length (oneofs_in (item_of x))
-      → made_then ≡ made + length (optional_names_in v (item_of x))
-      → after ++ fields_from v written_then made_then (map item_of (drop (i + 1) items)) ≡ total
-  fields_go_on x written_then made_then before after total below is so_far added w m =
+      → synthetic_then ≡ synthetic + length (optional_names_in v (item_of x))
+      → after ++ fields_from v written_then synthetic_then (map item_of (drop (i + 1) items)) ≡ total
+  fields_go_on x written_then synthetic_then before after total below is so_far added w m =
       let rest = map item_of (drop (i + 1) items) in
-      let now = fields_in v written made (item_of x) in
-      let whole : fields_from v written made (map item_of (drop i items)) ≡ now ++ fields_from v written_then made_then rest =
-      ap (fields_from v written made) (rest_seen item_of items i x below is)
-      ∙ fields_more v written made (item_of x) rest
-      ∙ ap (λ (n : ℕ). now ++ fields_from v n (made + length (optional_names_in v (item_of x))) rest) (sym w)
+      let now = fields_in v written synthetic (item_of x) in
+      let whole : fields_from v written synthetic (map item_of (drop i items)) ≡ now ++ fields_from v written_then synthetic_then rest =
+      ap (fields_from v written synthetic) (rest_seen item_of items i x below is)
+      ∙ fields_more v written synthetic (item_of x) rest
+      ∙ ap (λ (n : ℕ). now ++ fields_from v n (synthetic + length (optional_names_in v (item_of x))) rest) (sym w)
       ∙ ap (λ (n : ℕ). now ++ fields_from v written_then n rest) (sym m) in
-      moves before now (fields_from v written_then made_then rest) after (fields_from v written made (map item_of (drop i items))) total so_far whole added
+      moves before now (fields_from v written_then synthetic_then rest) after (fields_from v written synthetic (map item_of (drop i items))) total so_far whole added
 
-  pub fields_end : (all total : List FieldDescriptorProto) → length items ≤ i → all ++ fields_from v written made (map item_of (drop i items)) ≡ total → all ≡ total
+  pub fields_end : (all total : List FieldDescriptorProto) → length items ≤ i → all ++ fields_from v written synthetic (map item_of (drop i items)) ≡ total → all ≡ total
   fields_end all total past so_far =
-      all_there all (fields_from v written made (map item_of (drop i items))) total so_far (ap (fields_from v written made) (none_seen item_of items i past) ∙ fields_none v written made)
+      all_there all (fields_from v written synthetic (map item_of (drop i items))) total so_far (ap (fields_from v written synthetic) (none_seen item_of items i past) ∙ fields_none v written synthetic)
 
 -- ---- nested types
 

@@ -1,12 +1,13 @@
 -- The names in the scope of a message, and those that are free.
-use Rattle.std.proofs.Common.{◌≡◌, ℕ, suc, ◌+◌, ◌<◌, ◌≤◌, List, [], ◌∷◌, ◌++◌, length, map, take, drop, get_or, Bool, true, false, ◌||◌, if◌then◌else◌, refl, sym, ap, ◌∙◌, append_assoc, append-nil}
+use Rattle.std.proofs.Common.{◌≡◌, ℕ, ◌+◌, ◌<◌, ◌≤◌, List, [], ◌∷◌, ◌++◌, length, map, take, drop, get_or, Bool, true, false, ◌||◌, if◌then◌else◌, refl, sym, ap, ◌∙◌, append_assoc, append-nil}
 use Rattle.std.specs.List.{flat_map}
 use Rattle.std.specs.Str.{bytes_eq}
 use Rattle.std.proofs.lemmas.Bool.Decides.{same_from_decides}
 use Rattle.std.proofs.lemmas.List.{flat_map_more, take_more}
 use Rattle.std.proofs.lemmas.Slice.Eq.{bytes_eq-Decides}
 use Rattle.pbx_desc.specs.declared.field.OneofDescriptorProto.{OneofDescriptorProto}
-use Rattle.pbx_translation.specs.Messages.{is_among, free_within, free_name, made_names, oneof_record}
+use Rattle.pbx_translation.specs.Messages.{oneof_record}
+use Rattle.pbx_translation.specs.Synthetic.{is_among, free_name, synthetic_names}
 use Rattle.pbx_translation.proofs.Counted.{rest_seen, none_seen}
 use Rattle.pbx_translation.proofs.Lists.{flat_seen}
 
@@ -24,28 +25,14 @@ among_more (n ∷ ns) name q = ap (λ b. bytes_eq q n || b) (among_more ns name 
     at true false = refl
     at false b = refl
 
--- a try that is taken
-pub one_try : (tries left : ℕ) (names : List (List ℕ)) (name : List ℕ) → tries ≡ suc left → is_among names name ≡ true → free_within tries names name ≡ free_within left names (88 ∷ name)
-unfolding free_within
-one_try tries left names name e taken = ap (λ n. free_within n names name) e ∙ rw taken refl
+-- one more synthetic name
+pub synthetic_one : (taken : List (List ℕ)) (field : List ℕ) (fields : List (List ℕ)) (name : List ℕ) → name ≡ free_name taken field → synthetic_names taken (field ∷ fields) ≡ name ∷ synthetic_names (taken ++ name ∷ []) fields
+unfolding synthetic_names
+synthetic_one taken field fields name e = ap (λ m. m ∷ synthetic_names (taken ++ m ∷ []) fields) (sym e)
 
--- one that is free
-pub free_try : (tries left : ℕ) (names : List (List ℕ)) (name : List ℕ) → tries ≡ suc left → is_among names name ≡ false → free_within tries names name ≡ name
-unfolding free_within
-free_try tries left names name e free = ap (λ n. free_within n names name) e ∙ rw free refl
-
-pub no_try : (tries : ℕ) (names : List (List ℕ)) (name : List ℕ) → tries ≡ 0 → free_within tries names name ≡ name
-unfolding free_within
-no_try tries names name e = ap (λ n. free_within n names name) e
-
--- one more made name
-pub made_one : (taken : List (List ℕ)) (name : List ℕ) (names : List (List ℕ)) (made : List ℕ) → made ≡ free_name taken (95 ∷ name) → made_names taken (name ∷ names) ≡ made ∷ made_names (taken ++ made ∷ []) names
-unfolding made_names
-made_one taken name names made e = ap (λ m. m ∷ made_names (taken ++ m ∷ []) names) (sym e)
-
-pub made_none : (taken : List (List ℕ)) → made_names taken [] ≡ []
-unfolding made_names
-made_none taken = refl
+pub synthetic_none : (taken : List (List ℕ)) → synthetic_names taken [] ≡ []
+unfolding synthetic_names
+synthetic_none taken = refl
 
 -- two texts are equal in either order
 pub swapped : (xs ys : List ℕ) → bytes_eq xs ys ≡ bytes_eq ys xs
@@ -61,27 +48,25 @@ taken_more {X} f xs i x before below is =
     ∙ ap (λ ys. before ++ flat_map f ys) (sym (take_more xs i x below))
 
 -- a name, and then those of the parts
-pub parts_named : {A B : Type 0} (f : B → List (List ℕ)) (view : A → B) (before : List (List ℕ)) (name : List ℕ) (seen all : List A) → seen ≡ all → (before ++ name ∷ []) ++ flat_map (λ x. f (view x)) seen ≡ before ++ name ∷ flat_map f (map view all)
-parts_named f view before name seen all e =
-    append_assoc before (name ∷ []) (flat_map (λ x. f (view x)) seen)
-    ∙ ap (λ ys. before ++ name ∷ ys) (ap (flat_map (λ x. f (view x))) e ∙ flat_seen f view all)
+pub parts_named : {A B : Type 0} (f : B → List (List ℕ)) (view : A → B) (before : List (List ℕ)) (name : List ℕ) (seen all : List A) → seen ≡ all → before ++ name ∷ flat_map (λ x. f (view x)) seen ≡ before ++ name ∷ flat_map f (map view all)
+parts_named f view before name seen all e = ap (λ ys. before ++ name ∷ ys) (ap (flat_map (λ x. f (view x))) e ∙ flat_seen f view all)
 
 module _ {A : Type 0} (view : A → List ℕ) (xs : List A) (i : ℕ) where
-  -- one more oneof that is made
-  pub made_goes_on : (x : A) (now : List (List ℕ)) (made : List ℕ) (before after total : List OneofDescriptorProto) → i < length xs → x ≡ get_or xs i x → made ≡ free_name now (95 ∷ view x) → after ≡ before ++ oneof_record made ∷ []
-      → before ++ map oneof_record (made_names now (map view (drop i xs))) ≡ total → after ++ map oneof_record (made_names (now ++ made ∷ []) (map view (drop (i + 1) xs))) ≡ total
-  made_goes_on x now made before after total below is m e so_far =
-      let names = map view (drop (i + 1) xs) in
-      let rest = map oneof_record (made_names (now ++ made ∷ []) names) in
-      let first : made_names now (map view (drop i xs)) ≡ made ∷ made_names (now ++ made ∷ []) names = ap (made_names now) (rest_seen view xs i x below is) ∙ made_one now (view x) names made m in
+  -- one more synthetic oneof
+  pub synthetic_goes_on : (x : A) (now : List (List ℕ)) (name : List ℕ) (before after total : List OneofDescriptorProto) → i < length xs → x ≡ get_or xs i x → name ≡ free_name now (view x) → after ≡ before ++ oneof_record name ∷ []
+      → before ++ map oneof_record (synthetic_names now (map view (drop i xs))) ≡ total → after ++ map oneof_record (synthetic_names (now ++ name ∷ []) (map view (drop (i + 1) xs))) ≡ total
+  synthetic_goes_on x now name before after total below is m e so_far =
+      let fields = map view (drop (i + 1) xs) in
+      let rest = map oneof_record (synthetic_names (now ++ name ∷ []) fields) in
+      let first : synthetic_names now (map view (drop i xs)) ≡ name ∷ synthetic_names (now ++ name ∷ []) fields = ap (synthetic_names now) (rest_seen view xs i x below is) ∙ synthetic_one now (view x) fields name m in
       ap (λ ys. ys ++ rest) e
-      ∙ append_assoc before (oneof_record made ∷ []) rest
+      ∙ append_assoc before (oneof_record name ∷ []) rest
       ∙ ap (λ ns. before ++ map oneof_record ns) (sym first)
       ∙ so_far
 
-  -- no name is left
-  pub made_all : (now : List (List ℕ)) (all total : List OneofDescriptorProto) → length xs ≤ i → all ++ map oneof_record (made_names now (map view (drop i xs))) ≡ total → all ≡ total
-  made_all now all total past so_far =
+  -- no field is left
+  pub synthetic_all : (now : List (List ℕ)) (all total : List OneofDescriptorProto) → length xs ≤ i → all ++ map oneof_record (synthetic_names now (map view (drop i xs))) ≡ total → all ≡ total
+  synthetic_all now all total past so_far =
       sym (append-nil all)
-      ∙ ap (λ ns. all ++ map oneof_record ns) (sym (ap (made_names now) (none_seen view xs i past) ∙ made_none now))
+      ∙ ap (λ ns. all ++ map oneof_record ns) (sym (ap (synthetic_names now) (none_seen view xs i past) ∙ synthetic_none now))
       ∙ so_far

@@ -18,7 +18,8 @@ use Rattle.pbx_tree.specs.Tree.{Body, Service}
 use Rattle.pbx_tree.specs.View.{BodyItem, item_of, body_of}
 use Rattle.pbx_translation.specs.Settings.{options_of}
 use Rattle.pbx_translation.specs.Services.{method_records, service_record}
-use Rattle.pbx_translation.specs.Messages.{body_items, oneof_record, oneofs_in, optional_names_in, names_in, made_names, oneof_records, fields_from, fields_of, enums_in, extension_ranges_in, extensions_in, reserved_ranges_in, reserved_names_in, message_with}
+use Rattle.pbx_translation.specs.Messages.{body_items, oneof_record, oneofs_in, optional_names_in, names_in, oneof_records, fields_from, fields_of, enums_in, extension_ranges_in, extensions_in, reserved_ranges_in, reserved_names_in, message_with}
+use Rattle.pbx_translation.specs.Synthetic.{synthetic_names}
 use Rattle.pbx_translation.proofs.Lists.{flat_seen, body_items_seen}
 
 pub service_made : (s : Service) (name : List ℕ) (methods : List MethodDescriptorProto) (options : Option Options) (unknown : List Rec)
@@ -44,10 +45,10 @@ module _ (items : List code_item.Item) where
         ∙ ap (λ (os : List OneofDescriptorProto). fields_from v 0 (length os) (map item_of items)) (are ∙ flat_seen oneofs_in item_of items)
         ∙ ap (fields_of v) (sym seen)
 
-    pub oneofs_are : (oneofs : List OneofDescriptorProto) → oneofs ≡ written ++ map oneof_record (made_names (flat_map names_in (map item_of items)) (flat_map (optional_names_in v) (map item_of items))) → oneofs ≡ oneof_records v (body_items (body_of items))
+    pub oneofs_are : (oneofs : List OneofDescriptorProto) → oneofs ≡ written ++ map oneof_record (synthetic_names (flat_map names_in (map item_of items)) (flat_map (optional_names_in v) (map item_of items))) → oneofs ≡ oneof_records v (body_items (body_of items))
     oneofs_are oneofs e =
         e
-        ∙ ap (λ (os : List OneofDescriptorProto). os ++ map oneof_record (made_names (flat_map names_in (map item_of items)) (flat_map (optional_names_in v) (map item_of items)))) (are ∙ flat_seen oneofs_in item_of items)
+        ∙ ap (λ (os : List OneofDescriptorProto). os ++ map oneof_record (synthetic_names (flat_map names_in (map item_of items)) (flat_map (optional_names_in v) (map item_of items)))) (are ∙ flat_seen oneofs_in item_of items)
         ∙ ap (oneof_records v) (sym seen)
 
 pub message_made : (v : Version) (name text : List ℕ) (b : Body) (types kept : List DescriptorProto) (fields : List FieldDescriptorProto) (enums : List EnumDescriptorProto) (ranges : List ExtensionRange) (extensions : List FieldDescriptorProto)

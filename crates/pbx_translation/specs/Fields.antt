@@ -130,8 +130,8 @@ is_proto3_optional _ _ = false
 
 -- a field of a message; one with presence in proto3 is the only member of the oneof of this index
 unfoldable pub field_record : Version → ℕ → Field → FieldDescriptorProto
-field_record v made f = if is_proto3_optional v f.label
-    then record (labelled_field f) { oneof_index = Some (pos made); proto3_optional = Some true }
+field_record v synthetic f = if is_proto3_optional v f.label
+    then record (labelled_field f) { oneof_index = Some (pos synthetic); proto3_optional = Some true }
     else labelled_field f
 
 -- what stands in the oneof of this index

@@ -4,6 +4,8 @@ pub mod Settings
 pub mod Fields
 pub mod Enums
 pub mod Services
+pub mod Synthetic
 pub mod Messages
+pub mod Oneofs
 pub mod Scope
 pub mod Translation

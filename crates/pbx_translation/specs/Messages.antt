@@ -1,7 +1,6 @@
 -- Records of messages.
-use Rattle.std.specs.Prelude.{ℕ, zero, suc, ◌+◌, List, [], ◌∷◌, ◌++◌, map, length, Bool, Option, Some, None, pos, if◌then◌else◌}
-use Rattle.std.specs.List.{flat_map, list_any}
-use Rattle.std.specs.Str.{bytes_eq}
+use Rattle.std.specs.Prelude.{ℕ, ◌+◌, List, [], ◌∷◌, ◌++◌, map, length, Option, Some, None, pos, if◌then◌else◌}
+use Rattle.std.specs.List.{flat_map}
 use Rattle.pbx_desc.specs.declared.enumeration.EnumDescriptorProto.{EnumDescriptorProto}
 use Rattle.pbx_desc.specs.declared.field.FieldDescriptorProto.{FieldDescriptorProto}
 use Rattle.pbx_desc.specs.declared.field.OneofDescriptorProto.{OneofDescriptorProto}
@@ -18,6 +17,7 @@ use Rattle.pbx_translation.specs.Texts.{entry_name}
 use Rattle.pbx_translation.specs.Settings.{options_of}
 use Rattle.pbx_translation.specs.Fields.{is_proto3_optional, field_record, member_records, map_record, entry_record, extend_records}
 use Rattle.pbx_translation.specs.Enums.{names_reserved, enum_record}
+use Rattle.pbx_translation.specs.Synthetic.{synthetic_names}
 
 -- what stands in a body, in its order; messages in it are not entered
 unfoldable pub body_items : Body → List BodyItem
@@ -81,7 +81,7 @@ abbrev pub oneofs_in : BodyItem → List OneofDescriptorProto
 oneofs_in (plain (item_oneof o)) = oneof_record o.name.text ∷ []
 oneofs_in _ = []
 
--- the names of the fields for which a oneof is made
+-- the names of the fields that have a synthetic oneof
 abbrev pub optional_names_in : Version → BodyItem → List (List ℕ)
 optional_names_in v (plain (item_field f)) = if is_proto3_optional v f.label then f.tail.name.text ∷ [] else []
 optional_names_in v _ = []
@@ -111,43 +111,34 @@ abbrev pub names_in : BodyItem → List (List ℕ)
 names_in (plain i) = item_names i
 names_in (nested h inner close) = h.name.text ∷ []
 
--- the name is among these
-abbrev pub is_among : List (List ℕ) → List ℕ → Bool
-is_among names name = list_any (bytes_eq name) names
+-- the names in the scope of a message, those of its synthetic oneofs left out
+abbrev pub scope_names : List BodyItem → List (List ℕ)
+scope_names ps = flat_map names_in ps
 
--- the name, with `X` put in front while it is among these, at most so many times
-unfoldable pub free_within : ℕ → List (List ℕ) → List ℕ → List ℕ
-free_within zero names name = name
-free_within (suc tries) names name = if is_among names name then free_within tries names (88 ∷ name) else name
+-- the names of the synthetic oneofs of a message, in the order of their fields
+abbrev pub synthetic_oneofs : Version → List BodyItem → List (List ℕ)
+synthetic_oneofs v ps = synthetic_names (scope_names ps) (flat_map (optional_names_in v) ps)
 
--- The name, with `X` put in front until it is none of these. Each try is another name, so one that is free comes before there are more tries than names.
-abbrev pub free_name : List (List ℕ) → List ℕ → List ℕ
-free_name names name = free_within (length names) names name
-
--- the names of the oneofs that are made for fields, each `_` and the field's name where that is free; those made before are taken
-unfoldable pub made_names : List (List ℕ) → List (List ℕ) → List (List ℕ)
-made_names taken [] = []
-made_names taken (name ∷ names) = let made = free_name taken (95 ∷ name) in made ∷ made_names (taken ++ made ∷ []) names
-
--- the oneofs of a message: those that are written, and then those that are made
+-- the oneofs of a message: those that are written, and then the synthetic ones
 abbrev pub oneof_records : Version → List BodyItem → List OneofDescriptorProto
-oneof_records v ps = flat_map oneofs_in ps ++ map oneof_record (made_names (flat_map names_in ps) (flat_map (optional_names_in v) ps))
+oneof_records v ps = flat_map oneofs_in ps ++ map oneof_record (synthetic_oneofs v ps)
 
 -- ---- fields
 
--- the fields of one item, where so many oneofs are written before it, and the next that is made has this index
+-- the fields of one item, where so many oneofs are written before it, and the next synthetic one has this index
 abbrev pub fields_in : Version → ℕ → ℕ → BodyItem → List FieldDescriptorProto
-fields_in v written made (plain (item_field f)) = field_record v made f ∷ []
-fields_in v written made (plain (item_map m)) = map_record m ∷ []
-fields_in v written made (plain (item_oneof o)) = flat_map (member_records written) o.members
-fields_in v written made _ = []
+fields_in v written synthetic (plain (item_field f)) = field_record v synthetic f ∷ []
+fields_in v written synthetic (plain (item_map m)) = map_record m ∷ []
+fields_in v written synthetic (plain (item_oneof o)) = flat_map (member_records written) o.members
+fields_in v written synthetic _ = []
 
 -- the fields of these items
 unfoldable pub fields_from : Version → ℕ → ℕ → List BodyItem → List FieldDescriptorProto
-fields_from v written made [] = []
-fields_from v written made (p ∷ ps) = fields_in v written made p ++ fields_from v (written + length (oneofs_in p)) (made + length (optional_names_in v p)) ps
+fields_from v written synthetic [] = []
+fields_from v written synthetic (p ∷ ps) =
+    fields_in v written synthetic p ++ fields_from v (written + length (oneofs_in p)) (synthetic + length (optional_names_in v p)) ps
 
--- the fields of a message: oneofs are counted from 0, and those that are made stand behind all that are written
+-- the fields of a message: oneofs are counted from 0, and the synthetic ones stand behind all that are written
 abbrev pub fields_of : Version → List BodyItem → List FieldDescriptorProto
 fields_of v ps = fields_from v 0 (length (flat_map oneofs_in ps)) ps
 

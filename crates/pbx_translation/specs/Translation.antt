@@ -75,7 +75,8 @@ abbrev pub package_name : List Package → Option (List ℕ)
 package_name [] = None
 package_name (p ∷ ps) = Some (full_text p.full)
 
-abbrev file_with : List ℕ → Version → List Top → List Import → List Location → FileDescriptorProto
+-- a file of this name, this version, these tops and imports, and these locations
+abbrev pub file_with : List ℕ → Version → List Top → List Import → List Location → FileDescriptorProto
 file_with name v tops imports locations = record {
   name = Some name;
   «package» = package_name (packages tops);

@@ -200,20 +200,20 @@ pub(crate) fn index(index: usize) -> Result<i32, NoMemory>
     }
 }
 
-/// A field of a message, where the next oneof that is made has this index.
+/// A field of a message, where the next synthetic oneof has this index.
 #[tactic(auto, unfolding(crate::specs::Fields::field_record))]
 pub(crate) fn field_record(
     alloc: Global,
     version: Version,
-    made: usize,
+    synthetic: usize,
     field: &Field<'_>,
 ) -> Result<FieldDescriptorProto, NoMemory>
-    ensures { IfOk result (λ it. it ≡ field_record_of version made (field_of field.now)) }
+    ensures { IfOk result (λ it. it ≡ field_record_of version synthetic (field_of field.now)) }
 {
     if !is_proto3_optional(version, &field.label) {
         return labelled_field(alloc, field);
     }
-    let oneof_index = index(made)?;
+    let oneof_index = index(synthetic)?;
     let mut record = labelled_field(alloc, field)?;
     record.oneof_index = Some(oneof_index);
     record.proto3_optional = Some(true);

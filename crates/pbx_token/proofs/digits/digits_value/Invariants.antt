@@ -1,5 +1,5 @@
 use Rattle.std.proofs.Common.{length, ◌≡◌}
-use Rattle.pbx_token.specs.Bytes.{digits_from}
+use Rattle.pbx_token.specs.Scan.{digits_from}
 use Rattle.pbx_token.proofs.digits.digits_value.Given as goal
 
 abbrev pub invariant-scan : goal.invariant-scan

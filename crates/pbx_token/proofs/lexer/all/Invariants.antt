@@ -1,14 +1,19 @@
 use Rattle.std.proofs.Common.{◌≡◌, ◌≤◌, ◌+◌, ◌++◌, length}
 use Rattle.std.specs.Prelude.{option_map}
 use Rattle.std.specs.Str.{IsUtf8}
-use Rattle.pbx_token.specs.Pieces.{tokens_from, origin}
+use Rattle.pbx_token.specs.Pieces.{tokens_from, significant}
 use Rattle.pbx_token.specs.Scan.{pieces_at}
-use Rattle.pbx_token.specs.View.{tokens_of}
+use Rattle.pbx_token.specs.View.{BeginIn, tokens_of}
+use Rattle.pbx_token.proofs.Faults.{Split}
+use Rattle.pbx_token.proofs.Laws.{tokens_in}
 use Rattle.pbx_token.proofs.lexer.all.Given as goal
 
 abbrev pub invariant-pieces : goal.invariant-pieces
 invariant-pieces l = record {
-  so_far : option_map (λ ps. tokens_of l.tokens.items ++ tokens_from (record { line = l.line; column = l.column }) ps) (pieces_at l.rest) ≡ option_map (tokens_from origin) (pieces_at l.source);
+  so_far : option_map (λ ps. significant (tokens_of l.tokens.items ++ tokens_from (record { line = l.line; column = l.column }) ps)) (pieces_at l.rest) ≡ option_map tokens_in (pieces_at l.source);
+  stay : significant (tokens_of l.tokens.items) ≡ tokens_of l.tokens.items;
+  starts : BeginIn l.source l.tokens.items;
+  left : Split l.source l.rest;
   line : l.line + length l.rest ≤ length l.source;
   column : l.column + length l.rest ≤ length l.source;
   text : IsUtf8 l.rest;

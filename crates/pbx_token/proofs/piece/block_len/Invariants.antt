@@ -1,6 +1,6 @@
 use Rattle.std.proofs.Common.{length, ◌≡◌, ◌+◌}
 use Rattle.std.specs.Prelude.{option_map}
-use Rattle.pbx_token.specs.Pieces.{block_end}
+use Rattle.pbx_token.specs.Scan.{block_end}
 use Rattle.pbx_token.proofs.piece.block_len.Given as goal
 
 abbrev pub invariant-scan : goal.invariant-scan

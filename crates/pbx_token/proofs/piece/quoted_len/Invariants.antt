@@ -1,6 +1,6 @@
 use Rattle.std.proofs.Common.{false, length, ◌≡◌, ◌+◌}
 use Rattle.std.specs.Prelude.{option_map}
-use Rattle.pbx_token.specs.Pieces.{quoted_end}
+use Rattle.pbx_token.specs.Scan.{quoted_end}
 use Rattle.pbx_token.proofs.piece.quoted_len.Given as goal
 
 abbrev pub invariant-scan : goal.invariant-scan

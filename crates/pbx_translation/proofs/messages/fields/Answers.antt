@@ -8,8 +8,8 @@ pub each-preserved : goal.each-preserved
 each-preserved c =
     let x = c.item-item.result in
     let written : c.in_ok-written.written ≡ c.each.written + length (oneofs_in (item_of x)) = c.in_ok-written.ensures ∙ ap (λ (n : ℕ). c.each.written + n) c.oneofs_in.ensures in
-    let made : c.in_ok-made.made ≡ c.each.made + length (optional_names_in c.args.version (item_of x)) = c.in_ok-made.ensures ∙ ap (λ (n : ℕ). c.each.made + n) c.optionals_in.ensures in
-    fields_go_on c.args.version c.args.items.now c.each.item-index c.each.written c.each.made x c.in_ok-written.written c.in_ok-made.made c.each.all c.add_fields.new.records _ c.each-test.true c.item-item.is c.each.invariant c.in_ok-add_fields.ensures written made
+    let synthetic : c.in_ok-synthetic.synthetic ≡ c.each.synthetic + length (optional_names_in c.args.version (item_of x)) = c.in_ok-synthetic.ensures ∙ ap (λ (n : ℕ). c.each.synthetic + n) c.optionals_in.ensures in
+    fields_go_on c.args.version c.args.items.now c.each.item-index c.each.written c.each.synthetic x c.in_ok-written.written c.in_ok-synthetic.synthetic c.each.all c.add_fields.new.records _ c.each-test.true c.item-item.is c.each.invariant c.in_ok-add_fields.ensures written synthetic
 
 pub returns : goal.returns
-returns c = fields_end c.args.version c.args.items.now c.each.item-index c.each.written c.each.made c.each.all _ c.each-test.false c.each.invariant
+returns c = fields_end c.args.version c.args.items.now c.each.item-index c.each.written c.each.synthetic c.each.all _ c.each-test.false c.each.invariant

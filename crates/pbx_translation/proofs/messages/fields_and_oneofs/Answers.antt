@@ -10,5 +10,5 @@ returns c =
     let xs = c.args.items.now in
     let written = c.in_ok-oneofs.oneofs in (
       fields_are xs v written c.in_ok-oneofs.ensures c.in_ok-fields.fields (c.in_ok-fields.ensures ∙ ap (λ (n : ℕ). fields_from v 0 n (map item_of xs)) c.len.ensures),
-      oneofs_are xs v written c.in_ok-oneofs.ensures c.add_made_oneofs.new.oneofs c.in_ok-add_made_oneofs.ensures,
+      oneofs_are xs v written c.in_ok-oneofs.ensures c.add_synthetic_oneofs.new.oneofs c.in_ok-add_synthetic_oneofs.ensures,
     )

@@ -1,4 +1,4 @@
-use Rattle.std.proofs.Common.{◌≡◌, ◌∙◌, ◌++◌, ◌∷◌, [], ℕ, List, OnOk, sym, ap, subst}
+use Rattle.std.proofs.Common.{◌≡◌, ◌∙◌, ◌++◌, ℕ, List, OnOk, sym, ap, subst}
 use Rattle.std.specs.List.{flat_map}
 use Rattle.pbx_tree.specs.declared.tree.Enum.{Enum}
 use Rattle.pbx_tree.specs.declared.tree.Extend.{Extend}
@@ -28,28 +28,28 @@ extend_body_item e = ap item_of (sym (rolls-Extend e)) ∙ fold-roll-Item BodyIt
 abbrev all_names : List (List ℕ) → BodyItem → List (List ℕ)
 all_names before p = before ++ names_in p
 
-pub returns-in_ok-add-in-Oneof : goal.returns-in_ok-add-in-Oneof
-returns-in_ok-add-in-Oneof c = λ before h.
+pub returns-in-Oneof : goal.returns-in-Oneof
+returns-in-Oneof c = λ before h.
     let it = c.in-Oneof.oneof in
-    let P : List (List ℕ) → Type 0 = λ names. OnOk c.add_all_names.result (Holds c.add_all_names.new.scope names) in
+    let P : List (List ℕ) → Type 0 = λ names. OnOk c.add_with_parts.result (Holds c.add_with_parts.new.scope names) in
     subst P
     (parts_named member_names member_of before it.name.text.now c.as_slice.result.now it.members.items c.as_slice.ensures.value ∙ ap (all_names before) (sym (ap item_of c.in-Oneof.is ∙ oneof_body_item it)))
-    (c.add_all_names.ensures (before ++ it.name.text.now ∷ []) (c.in_ok-add-in-Oneof.ensures before h))
+    (c.add_with_parts.ensures before h)
 
-pub returns-in_ok-add-in-Enum : goal.returns-in_ok-add-in-Enum
-returns-in_ok-add-in-Enum c = λ before h.
+pub returns-in-Enum : goal.returns-in-Enum
+returns-in-Enum c = λ before h.
     let it = c.in-Enum.item in
-    let P : List (List ℕ) → Type 0 = λ names. OnOk c.add_all_names-in-Enum.result (Holds c.add_all_names-in-Enum.new.scope names) in
+    let P : List (List ℕ) → Type 0 = λ names. OnOk c.add_with_parts-in-Enum.result (Holds c.add_with_parts-in-Enum.new.scope names) in
     subst P
     (parts_named value_names enum_item_of before it.name.text.now c.as_slice-in-Enum.result.now it.items.items c.as_slice-in-Enum.ensures.value ∙ ap (all_names before) (sym (ap item_of c.in-Enum.is ∙ enum_body_item it)))
-    (c.add_all_names-in-Enum.ensures (before ++ it.name.text.now ∷ []) (c.in_ok-add-in-Enum.ensures before h))
+    (c.add_with_parts-in-Enum.ensures before h)
 
 pub returns-in-Extend : goal.returns-in-Extend
 returns-in-Extend c = λ before h.
     let it = c.in-Extend.extend in
-    let P : List (List ℕ) → Type 0 = λ names. OnOk c.add_all_names-in-Extend.result (Holds c.add_all_names-in-Extend.new.scope names) in
+    let P : List (List ℕ) → Type 0 = λ names. OnOk c.add_all_names.result (Holds c.add_all_names.new.scope names) in
     subst P
     (ap (λ xs. before ++ flat_map (λ x. extension_names (extension_of x)) xs) c.as_slice-in-Extend.ensures.value
     ∙ ap (λ names. before ++ names) (flat_seen extension_names extension_of it.extensions.items)
     ∙ ap (all_names before) (sym (ap item_of c.in-Extend.is ∙ extend_body_item it)))
-    (c.add_all_names-in-Extend.ensures before h)
+    (c.add_all_names.ensures before h)
