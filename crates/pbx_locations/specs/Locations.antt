@@ -1,5 +1,6 @@
 -- Where the parts of a file stand in its source: `SourceCodeInfo` of descriptor.proto, without comments. Option
--- statements, ranges, `extend` blocks, what they extend, and the entries of map fields have no location.
+-- statements, single options, ranges, reserved names, `extend` blocks, what they extend, the entries of map fields and
+-- synthetic oneofs have no location.
 use Rattle.std.specs.Prelude.{◌≡◌, ℕ, ◌+◌, ℤ, pos, List, [], ◌∷◌, ◌++◌, length, map, true, false, Option, Some, None, option_map, unwrap_or, ◌==◌, if◌then◌else◌}
 use Rattle.std.specs.List.{flat_map}
 use Rattle.pbx_desc.specs.declared.source.Location.{Location}
@@ -105,7 +106,8 @@ label_part path (Some s) = part path 4 s s ∷ []
 -- a field, its name, number, label, type and options
 abbrev pub field_locations : List ℤ → Parts → List Location
 field_locations path p =
-    place path (unwrap_or p.label p.typed.first) p.tail.end ∷ part path 1 p.tail.name.span p.tail.name.span ∷ part path 3 p.tail.number.span p.tail.number.span ∷ []
+    place path (unwrap_or p.label p.typed.first) p.tail.end ∷ part path 1 p.tail.name.span p.tail.name.span
+    ∷ part path 3 p.tail.number.span p.tail.number.span ∷ []
     ++ label_part path p.label
     ++ part path (type_field p.typed) p.typed.first p.typed.last ∷ []
     ++ settings_part path 8 p.tail.settings

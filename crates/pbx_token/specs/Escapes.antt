@@ -1,5 +1,5 @@
 -- The escapes of strings, and the bytes that strings stand for: "String literals" of the language specification,
--- without `\u` and `\U`, with a small `x` only, and with at most two hexadecimal digits.
+-- without `\u` and `\U`, with a small `x` only, and with octal digits of a value that fits a byte only.
 use Rattle.std.specs.Prelude.{◌≡◌, ℕ, zero, suc, ◌+◌, List, [], ◌∷◌, ◌++◌, length, take, false, ◌==◌, ◌&&◌, ◌||◌, nat_le, nat_lt, Option, Some, None, option_map, unwrap_or, if◌then◌else◌}
 use Rattle.std.specs.List.{prefix_len}
 use Rattle.std.specs.Str.{IsUtf8}

@@ -242,7 +242,7 @@ fn quoted(bytes: &[u8]) -> Result<(Option<Word<'_>>, &[u8]), LexError>
     Ok((Some(Word::Str(text_of(&text[..n]))), &text[n + 1..]))
 }
 
-/// What follows the comment over lines that begins at the front.
+/// What follows the `/*` comment that begins at the front.
 fn block(bytes: &[u8]) -> Result<(Option<Word<'_>>, &[u8]), LexError>
     requires { IsUtf8 bytes.now }
     ensures read { Gives (λ x. (option_map word_of x.0, x.1.now)) (kept (piece_by Class.Block bytes.now)) result }

@@ -21,7 +21,8 @@ abbrev mode_records : ℕ → Option ℕ → List Rec
 mode_records n None = []
 mode_records n (Some mode) = rec.Varint n mode ∷ []
 
--- the record that gives this value to the option of a number: a truth value and a value of `FileOptions.OptimizeMode` by their numbers, a string by the bytes that it stands for
+-- the record that gives this value to the option of a number: a truth value and a value of `FileOptions.OptimizeMode` by
+-- their numbers, a string by the bytes that it stands for
 abbrev pub constant_records : OptionKind → ℕ → Constant → List Rec
 constant_records kinds.Bool n (constant_identifier word) = rec.Varint n (truth word.text) ∷ []
 constant_records kinds.OptimizeMode n (constant_identifier word) = mode_records n (optimize_mode word.text)

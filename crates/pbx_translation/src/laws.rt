@@ -19,7 +19,8 @@ pub fn synthetic_names_are_free()
     ensures fewest { (taken : ListOf (ListOf ℕ)) (field : ListOf ℕ) (k : ℕ) → k < fewest_x taken field → Contains taken (name_with k field) }
 {}
 
-/// The index of each field of a message names its own oneof, and a field without one has no index.
+/// The index of each field of a message names its own oneof, and a field without one has no index. Written oneofs of one
+/// name are not told apart here; linking refuses them.
 pub fn indexes_name_own_oneofs()
     ensures { (version : Version) (name : ListOf ℕ) (body : Body) (types : ListOf DescriptorProto) → indexed_oneofs (message_with version name body types) ≡ map (option_map Some) (own_oneofs version (body_items body)) }
 {}
