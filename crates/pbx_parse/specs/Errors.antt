@@ -21,9 +21,9 @@ error_column NoMemory = None
 abbrev pub IsOneLine : List ℕ → Type 0
 IsOneLine text = NoCharPasses is_control text
 
--- A `Syntax` error is of this file, its place counts from 1, what was found is told in one line, and this holds.
+-- A `Syntax` error is of this file, its place counts from 1, its words are in one line, and this holds.
 abbrev pub Refuses : List ℕ → Type 0 → ParseError → Type 0
-Refuses name P (Syntax file line column expected found) = P × (file ≡ name) × (1 ≤ line) × (1 ≤ column) × IsOneLine found
+Refuses name P (Syntax file line column expected found) = P × (file ≡ name) × (1 ≤ line) × (1 ≤ column) × IsOneLine expected × IsOneLine found
 Refuses name P NoMemory = Unit {0}
 
 -- this was given, unless memory ran out

@@ -129,6 +129,15 @@ fn add_quoted(text: &mut String, found: Found<'_>) -> Result<(), NoMemory>
     add_char(text, '\'')
 }
 
+/// A text in one line: control characters stand as escapes.
+pub fn one_line(alloc: Global, words: &str) -> Result<Text, NoMemory>
+    ensures { IfOk result (λ t. IsOneLine t) }
+{
+    let mut text = String::new(alloc);
+    add_all_shown(&mut text, words)?;
+    Text::from_str(alloc, text.as_str())
+}
+
 /// What an error says of what was found, in one line: control characters stand as escapes.
 pub fn found_text(alloc: Global, found: Found<'_>) -> Result<Text, NoMemory>
     ensures { IfOk result (λ t. IsOneLine t) }

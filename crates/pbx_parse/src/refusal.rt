@@ -3,10 +3,10 @@
 ghost use Rattle.std.specs.Prelude.{◌≡◌, ◌≤◌, ℕ, List, length, IfOk, IfSome};
 ghost use Rattle.pbx_token.specs.View.{IsCut, BeginsIn, BeginIn, Within, IsWithin, FailsNot as lexed};
 ghost use Rattle.pbx_reader.specs.View.{FailsNot as spelled};
-ghost use Rattle.pbx_parse.specs.Errors.{Refuses};
+ghost use Rattle.pbx_parse.specs.Errors.{IsOneLine, Refuses};
 
 use crate::error::ParseError;
-use crate::found::{Found, found_text};
+use crate::found::{Found, found_text, one_line};
 use pbx_reader::{ReadError, read_file};
 use pbx_token::{Fault, LexError, Place, Span, Token, Word, after, lex};
 use pbx_tree::Expected;
@@ -61,6 +61,7 @@ fn refused(
     expected: Text,
     found: Found<'_>,
 ) -> Result<ParseError, NoMemory>
+    requires { IsOneLine expected }
     ensures { IfOk result (λ e. Refuses name.now (Unit {0}) e) }
 {
     Ok(ParseError::Syntax {
@@ -87,7 +88,7 @@ fn at_token(
         line: token.span.line,
         column: token.span.from,
     };
-    let expected = Text::from_str(alloc, expected.words())?;
+    let expected = one_line(alloc, expected.words())?;
     refused(alloc, name, place, expected, token_found(source, token))
 }
 
@@ -101,7 +102,7 @@ fn at_end(
     requires { length source.now ≤ 2147483647 }
     ensures { IfOk result (λ e. Refuses name.now (Unit {0}) e) }
 {
-    let expected = Text::from_str(alloc, expected.words())?;
+    let expected = one_line(alloc, expected.words())?;
     refused(alloc, name, place_behind(source), expected, Found::End)
 }
 
@@ -163,12 +164,14 @@ fn stop<'a>(alloc: Global, front: &'a str) -> Result<(Option<Token<'a>>, Expecte
 }
 
 /// What could stand at a fault, where the grammar expects this.
-fn fault_text(alloc: Global, fault: Fault, expected: Expected) -> Result<Text, NoMemory> {
+fn fault_text(alloc: Global, fault: Fault, expected: Expected) -> Result<Text, NoMemory>
+    ensures { IfOk result (λ t. IsOneLine t) }
+{
     match fault {
-        Fault::Token | Fault::Integer => Text::from_str(alloc, expected.words()),
-        Fault::CommentEnd => Text::from_str(alloc, "'*/'"),
-        Fault::Quote(_) => Text::from_str(alloc, "a closing quote"),
-        Fault::Escape => Text::from_str(alloc, "a valid escape"),
+        Fault::Token | Fault::Integer => one_line(alloc, expected.words()),
+        Fault::CommentEnd => one_line(alloc, "'*/'"),
+        Fault::Quote(_) => one_line(alloc, "a closing quote"),
+        Fault::Escape => one_line(alloc, "a valid escape"),
     }
 }
 
