@@ -68,15 +68,19 @@ fn follows(
     value_fits(wanted, &setting.value)
 }
 
+/// Whether each may stand behind those before it.
+fn each_follows(row: &Row, kind: &Kind<'static>, settings: &[Setting<'_>]) -> Result<(), Unfit> {
+    for at in 0..settings.len() {
+        follows(allowed(row, kind), &settings[..at], &settings[at])?;
+    }
+    Ok(())
+}
+
 /// Whether the settings behind the first two fields, three at most, may stand there, one behind the other.
 fn fits(row: &Row, kind: &Kind<'static>) -> Result<(), Unfit> {
     let settings = [setting(row, 2), setting(row, 6), setting(row, 10)];
     let count = row.len().saturating_sub(2) / 4;
-    let given = settings.get(..count).unwrap_or(&settings);
-    for (at, setting) in given.iter().enumerate() {
-        follows(allowed(row, kind), given.get(..at).unwrap_or(&[]), setting)?;
-    }
-    Ok(())
+    each_follows(row, kind, settings.get(..count).unwrap_or(&settings))
 }
 
 pub fn fit(alloc: Global, row: &Row) -> Result<String, AllocError> {
