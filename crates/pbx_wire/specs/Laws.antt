@@ -1,0 +1,23 @@
+-- Laws of the definitions, each proved as the contract of a public function.
+use Rattle.std.specs.Prelude.{◌≡◌, ◌⊎◌, ◌↔◌, ℕ, List, Some}
+use Rattle.pbx_wire.specs.declared.error.DecodeError.{DecodeError}
+use Rattle.pbx_wire.specs.declared.rec.Rec.{Rec}
+use Rattle.pbx_wire.specs.Spelling.{Spells}
+use Rattle.pbx_wire.specs.Reading.{records_in}
+use Rattle.pbx_wire.specs.Faults.{IsFault}
+
+-- The records that reading finds are those that the bytes spell.
+abbrev pub RecordsAreSpelled : Type 0
+RecordsAreSpelled = (levels : ℕ) (bytes : List ℕ) (rs : List Rec) → (records_in levels bytes ≡ Some rs) ↔ Spells levels bytes rs
+
+-- Bytes spell records, or break a rule.
+abbrev pub SpelledOrFaulty : Type 0
+SpelledOrFaulty = (levels : ℕ) (bytes : List ℕ) → ((rs : List Rec) × Spells levels bytes rs) ⊎ ((e : DecodeError) × IsFault levels bytes e)
+
+-- Bytes that spell records break no rule.
+abbrev pub SpelledIsFaultless : Type 0
+SpelledIsFaultless = (levels : ℕ) (bytes : List ℕ) (rs : List Rec) (e : DecodeError) → Spells levels bytes rs → IsFault levels bytes e → ⊥
+
+-- Bytes break one rule, in one record.
+abbrev pub FaultIsOne : Type 0
+FaultIsOne = (levels : ℕ) (bytes : List ℕ) (e f : DecodeError) → IsFault levels bytes e → IsFault levels bytes f → e ≡ f
