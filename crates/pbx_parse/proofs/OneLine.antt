@@ -1,7 +1,7 @@
 -- Texts of one line.
 use Rattle.std.proofs.Common.{◌≡◌, ◌∙◌, ℕ, List, [], ◌∷◌, ◌++◌, Bool, false, ap, refl, append-nil}
 use Rattle.std.specs.Char.{is_control}
-use Rattle.std.specs.Str.{NoCharPasses, NonePass}
+use Rattle.std.specs.Str.{NonePass}
 use Rattle.std.proofs.lemmas.Str.{encodes-append}
 use lib.Utf8.{encode, encodes}
 use Rattle.pbx_parse.specs.Errors.{IsOneLine}

@@ -1,14 +1,14 @@
 //! What is said of a source that has no record.
 
-ghost use Rattle.std.specs.Prelude.{◌≡◌, ◌≤◌, ℕ, List, length, IfOk, IfSome};
-ghost use Rattle.pbx_token.specs.View.{IsCut, BeginsIn, BeginIn, Within, IsWithin, FailsNot as lexed};
-ghost use Rattle.pbx_reader.specs.View.{FailsNot as spelled};
+ghost use Rattle.std.specs.Prelude.{◌≡◌, ◌≤◌, ℕ, List, length, IfOk, IfSome, IfNone};
+ghost use Rattle.pbx_token.specs.View.{IsCut, BeginsIn, BeginIn, IsWithin, FailsNot as lexed};
+ghost use Rattle.pbx_reader.specs.View.{left_at, FailsNot as spelled};
 ghost use Rattle.pbx_parse.specs.Errors.{IsOneLine, Refuses};
 
 use crate::error::ParseError;
 use crate::found::{Found, found_text, one_line};
 use pbx_reader::{ReadError, read_file};
-use pbx_token::{Fault, LexError, Place, Span, Token, Word, after, lex};
+use pbx_token::{Fault, LexError, Place, Token, Word, after, tokens_before_fault};
 use pbx_tree::Expected;
 use pbx_wire::{NoMemory, Text};
 use std::alloc::Global;
@@ -106,53 +106,37 @@ fn at_end(
     refused(alloc, name, place_behind(source), expected, Found::End)
 }
 
-/// The token of this index.
-fn token_at<'a>(tokens: &[Token<'a>], at: usize) -> Option<Token<'a>>
-    ensures { (source : List ℕ) → BeginIn source tokens.now → IfSome result (λ t. BeginsIn source t) }
+/// The first of the tokens of which so many are left, and none at the end.
+fn token_left<'a>(tokens: &[Token<'a>], left: usize) -> Option<Token<'a>>
+    requires { left ≤ length tokens.now }
+    ensures starts { (source : List ℕ) → BeginIn source tokens.now → IfSome result (λ t. BeginsIn source t) }
+    ensures end { IfNone result (left ≡ 0) }
 {
-    if at < tokens.len() {
-        Some(tokens[at])
-    } else {
-        None
+    if left == 0 {
+        return None;
     }
-}
-
-/// The token of this span.
-fn token_of<'a>(tokens: &[Token<'a>], span: Span) -> Option<Token<'a>>
-    ensures { (source : List ℕ) → BeginIn source tokens.now → IfSome result (λ t. BeginsIn source t) }
-{
-    'each: for token in tokens {
-        if token.span == span {
-            return Some(*token);
-        }
-    }
-    None
+    Some(tokens[tokens.len() - left])
 }
 
 /// The token at which reading stopped, none at the end, and what could stand there; nothing where memory ran out.
 fn stop_of<'a>(tokens: &[Token<'a>], error: ReadError) -> Option<(Option<Token<'a>>, Expected)>
+    requires { left_at error ≤ length tokens.now }
     ensures starts { (source : List ℕ) → BeginIn source tokens.now → IfSome result (λ x. IfSome x.0 (λ t. BeginsIn source t)) }
     ensures fails { IfSome result (λ _. ¬ (spelled error)) }
 {
     match error {
         ReadError::NoMemory => None,
-        ReadError::Unexpected { at, expected } => Some((token_at(tokens, at), expected)),
-        ReadError::Unfit(unfit) => Some((token_of(tokens, unfit.place), unfit.expected)),
+        ReadError::Unexpected { left, expected } => Some((token_left(tokens, left), expected)),
     }
 }
 
-/// The first token of a source's front that cannot stand where it does, if there is one, and what could stand
-/// there or at the end of the front.
-fn stop<'a>(alloc: Global, front: &'a str) -> Result<(Option<Token<'a>>, Expected), NoMemory>
-    requires { length front.now ≤ 2147483647 }
-    ensures { IfOk result (λ x. IfSome x.0 (λ t. BeginsIn front.now t)) }
+/// The first token of a source with a fault that cannot stand where it does, if one stands before the fault, and
+/// what could stand there or at the fault.
+fn stop<'a>(alloc: Global, source: &'a str) -> Result<(Option<Token<'a>>, Expected), NoMemory>
+    requires { length source.now ≤ 2147483647 }
+    ensures { IfOk result (λ x. IfSome x.0 (λ t. BeginsIn source.now t)) }
 {
-    let tokens = match lex(alloc, front) {
-        Ok(tokens) => tokens,
-        Err(LexError::NoMemory) => return Err(NoMemory),
-        // It does not come, since the fault that was met first begins where the front ends.
-        Err(LexError::Fault { .. }) => return Ok((None, Expected::Top)),
-    };
+    let tokens = tokens_before_fault(alloc, source)?;
     match read_file(alloc, tokens.as_slice()) {
         // A statement could follow a whole file.
         Ok(_) => Ok((None, Expected::Top)),
@@ -181,17 +165,16 @@ fn at_fault(
     name: &str,
     source: &str,
     left: usize,
-    begun: usize,
     fault: Fault,
 ) -> Result<ParseError, NoMemory>
     requires few { length source.now ≤ 2147483647 }
-    requires within { Within source.now left begun }
+    requires within { left ≤ length source.now }
+    requires cut { IsCut source.now left }
     ensures { IfOk result (λ e. Refuses name.now (Unit {0}) e) }
 {
-    let (front, _) = cut(source, begun);
-    let (earlier, expected) = stop(alloc, front)?;
+    let (earlier, expected) = stop(alloc, source)?;
     if let Some(token) = earlier {
-        return at_token(alloc, name, front, token, expected);
+        return at_token(alloc, name, source, token, expected);
     }
     let (before, rest) = cut(source, left);
     let expected = fault_text(alloc, fault, expected)?;
@@ -212,12 +195,10 @@ pub fn of_lexing(alloc: Global, name: &str, source: &str, error: LexError) -> Pa
 {
     match error {
         LexError::NoMemory => ParseError::NoMemory,
-        LexError::Fault { left, begun, fault } => {
-            match at_fault(alloc, name, source, left, begun, fault) {
-                Ok(refused) => refused,
-                Err(_) => ParseError::NoMemory,
-            }
-        }
+        LexError::Fault { left, fault, .. } => match at_fault(alloc, name, source, left, fault) {
+            Ok(refused) => refused,
+            Err(_) => ParseError::NoMemory,
+        },
     }
 }
 
@@ -249,6 +230,7 @@ pub fn of_reading(
 ) -> ParseError
     requires few { length source.now ≤ 2147483647 }
     requires starts { BeginIn source.now tokens.now }
+    requires told { left_at error ≤ length tokens.now }
     ensures { Refuses name.now (¬ (spelled error)) result }
 {
     let Some((token, expected)) = stop_of(tokens, error) else {

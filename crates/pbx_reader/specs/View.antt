@@ -1,5 +1,5 @@
 -- The tokens that are left, and what is read from them.
-use Rattle.std.specs.Prelude.{◌≡◌, ℕ, List, [], ◌∷◌, map, drop, Bool, true, false, not, ◌==◌, ◌&&◌, Option, Some, None, Result, Ok, Err}
+use Rattle.std.specs.Prelude.{◌≡◌, ◌<◌, ◌≤◌, ℕ, List, [], ◌∷◌, length, map, drop, Bool, true, false, not, ◌==◌, ◌&&◌, Option, Some, None, Result, Ok, Err}
 use Rattle.std.specs.Str.{bytes_eq}
 use Rattle.pbx_token.specs.Tokens.{Word, ident, int, str, mark, Token}
 use Rattle.pbx_token.specs.View.{token_of}
@@ -119,8 +119,22 @@ next_fits fits version x = fits version x.1
 
 abbrev pub FailsNot : ReadError → Type 0
 FailsNot errors.NoMemory = Unit {0}
-FailsNot (errors.Unexpected at expected) = ⊥
-FailsNot (errors.Unfit unfit) = ⊥
+FailsNot (errors.Unexpected left expected) = ⊥
+
+-- how many tokens are left from the one that cannot stand there on; none are at the end
+abbrev pub left_at : ReadError → ℕ
+left_at errors.NoMemory = 0
+left_at (errors.Unexpected left expected) = left
+
+-- fewer tokens are left than before, or the error is told at one of those, or at their end
+abbrev pub TakesSome : {X : Type 0} → Result X ReadError → List Token → List Token → Type 0
+TakesSome (Ok x) before after = length after < length before
+TakesSome (Err e) before after = left_at e ≤ length before
+
+-- the same where none may have been read
+abbrev pub TakesAny : {X : Type 0} → Result X ReadError → List Token → List Token → Type 0
+TakesAny (Ok x) before after = length after ≤ length before
+TakesAny (Err e) before after = left_at e ≤ length before
 
 -- this was read, and these tokens are left, unless memory ran out
 abbrev pub Reaches : {X Y : Type 0} → (X → Y) → Y → List Token → Result X ReadError → List Token → Type 0

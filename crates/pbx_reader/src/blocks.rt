@@ -5,7 +5,7 @@ ghost use Rattle.pbx_token.specs.Tokens as tokens;
 ghost use Rattle.pbx_tree.specs.declared.tree.Version.{Version};
 ghost use Rattle.pbx_tree.specs.Grammar.{list_then};
 ghost use Rattle.pbx_reader.specs.Blocks.{Before, nothing, before_of, all_behind};
-ghost use Rattle.pbx_reader.specs.View.{left, FailsNot, Reaches};
+ghost use Rattle.pbx_reader.specs.View.{left, FailsNot, Reaches, TakesSome, TakesAny};
 
 use crate::cursor::Cursor;
 use crate::error::ReadError;
@@ -63,7 +63,7 @@ pub trait BlockItem<'a>: Drop + Sized {
         ensures found { IfOk result (λ x. left cursor.old ≡ spelled (view x) (left cursor.new)) }
         ensures fit { IfOk result (λ x. behind version (before_of seen.now) (view x) ≡ true) }
         ensures only { (t : Tree) (rest : List tokens.Token) → behind version (before_of seen.now) t ≡ true → left cursor.old ≡ spelled t rest → Reaches view t rest result (left cursor.new) }
-        ensures shorter { OnOk result (length (left cursor.new) < length (left cursor.old)) };
+        ensures shorter { TakesSome result (left cursor.old) (left cursor.new) };
 
     /// Adds what it sets.
     fn note(&self, seen: &mut Seen<'a>) -> Result<(), ReadError>
@@ -81,7 +81,7 @@ pub fn block<'a, P: BlockItem<'a>>(
     ensures ends { OnOk result (P.stop (left cursor.new) ≡ true) }
     ensures fit { IfOk result (λ x. all_behind (P.behind version) P.after nothing (map P.view x.items) ≡ true) }
     ensures only { (ts : List P.Tree) (rest : List tokens.Token) → all_behind (P.behind version) P.after nothing ts ≡ true → P.stop rest ≡ true → left cursor.old ≡ list_then P.spelled ts rest → Reaches (λ x. map P.view x.items) ts rest result (left cursor.new) }
-    ensures shorter { OnOk result (length (left cursor.new) ≤ length (left cursor.old)) }
+    ensures shorter { TakesAny result (left cursor.old) (left cursor.new) }
 {
     let mut items = Vec::new(alloc);
     let mut seen = Seen {

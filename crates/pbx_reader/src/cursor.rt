@@ -10,7 +10,7 @@ ghost use Rattle.pbx_tree.specs.Tree as tree;
 ghost use Rattle.pbx_tree.specs.Grammar.{marked, worded, named, quoted, counted, mark_then, word_then, number_then};
 ghost use Rattle.pbx_tree.specs.Conditions.{is_text as text_fits_of, is_field_number, is_range_number, is_enum_number};
 ghost use Rattle.pbx_tree.specs.View.{name_of, literal_of, field_number_of, range_number_of, enum_number_of, number_of};
-ghost use Rattle.pbx_reader.specs.View.{left, sees_mark, sees_word, sees_both, sees_without, word_follows, tail, ends_block, sees_string, sees_number, sees_type, number, Reaches};
+ghost use Rattle.pbx_reader.specs.View.{left, sees_mark, sees_word, sees_both, sees_without, word_follows, tail, ends_block, sees_string, sees_number, sees_type, number, Reaches, TakesSome};
 
 use crate::error::ReadError;
 use pbx_token::{Span, Token, Word};
@@ -44,11 +44,21 @@ impl<'s, 'a> Cursor<'s, 'a> {
         }
     }
 
+    /// How many tokens are left.
+    pub fn tokens_left(&self) -> usize
+        ensures { result ≡ length (left self.now) }
+    {
+        match self.tokens.get(self.at..) {
+            Some(left) => left.len(),
+            None => 0,
+        }
+    }
+
     pub fn unexpected(&self, expected: Expected) -> ReadError
-        ensures { result ≡ ReadError.Unexpected self.now.at expected }
+        ensures { result ≡ ReadError.Unexpected (length (left self.now)) expected }
     {
         ReadError::Unexpected {
-            at: self.at,
+            left: self.tokens_left(),
             expected,
         }
     }
@@ -161,7 +171,7 @@ impl<'s, 'a> Cursor<'s, 'a> {
     pub fn mark_or(&mut self, wanted: u8, expected: Expected) -> Result<Span, ReadError>
         ensures found { IfOk result (λ s. left self.old ≡ marked wanted s ∷ left self.new) }
         ensures only { (s : Span) (rest : List tokens.Token) → left self.old ≡ marked wanted s ∷ rest → Reaches (λ x. x) s rest result (left self.new) }
-        ensures shorter { OnOk result (length (left self.new) < length (left self.old)) }
+        ensures shorter { TakesSome result (left self.old) (left self.new) }
     {
         if let Some(token) = self.peek() {
             if let Word::Mark(b) = token.word {
@@ -177,7 +187,7 @@ impl<'s, 'a> Cursor<'s, 'a> {
     pub fn mark(&mut self, wanted: u8) -> Result<Span, ReadError>
         ensures found { IfOk result (λ s. left self.old ≡ marked wanted s ∷ left self.new) }
         ensures only { (s : Span) (rest : List tokens.Token) → left self.old ≡ marked wanted s ∷ rest → Reaches (λ x. x) s rest result (left self.new) }
-        ensures shorter { OnOk result (length (left self.new) < length (left self.old)) }
+        ensures shorter { TakesSome result (left self.old) (left self.new) }
     {
         self.mark_or(wanted, Expected::Mark(wanted))
     }
@@ -186,7 +196,7 @@ impl<'s, 'a> Cursor<'s, 'a> {
     pub fn mark_unless(&mut self, wanted: u8, other: u8, told: Expected) -> Result<Span, ReadError>
         ensures found { IfOk result (λ s. left self.old ≡ marked wanted s ∷ left self.new) }
         ensures only { (s : Span) (rest : List tokens.Token) → left self.old ≡ marked wanted s ∷ rest → Reaches (λ x. x) s rest result (left self.new) }
-        ensures shorter { OnOk result (length (left self.new) < length (left self.old)) }
+        ensures shorter { TakesSome result (left self.old) (left self.new) }
     {
         let expected = if self.sees(other) {
             told
@@ -217,7 +227,7 @@ impl<'s, 'a> Cursor<'s, 'a> {
     pub fn keyword(&mut self, wanted: &str, expected: Expected) -> Result<Span, ReadError>
         ensures found { IfOk result (λ s. left self.old ≡ worded wanted.now s ∷ left self.new) }
         ensures only { (s : Span) (rest : List tokens.Token) → left self.old ≡ worded wanted.now s ∷ rest → Reaches (λ x. x) s rest result (left self.new) }
-        ensures shorter { OnOk result (length (left self.new) < length (left self.old)) }
+        ensures shorter { TakesSome result (left self.old) (left self.new) }
     {
         if let Some(token) = self.peek() {
             if let Word::Ident(text) = token.word {
@@ -252,7 +262,7 @@ impl<'s, 'a> Cursor<'s, 'a> {
     pub fn name_or(&mut self, expected: Expected) -> Result<Name<'a>, ReadError>
         ensures found { IfOk result (λ n. left self.old ≡ named (name_of n) ∷ left self.new) }
         ensures only { (n : tree.Name) (rest : List tokens.Token) → left self.old ≡ named n ∷ rest → Reaches name_of n rest result (left self.new) }
-        ensures shorter { OnOk result (length (left self.new) < length (left self.old)) }
+        ensures shorter { TakesSome result (left self.old) (left self.new) }
     {
         if let Some(token) = self.peek() {
             if let Word::Ident(text) = token.word {
@@ -269,7 +279,7 @@ impl<'s, 'a> Cursor<'s, 'a> {
     pub fn name(&mut self) -> Result<Name<'a>, ReadError>
         ensures found { IfOk result (λ n. left self.old ≡ named (name_of n) ∷ left self.new) }
         ensures only { (n : tree.Name) (rest : List tokens.Token) → left self.old ≡ named n ∷ rest → Reaches name_of n rest result (left self.new) }
-        ensures shorter { OnOk result (length (left self.new) < length (left self.old)) }
+        ensures shorter { TakesSome result (left self.old) (left self.new) }
     {
         self.name_or(Expected::Identifier)
     }
@@ -278,7 +288,7 @@ impl<'s, 'a> Cursor<'s, 'a> {
     pub fn literal(&mut self, expected: Expected) -> Result<Literal<'a>, ReadError>
         ensures found { IfOk result (λ l. left self.old ≡ quoted (literal_of l) ∷ left self.new) }
         ensures only { (l : tree.Literal) (rest : List tokens.Token) → left self.old ≡ quoted l ∷ rest → Reaches literal_of l rest result (left self.new) }
-        ensures shorter { OnOk result (length (left self.new) < length (left self.old)) }
+        ensures shorter { TakesSome result (left self.old) (left self.new) }
     {
         if let Some(token) = self.peek() {
             if let Word::Str(text) = token.word {
@@ -294,18 +304,21 @@ impl<'s, 'a> Cursor<'s, 'a> {
         ensures found { IfOk result (λ l. left self.old ≡ quoted (literal_of l) ∷ left self.new) }
         ensures fits { IfOk result (λ l. text_fits_of (literal_of l) ≡ true) }
         ensures only { (l : tree.Literal) (rest : List tokens.Token) → text_fits_of l ≡ true → left self.old ≡ quoted l ∷ rest → Reaches literal_of l rest result (left self.new) }
-        ensures shorter { OnOk result (length (left self.new) < length (left self.old)) }
+        ensures shorter { TakesSome result (left self.old) (left self.new) }
     {
+        let left = self.tokens_left();
         let literal = self.literal(expected)?;
-        text_fits(&literal)?;
-        Ok(literal)
+        match text_fits(&literal) {
+            Ok(()) => Ok(literal),
+            Err(expected) => Err(ReadError::Unexpected { left, expected }),
+        }
     }
 
     /// An integer with its span, or else what could stand there.
     fn int(&mut self, expected: Expected) -> Result<(u64, Span), ReadError>
         ensures found { IfOk result (λ n. left self.old ≡ number n.0 n.1 ∷ left self.new) }
         ensures only { (n : ℕ) (s : Span) (rest : List tokens.Token) → left self.old ≡ number n s ∷ rest → Reaches {Y = ℕ × Span} (λ x. (x.0, x.1)) (n, s) rest result (left self.new) }
-        ensures shorter { OnOk result (length (left self.new) < length (left self.old)) }
+        ensures shorter { TakesSome result (left self.old) (left self.new) }
     {
         if let Some(token) = self.peek() {
             if let Word::Int(n) = token.word {
@@ -321,15 +334,12 @@ impl<'s, 'a> Cursor<'s, 'a> {
         ensures found { IfOk result (λ n. left self.old ≡ number n.0 n.1 ∷ left self.new) }
         ensures fits { IfOk result (λ n. nat_le n.0 most ≡ true) }
         ensures only { (n : ℕ) (s : Span) (rest : List tokens.Token) → nat_le n most ≡ true → left self.old ≡ number n s ∷ rest → Reaches {Y = ℕ × Span} (λ x. (x.0, x.1)) (n, s) rest result (left self.new) }
-        ensures shorter { OnOk result (length (left self.new) < length (left self.old)) }
+        ensures shorter { TakesSome result (left self.old) (left self.new) }
     {
-        let before = self.at;
+        let left = self.tokens_left();
         let (value, span) = self.int(expected)?;
         if value > most {
-            return Err(ReadError::Unexpected {
-                at: before,
-                expected,
-            });
+            return Err(ReadError::Unexpected { left, expected });
         }
         Ok((value, span))
     }
@@ -338,7 +348,7 @@ impl<'s, 'a> Cursor<'s, 'a> {
         ensures found { IfOk result (λ n. left self.old ≡ counted (field_number_of n) ∷ left self.new) }
         ensures fits { IfOk result (λ n. is_field_number (field_number_of n) ≡ true) }
         ensures only { (n : tree.Count) (rest : List tokens.Token) → is_field_number n ≡ true → left self.old ≡ counted n ∷ rest → Reaches field_number_of n rest result (left self.new) }
-        ensures shorter { OnOk result (length (left self.new) < length (left self.old)) }
+        ensures shorter { TakesSome result (left self.old) (left self.new) }
     {
         let (value, span) = self.int_up_to(2_147_483_647, Expected::FieldNumber)?;
         Ok(FieldNumber { value, span })
@@ -348,7 +358,7 @@ impl<'s, 'a> Cursor<'s, 'a> {
         ensures found { IfOk result (λ n. left self.old ≡ counted (range_number_of n) ∷ left self.new) }
         ensures fits { IfOk result (λ n. is_range_number (range_number_of n) ≡ true) }
         ensures only { (n : tree.Count) (rest : List tokens.Token) → is_range_number n ≡ true → left self.old ≡ counted n ∷ rest → Reaches range_number_of n rest result (left self.new) }
-        ensures shorter { OnOk result (length (left self.new) < length (left self.old)) }
+        ensures shorter { TakesSome result (left self.old) (left self.new) }
     {
         let (value, span) = self.int_up_to(536_870_911, Expected::RangeNumber)?;
         Ok(RangeNumber { value, span })
@@ -359,7 +369,7 @@ impl<'s, 'a> Cursor<'s, 'a> {
         ensures found { IfOk result (λ n. left self.old ≡ number_then (enum_number_of n) (left self.new)) }
         ensures fits { IfOk result (λ n. is_enum_number (enum_number_of n) ≡ true) }
         ensures only { (n : tree.Number) (rest : List tokens.Token) → is_enum_number n ≡ true → left self.old ≡ number_then n rest → Reaches enum_number_of n rest result (left self.new) }
-        ensures shorter { OnOk result (length (left self.new) < length (left self.old)) }
+        ensures shorter { TakesSome result (left self.old) (left self.new) }
     {
         let minus = self.eat(b'-');
         let (value, span) = self.int_up_to(most_with(minus), Expected::EnumNumber)?;
@@ -370,7 +380,7 @@ impl<'s, 'a> Cursor<'s, 'a> {
     pub fn number(&mut self, expected: Expected) -> Result<Number, ReadError>
         ensures found { IfOk result (λ n. left self.old ≡ number_then (number_of n) (left self.new)) }
         ensures only { (n : tree.Number) (rest : List tokens.Token) → left self.old ≡ number_then n rest → Reaches number_of n rest result (left self.new) }
-        ensures shorter { OnOk result (length (left self.new) < length (left self.old)) }
+        ensures shorter { TakesSome result (left self.old) (left self.new) }
     {
         let minus = self.eat(b'-');
         let (value, span) = self.int(expected)?;

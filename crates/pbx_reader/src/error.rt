@@ -1,7 +1,7 @@
 //! Why tokens are no file.
 
 ghost use Rattle.std.specs.Prelude.{◌≡◌};
-ghost use Rattle.pbx_reader.specs.declared.error.ReadError.TheVariants.{NoMemory, Unfit};
+ghost use Rattle.pbx_reader.specs.declared.error.ReadError.TheVariants.{NoMemory};
 
 use pbx_tree::Expected;
 use std::alloc::{AllocError, AllocFailed};
@@ -10,18 +10,8 @@ use std::alloc::{AllocError, AllocFailed};
 #[derive(Clone, Copy, Debug, PartialEq, Eq)]
 pub enum ReadError {
     NoMemory,
-    /// The token of this index, or the end where there is none, cannot stand there.
-    Unexpected { at: usize, expected: Expected },
-    /// What was read does not fit there.
-    Unfit(pbx_tree::Unfit),
-}
-
-impl From<pbx_tree::Unfit> for ReadError {
-    ghost from_gives = { λ unfit e. e ≡ Unfit unfit };
-
-    fn from(unfit: pbx_tree::Unfit) -> ReadError {
-        ReadError::Unfit(unfit)
-    }
+    /// The first of the tokens of which so many are left cannot stand there, or the end where none is left.
+    Unexpected { left: usize, expected: Expected },
 }
 
 impl From<AllocError> for ReadError {

@@ -9,7 +9,7 @@ ghost use Rattle.pbx_tree.specs.Tree as tree;
 ghost use Rattle.pbx_tree.specs.Tree.{all_of};
 ghost use Rattle.pbx_tree.specs.Grammar.{marked, list_then, next_then, separated_then};
 ghost use Rattle.pbx_tree.specs.View.{next_of, separated_of};
-ghost use Rattle.pbx_reader.specs.View.{left, sees_mark, next_fits, Reaches};
+ghost use Rattle.pbx_reader.specs.View.{left, sees_mark, next_fits, Reaches, TakesSome, TakesAny};
 
 use crate::cursor::Cursor;
 use crate::error::ReadError;
@@ -35,7 +35,7 @@ pub trait Production<'a>: Drop + Sized {
         ensures found { IfOk result (λ x. left cursor.old ≡ spelled (view x) (left cursor.new)) }
         ensures fit { IfOk result (λ x. fits version (view x) ≡ true) }
         ensures only { (t : Tree) (rest : List tokens.Token) → fits version t ≡ true → follows rest ≡ true → left cursor.old ≡ spelled t rest → Reaches view t rest result (left cursor.new) }
-        ensures shorter { OnOk result (length (left cursor.new) < length (left cursor.old)) };
+        ensures shorter { TakesSome result (left cursor.old) (left cursor.new) };
 }
 
 /// What stands in a list without marks between its items.
@@ -59,7 +59,7 @@ pub fn all<'a, P: ListItem<'a>>(
     ensures ends { OnOk result (P.stop (left cursor.new) ≡ true) }
     ensures fit { IfOk result (λ x. list_all (P.fits version) (map P.view x.items) ≡ true) }
     ensures only { ((ts : List tokens.Token) → P.follows ts ≡ true) → (ts : List P.Tree) (rest : List tokens.Token) → list_all (P.fits version) ts ≡ true → P.stop rest ≡ true → left cursor.old ≡ list_then P.spelled ts rest → Reaches (λ x. map P.view x.items) ts rest result (left cursor.new) }
-    ensures shorter { OnOk result (length (left cursor.new) ≤ length (left cursor.old)) }
+    ensures shorter { TakesAny result (left cursor.old) (left cursor.new) }
 {
     let mut items = Vec::new(alloc);
     'each: while !P::stops(cursor) {
@@ -79,7 +79,7 @@ fn next<'a, P: Production<'a>>(
     ensures found { IfOk result (λ x. left cursor.old ≡ next_then mark P.spelled (next_of P.view x) (left cursor.new)) }
     ensures fit { IfOk result (λ x. P.fits version (P.view x.1) ≡ true) }
     ensures only { (t : Span × P.Tree) (rest : List tokens.Token) → P.fits version t.1 ≡ true → P.follows rest ≡ true → left cursor.old ≡ next_then mark P.spelled t rest → Reaches (next_of P.view) t rest result (left cursor.new) }
-    ensures shorter { OnOk result (length (left cursor.new) < length (left cursor.old)) }
+    ensures shorter { TakesSome result (left cursor.old) (left cursor.new) }
 {
     let mark = cursor.mark(mark)?;
     Ok((mark, P::read(alloc, cursor, version)?))
@@ -95,7 +95,7 @@ fn more<'a, P: Production<'a>>(
     ensures found { IfOk result (λ x. left cursor.old ≡ list_then (next_then mark P.spelled) (map (next_of P.view) x.items) (left cursor.new)) }
     ensures fit { IfOk result (λ x. list_all (next_fits P.fits version) (map (next_of P.view) x.items) ≡ true) }
     ensures only { ((s : Span) (ts : List tokens.Token) → P.follows (marked mark s ∷ ts) ≡ true) → (ts : List (Span × P.Tree)) (rest : List tokens.Token) → list_all (next_fits P.fits version) ts ≡ true → P.follows rest ≡ true → sees_mark mark rest ≡ false → left cursor.old ≡ list_then (next_then mark P.spelled) ts rest → Reaches (λ x. map (next_of P.view) x.items) ts rest result (left cursor.new) }
-    ensures shorter { OnOk result (length (left cursor.new) ≤ length (left cursor.old)) }
+    ensures shorter { TakesAny result (left cursor.old) (left cursor.new) }
 {
     let mut items = Vec::new(alloc);
     'each: while cursor.sees(mark) {
@@ -115,7 +115,7 @@ pub fn separated<'a, P: Production<'a>>(
     ensures found { IfOk result (λ x. left cursor.old ≡ separated_then mark P.spelled (separated_of P.view x) (left cursor.new)) }
     ensures fit { IfOk result (λ x. list_all (P.fits version) (all_of (separated_of P.view x)) ≡ true) }
     ensures only { ((s : Span) (ts : List tokens.Token) → P.follows (marked mark s ∷ ts) ≡ true) → (t : tree.Separated P.Tree) (rest : List tokens.Token) → list_all (P.fits version) (all_of t) ≡ true → P.follows rest ≡ true → sees_mark mark rest ≡ false → left cursor.old ≡ separated_then mark P.spelled t rest → Reaches (separated_of P.view) t rest result (left cursor.new) }
-    ensures shorter { OnOk result (length (left cursor.new) < length (left cursor.old)) }
+    ensures shorter { TakesSome result (left cursor.old) (left cursor.new) }
 {
     let first = P::read(alloc, cursor, version)?;
     let more = more(alloc, cursor, version, mark)?;

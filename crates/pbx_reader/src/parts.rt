@@ -9,7 +9,7 @@ ghost use Rattle.pbx_tree.specs.Grammar.{named, name_then, full_then, type_then,
 ghost use Rattle.pbx_tree.specs.Conditions.{type_fits as type_fits_of, kind_fits, option_fits, all_fit, settings_of as list_of};
 ghost use Rattle.pbx_tree.specs.Fits.{allowed as allowed_of, may_follow, wanted_fits};
 ghost use Rattle.pbx_tree.specs.View.{name_of, next_of, separated_of, type_of, kind_of, constant_of, setting_of, settings_of as some_settings_of, statement_of};
-ghost use Rattle.pbx_reader.specs.View.{left, sees_mark, Reaches};
+ghost use Rattle.pbx_reader.specs.View.{left, sees_mark, Reaches, TakesSome, TakesAny};
 
 use crate::cursor::Cursor;
 use crate::error::ReadError;
@@ -49,7 +49,7 @@ pub fn full_name<'a>(
 ) -> Result<Separated<Name<'a>>, ReadError>
     ensures found { IfOk result (λ x. left cursor.old ≡ full_then (separated_of name_of x) (left cursor.new)) }
     ensures only { (f : tree.Separated tree.Name) (rest : List tokens.Token) → sees_mark 46 rest ≡ false → left cursor.old ≡ full_then f rest → Reaches (separated_of name_of) f rest result (left cursor.new) }
-    ensures shorter { OnOk result (length (left cursor.new) < length (left cursor.old)) }
+    ensures shorter { TakesSome result (left cursor.old) (left cursor.new) }
 {
     // Names are alike in all versions.
     separated(alloc, cursor, Version::Proto3, b'.')
@@ -60,7 +60,7 @@ pub fn full_name<'a>(
 pub fn type_name<'a>(alloc: Global, cursor: &mut Cursor<'_, 'a>) -> Result<TypeName<'a>, ReadError>
     ensures found { IfOk result (λ t. left cursor.old ≡ type_then (type_of t) (left cursor.new)) }
     ensures only { (t : tree.TypeName) (rest : List tokens.Token) → sees_mark 46 rest ≡ false → left cursor.old ≡ type_then t rest → Reaches type_of t rest result (left cursor.new) }
-    ensures shorter { OnOk result (length (left cursor.new) < length (left cursor.old)) }
+    ensures shorter { TakesSome result (left cursor.old) (left cursor.new) }
 {
     if !cursor.sees_type() {
         return Err(cursor.unexpected(Expected::Type));
@@ -76,7 +76,7 @@ pub fn kind<'a>(alloc: Global, cursor: &mut Cursor<'_, 'a>) -> Result<Kind<'a>, 
     ensures found { IfOk result (λ k. left cursor.old ≡ kind_then (kind_of k) (left cursor.new)) }
     ensures fits { IfOk result (λ k. kind_fits (kind_of k) ≡ true) }
     ensures only { (k : tree.Kind) (rest : List tokens.Token) → kind_fits k ≡ true → sees_mark 46 rest ≡ false → left cursor.old ≡ kind_then k rest → Reaches kind_of k rest result (left cursor.new) }
-    ensures shorter { OnOk result (length (left cursor.new) < length (left cursor.old)) }
+    ensures shorter { TakesSome result (left cursor.old) (left cursor.new) }
 {
     if let Some((scalar, span)) = cursor.eat_scalar() {
         return Ok(Kind::Scalar(scalar, span));
@@ -89,18 +89,21 @@ pub fn named_type<'a>(alloc: Global, cursor: &mut Cursor<'_, 'a>) -> Result<Type
     ensures found { IfOk result (λ t. left cursor.old ≡ type_then (type_of t) (left cursor.new)) }
     ensures fits { IfOk result (λ t. type_fits_of (type_of t) ≡ true) }
     ensures only { (t : tree.TypeName) (rest : List tokens.Token) → type_fits_of t ≡ true → sees_mark 46 rest ≡ false → left cursor.old ≡ type_then t rest → Reaches type_of t rest result (left cursor.new) }
-    ensures shorter { OnOk result (length (left cursor.new) < length (left cursor.old)) }
+    ensures shorter { TakesSome result (left cursor.old) (left cursor.new) }
 {
+    let left = cursor.tokens_left();
     let name = type_name(alloc, cursor)?;
-    type_fits(&name)?;
-    Ok(name)
+    match type_fits(&name) {
+        Ok(()) => Ok(name),
+        Err(expected) => Err(ReadError::Unexpected { left, expected }),
+    }
 }
 
 /// The value of an option.
 pub fn constant<'a>(cursor: &mut Cursor<'_, 'a>) -> Result<Constant<'a>, ReadError>
     ensures found { IfOk result (λ c. left cursor.old ≡ constant_then (constant_of c) (left cursor.new)) }
     ensures only { (c : tree.Constant) (rest : List tokens.Token) → left cursor.old ≡ constant_then c rest → Reaches constant_of c rest result (left cursor.new) }
-    ensures shorter { OnOk result (length (left cursor.new) < length (left cursor.old)) }
+    ensures shorter { TakesSome result (left cursor.old) (left cursor.new) }
 {
     if cursor.sees_number() {
         return Ok(Constant::Number(cursor.number(Expected::Integer)?));
@@ -119,21 +122,24 @@ fn wanted_value<'a>(
     ensures found { IfOk result (λ c. left cursor.old ≡ constant_then (constant_of c) (left cursor.new)) }
     ensures fits { IfOk result (λ c. wanted_fits wanted.entry (constant_of c) ≡ true) }
     ensures only { (c : tree.Constant) (rest : List tokens.Token) → wanted_fits wanted.entry c ≡ true → left cursor.old ≡ constant_then c rest → Reaches constant_of c rest result (left cursor.new) }
-    ensures shorter { OnOk result (length (left cursor.new) < length (left cursor.old)) }
+    ensures shorter { TakesSome result (left cursor.old) (left cursor.new) }
 {
     if let Err(expected) = some_value_fits(wanted) {
         return Err(cursor.unexpected(expected));
     }
+    let left = cursor.tokens_left();
     let value = constant(cursor)?;
-    value_fits(wanted, &value)?;
-    Ok(value)
+    match value_fits(wanted, &value) {
+        Ok(()) => Ok(value),
+        Err(expected) => Err(ReadError::Unexpected { left, expected }),
+    }
 }
 
 /// The name of an option.
 fn option_name<'a>(cursor: &mut Cursor<'_, 'a>) -> Result<Name<'a>, ReadError>
     ensures found { IfOk result (λ n. left cursor.old ≡ named (name_of n) ∷ left cursor.new) }
     ensures only { (n : tree.Name) (rest : List tokens.Token) → left cursor.old ≡ named n ∷ rest → Reaches name_of n rest result (left cursor.new) }
-    ensures shorter { OnOk result (length (left cursor.new) < length (left cursor.old)) }
+    ensures shorter { TakesSome result (left cursor.old) (left cursor.new) }
 {
     let expected = if cursor.sees(b'(') {
         Expected::NoCustomOption
@@ -152,10 +158,14 @@ pub fn setting<'a>(
     ensures found { IfOk result (λ s. left cursor.old ≡ setting_then (setting_of s) (left cursor.new)) }
     ensures fits { IfOk result (λ s. may_follow (allowed_of allowed.entry) (map setting_of seen.now) (setting_of s) ≡ true) }
     ensures only { (s : tree.Setting) (rest : List tokens.Token) → may_follow (allowed_of allowed.entry) (map setting_of seen.now) s ≡ true → left cursor.old ≡ setting_then s rest → Reaches setting_of s rest result (left cursor.new) }
-    ensures shorter { OnOk result (length (left cursor.new) < length (left cursor.old)) }
+    ensures shorter { TakesSome result (left cursor.old) (left cursor.new) }
 {
+    let left = cursor.tokens_left();
     let name = option_name(cursor)?;
-    let wanted = name_fits(allowed, &name, seen)?;
+    let wanted = match name_fits(allowed, &name, seen) {
+        Ok(wanted) => wanted,
+        Err(expected) => return Err(ReadError::Unexpected { left, expected }),
+    };
     let equals = cursor.mark(b'=')?;
     let value = wanted_value(cursor, wanted)?;
     Ok(Setting {
@@ -174,7 +184,7 @@ fn next_setting<'a>(
     ensures found { IfOk result (λ x. left cursor.old ≡ next_then 44 setting_then (next_of setting_of x) (left cursor.new)) }
     ensures fits { IfOk result (λ x. may_follow (allowed_of allowed.entry) (map setting_of seen.now) (setting_of x.1) ≡ true) }
     ensures only { (x : Span × tree.Setting) (rest : List tokens.Token) → may_follow (allowed_of allowed.entry) (map setting_of seen.now) x.1 ≡ true → left cursor.old ≡ next_then 44 setting_then x rest → Reaches (next_of setting_of) x rest result (left cursor.new) }
-    ensures shorter { OnOk result (length (left cursor.new) < length (left cursor.old)) }
+    ensures shorter { TakesSome result (left cursor.old) (left cursor.new) }
 {
     let comma = cursor.mark(b',')?;
     let setting = setting(cursor, allowed, seen)?;
@@ -192,7 +202,7 @@ fn more_settings<'a>(
     ensures found { IfOk result (λ x. left cursor.old ≡ list_then (next_then 44 setting_then) (map (next_of setting_of) x.items) (left cursor.new)) }
     ensures fits { IfOk result (λ x. all_fit (allowed_of allowed.entry) (setting_of first.entry ∷ map (λ y. y.1) (map (next_of setting_of) x.items)) ≡ true) }
     ensures only { (xs : List (Span × tree.Setting)) (rest : List tokens.Token) → all_fit (allowed_of allowed.entry) (setting_of first.entry ∷ map (λ y. y.1) xs) ≡ true → sees_mark 44 rest ≡ false → left cursor.old ≡ list_then (next_then 44 setting_then) xs rest → Reaches (λ x. map (next_of setting_of) x.items) xs rest result (left cursor.new) }
-    ensures shorter { OnOk result (length (left cursor.new) ≤ length (left cursor.old)) }
+    ensures shorter { TakesAny result (left cursor.old) (left cursor.new) }
 {
     let mut more = Vec::new(alloc);
     // Those before the last: it takes no memory where there is one setting only.
@@ -218,7 +228,7 @@ fn some_settings<'a>(
     ensures found { IfOk result (λ s. left cursor.old ≡ separated_then 44 setting_then (separated_of setting_of s) (left cursor.new)) }
     ensures fits { IfOk result (λ s. all_fit (allowed_of allowed.entry) (all_of (separated_of setting_of s)) ≡ true) }
     ensures only { (s : tree.Separated tree.Setting) (rest : List tokens.Token) → all_fit (allowed_of allowed.entry) (all_of s) ≡ true → sees_mark 44 rest ≡ false → left cursor.old ≡ separated_then 44 setting_then s rest → Reaches (separated_of setting_of) s rest result (left cursor.new) }
-    ensures shorter { OnOk result (length (left cursor.new) < length (left cursor.old)) }
+    ensures shorter { TakesSome result (left cursor.old) (left cursor.new) }
 {
     let first = setting(cursor, allowed, &[])?;
     let more = more_settings(alloc, cursor, allowed, first)?;
@@ -234,7 +244,7 @@ fn bracketed<'a>(
     ensures found { IfOk result (λ s. left cursor.old ≡ some_settings_then (some_settings_of s) (left cursor.new)) }
     ensures fits { IfOk result (λ s. all_fit (allowed_of allowed.entry) (all_of (some_settings_of s).settings) ≡ true) }
     ensures only { (s : tree.Settings) (rest : List tokens.Token) → all_fit (allowed_of allowed.entry) (all_of s.settings) ≡ true → left cursor.old ≡ some_settings_then s rest → Reaches some_settings_of s rest result (left cursor.new) }
-    ensures shorter { OnOk result (length (left cursor.new) < length (left cursor.old)) }
+    ensures shorter { TakesSome result (left cursor.old) (left cursor.new) }
 {
     let open = cursor.mark(b'[')?;
     let settings = some_settings(alloc, cursor, allowed)?;
@@ -255,7 +265,7 @@ pub fn settings<'a>(
     ensures found { IfOk result (λ s. left cursor.old ≡ settings_then (option_map some_settings_of s) (left cursor.new)) }
     ensures fits { IfOk result (λ s. all_fit (allowed_of allowed.entry) (list_of (option_map some_settings_of s)) ≡ true) }
     ensures only { (s : Option tree.Settings) (rest : List tokens.Token) → all_fit (allowed_of allowed.entry) (list_of s) ≡ true → sees_mark 91 rest ≡ false → left cursor.old ≡ settings_then s rest → Reaches (option_map some_settings_of) s rest result (left cursor.new) }
-    ensures shorter { OnOk result (length (left cursor.new) ≤ length (left cursor.old)) }
+    ensures shorter { TakesAny result (left cursor.old) (left cursor.new) }
 {
     if cursor.sees(b'[') {
         Ok(Some(bracketed(alloc, cursor, allowed)?))
@@ -274,7 +284,7 @@ pub fn statement<'a>(
     ensures found { IfOk result (λ s. left cursor.old ≡ statement_then (statement_of s) (left cursor.new)) }
     ensures fits { IfOk result (λ s. may_follow (option_fits place) (map setting_of seen.now) (statement_of s).setting ≡ true) }
     ensures only { (s : tree.Statement) (rest : List tokens.Token) → may_follow (option_fits place) (map setting_of seen.now) s.setting ≡ true → left cursor.old ≡ statement_then s rest → Reaches statement_of s rest result (left cursor.new) }
-    ensures shorter { OnOk result (length (left cursor.new) < length (left cursor.old)) }
+    ensures shorter { TakesSome result (left cursor.old) (left cursor.new) }
 {
     let keyword = cursor.keyword("option", expected)?;
     let setting = setting(cursor, Allowed::Option(place), seen)?;

@@ -8,7 +8,7 @@ ghost use Rattle.pbx_tree.specs.Tree as tree;
 ghost use Rattle.pbx_tree.specs.Grammar.{count_then, number_then, literal_then, range_end_then, to_then, range_then, extensions_then, reserved_then};
 ghost use Rattle.pbx_tree.specs.Conditions.{is_range_number, is_enum_number, is_text, range_end_fits, to_fits, range_fits, extensions_fit, reserved_fits};
 ghost use Rattle.pbx_tree.specs.View.{range_number_of, enum_number_of, literal_of, next_of, range_end_of, range_of, extensions_of, reserved_of};
-ghost use Rattle.pbx_reader.specs.View.{left, sees_word, sees_number, Reaches};
+ghost use Rattle.pbx_reader.specs.View.{left, sees_word, sees_number, Reaches, TakesSome, TakesAny};
 
 use crate::cursor::Cursor;
 use crate::error::ReadError;
@@ -38,7 +38,7 @@ pub trait RangeBound: Copy + Drop {
         ensures found { IfOk result (λ x. left cursor.old ≡ spelled (view x) (left cursor.new)) }
         ensures fit { IfOk result (λ x. fits (view x) ≡ true) }
         ensures only { (t : Tree) (rest : List tokens.Token) → fits t ≡ true → left cursor.old ≡ spelled t rest → Reaches view t rest result (left cursor.new) }
-        ensures shorter { OnOk result (length (left cursor.new) < length (left cursor.old)) };
+        ensures shorter { TakesSome result (left cursor.old) (left cursor.new) };
 }
 
 impl RangeBound for RangeNumber {
@@ -81,7 +81,7 @@ fn range_end<N: RangeBound>(cursor: &mut Cursor<'_, '_>) -> Result<RangeEnd<N>, 
     ensures found { IfOk result (λ e. left cursor.old ≡ range_end_then N.spelled (range_end_of N.view e) (left cursor.new)) }
     ensures fit { IfOk result (λ e. range_end_fits N.fits (range_end_of N.view e) ≡ true) }
     ensures only { (e : tree.RangeEnd N.Tree) (rest : List tokens.Token) → range_end_fits N.fits e ≡ true → left cursor.old ≡ range_end_then N.spelled e rest → Reaches (range_end_of N.view) e rest result (left cursor.new) }
-    ensures shorter { OnOk result (length (left cursor.new) < length (left cursor.old)) }
+    ensures shorter { TakesSome result (left cursor.old) (left cursor.new) }
 {
     if N::begins(cursor) {
         return Ok(RangeEnd::Number(N::read_bound(cursor)?));
@@ -96,7 +96,7 @@ fn range_to<N: RangeBound>(
     ensures found { IfOk result (λ t. left cursor.old ≡ to_then N.spelled (option_map (next_of (range_end_of N.view)) t) (left cursor.new)) }
     ensures fit { IfOk result (λ t. to_fits N.fits (option_map (next_of (range_end_of N.view)) t) ≡ true) }
     ensures only { (t : Option (Span × tree.RangeEnd N.Tree)) (rest : List tokens.Token) → to_fits N.fits t ≡ true → sees_word (codes "to") rest ≡ false → left cursor.old ≡ to_then N.spelled t rest → Reaches (option_map (next_of (range_end_of N.view))) t rest result (left cursor.new) }
-    ensures shorter { OnOk result (length (left cursor.new) ≤ length (left cursor.old)) }
+    ensures shorter { TakesAny result (left cursor.old) (left cursor.new) }
 {
     if !cursor.sees_word("to") {
         return Ok(None);
@@ -152,7 +152,7 @@ pub fn extensions(alloc: Global, cursor: &mut Cursor<'_, '_>) -> Result<Extensio
     ensures found { IfOk result (λ e. left cursor.old ≡ extensions_then (extensions_of e) (left cursor.new)) }
     ensures fits { IfOk result (λ e. extensions_fit (extensions_of e) ≡ true) }
     ensures only { (e : tree.Extensions) (rest : List tokens.Token) → extensions_fit e ≡ true → left cursor.old ≡ extensions_then e rest → Reaches extensions_of e rest result (left cursor.new) }
-    ensures shorter { OnOk result (length (left cursor.new) < length (left cursor.old)) }
+    ensures shorter { TakesSome result (left cursor.old) (left cursor.new) }
 {
     let keyword = cursor.keyword("extensions", Expected::Keyword)?;
     // Ranges are alike in all versions.
@@ -173,7 +173,7 @@ pub fn reserved<'a, N: RangeBound>(
     ensures found { IfOk result (λ r. left cursor.old ≡ reserved_then N.spelled (reserved_of N.view r) (left cursor.new)) }
     ensures fits { IfOk result (λ r. reserved_fits N.fits (reserved_of N.view r) ≡ true) }
     ensures only { (r : tree.Reserved N.Tree) (rest : List tokens.Token) → reserved_fits N.fits r ≡ true → left cursor.old ≡ reserved_then N.spelled r rest → Reaches (reserved_of N.view) r rest result (left cursor.new) }
-    ensures shorter { OnOk result (length (left cursor.new) < length (left cursor.old)) }
+    ensures shorter { TakesSome result (left cursor.old) (left cursor.new) }
 {
     let keyword = cursor.keyword("reserved", Expected::Keyword)?;
     // Ranges and names are alike in all versions.

@@ -1,17 +1,17 @@
 //! The reader of a file.
 
-ghost use Rattle.std.specs.Prelude.{◌≡◌, List, [], map, true, IfOk};
+ghost use Rattle.std.specs.Prelude.{◌≡◌, ◌≤◌, List, [], length, map, true, IfOk, IfErr};
 ghost use Rattle.pbx_token.specs.View.{tokens_of};
 ghost use Rattle.pbx_tree.specs.Tree as tree;
 ghost use Rattle.pbx_tree.specs.Grammar.{list_then, top_then, file_then};
 ghost use Rattle.pbx_tree.specs.Conditions.{tops_fit, Conditions};
 ghost use Rattle.pbx_tree.specs.View.{top_of, file_of};
-ghost use Rattle.pbx_reader.specs.View.{left, ReadsAs};
+ghost use Rattle.pbx_reader.specs.View.{left, left_at, ReadsAs};
 
 use crate::blocks::block;
 use crate::cursor::Cursor;
 use crate::error::ReadError;
-use crate::tops::{syntax, version_of};
+use crate::tops::syntax;
 use pbx_token::Token;
 use pbx_tree::{File, Top, Version};
 use std::alloc::Global;
@@ -26,6 +26,7 @@ fn tops<'a>(
     ensures found { IfOk result (λ x. left cursor.old ≡ list_then top_then (map top_of x.items) []) }
     ensures fits { IfOk result (λ x. tops_fit version (map top_of x.items) ≡ true) }
     ensures only { (ts : List tree.Top) → tops_fit version ts ≡ true → left cursor.old ≡ list_then top_then ts [] → ReadsAs (λ x. map top_of x.items) ts result }
+    ensures told { IfErr result (λ e. left_at e ≤ length (left cursor.old)) }
 {
     block(alloc, cursor, version)
 }
@@ -40,10 +41,11 @@ pub fn read_file<'a>(alloc: Global, tokens: &[Token<'a>]) -> Result<File<'a>, Re
     ensures fits { IfOk result (λ f. Conditions (file_of f)) }
     // Such a tree is given, unless memory runs out.
     ensures only { (t : tree.File) → Conditions t → tokens_of tokens.now ≡ file_then t [] → ReadsAs file_of t result }
+    // An error is told at one of the tokens, or at their end.
+    ensures told { IfErr result (λ e. left_at e ≤ length tokens.now) }
 {
     let mut cursor = Cursor { tokens, at: 0 };
-    let syntax = syntax(&mut cursor)?;
-    let version = version_of(&syntax)?;
+    let (syntax, version) = syntax(&mut cursor)?;
     let tops = tops(alloc, &mut cursor, version)?;
     Ok(File { syntax, tops })
 }

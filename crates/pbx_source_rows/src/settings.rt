@@ -2,7 +2,7 @@
 
 use crate::words::{option_place, place, scalar};
 use pbx_tree::{
-    Allowed, Constant, Kind, Literal, Name, Number, Setting, Unfit, known_option, name_fits,
+    Allowed, Constant, Expected, Kind, Literal, Name, Number, Setting, known_option, name_fits,
     optimize_mode, value_fits,
 };
 use std::alloc::{AllocError, Global};
@@ -63,13 +63,13 @@ fn follows(
     allowed: Allowed<'_, '_>,
     seen: &[Setting<'_>],
     setting: &Setting<'_>,
-) -> Result<(), Unfit> {
+) -> Result<(), Expected> {
     let wanted = name_fits(allowed, &setting.name, seen)?;
     value_fits(wanted, &setting.value)
 }
 
 /// Whether each may stand behind those before it.
-fn each_follows(row: &Row, kind: &Kind<'static>, settings: &[Setting<'_>]) -> Result<(), Unfit> {
+fn each_follows(row: &Row, kind: &Kind<'static>, settings: &[Setting<'_>]) -> Result<(), Expected> {
     for at in 0..settings.len() {
         follows(allowed(row, kind), &settings[..at], &settings[at])?;
     }
@@ -77,7 +77,7 @@ fn each_follows(row: &Row, kind: &Kind<'static>, settings: &[Setting<'_>]) -> Re
 }
 
 /// Whether the settings behind the first two fields, three at most, may stand there, one behind the other.
-fn fits(row: &Row, kind: &Kind<'static>) -> Result<(), Unfit> {
+fn fits(row: &Row, kind: &Kind<'static>) -> Result<(), Expected> {
     let settings = [setting(row, 2), setting(row, 6), setting(row, 10)];
     let count = row.len().saturating_sub(2) / 4;
     each_follows(row, kind, settings.get(..count).unwrap_or(&settings))

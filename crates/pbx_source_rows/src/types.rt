@@ -1,7 +1,7 @@
 //! What may be a type, a map's key or a text.
 
 use crate::words::{place, scalar};
-use pbx_tree::{Literal, Name, Separated, TypeName, Unfit, key_fits, text_fits, type_fits};
+use pbx_tree::{Expected, Literal, Name, Separated, TypeName, key_fits, text_fits, type_fits};
 use std::alloc::{AllocError, Global};
 use test_rows::Row;
 
@@ -23,10 +23,10 @@ fn type_name(alloc: Global, row: &Row) -> TypeName<'_> {
     }
 }
 
-fn asked(alloc: Global, row: &Row) -> Result<(), Unfit> {
+fn asked(alloc: Global, row: &Row) -> Result<(), Expected> {
     match row.asked() {
         "type" | "kind" => type_fits(&type_name(alloc, row)),
-        "key" => key_fits(scalar(row.text(0)), place(1)),
+        "key" => key_fits(scalar(row.text(0))),
         _ => text_fits(&Literal::new(row.text(0), place(1))),
     }
 }

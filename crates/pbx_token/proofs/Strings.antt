@@ -1,5 +1,5 @@
 -- A string that is read byte by byte has characters, and they are read so.
-use Rattle.std.proofs.Common.{◌≡◌, ℕ, zero, suc, ◌+◌, ◌<◌, ◌≤◌, Bool, true, false, List, [], ◌∷◌, ◌++◌, length, take, drop, map, Option, Some, None, refl, sym, ap, subst, ◌∙◌, append_assoc, eq-eqb, lit≤, arith}
+use Rattle.std.proofs.Common.{◌≡◌, ℕ, zero, suc, ◌+◌, ◌<◌, ◌≤◌, Bool, true, false, List, [], ◌∷◌, ◌++◌, length, take, drop, map, Option, Some, None, refl, sym, ap, subst, ◌∙◌, append_assoc, eq-eqb, lit≤, arith, not}
 use Rattle.std.specs.Prelude.{◌==◌, ◌&&◌, ◌||◌, nat_lt, nat_le, option_map, unwrap_or, is_none}
 use Rattle.std.specs.List.{list_all, prefix_len}
 use Rattle.std.proofs.lemmas.Bool.{eqb-true, ltb-true, and_right, false≢true}
@@ -7,7 +7,7 @@ use Rattle.std.proofs.lemmas.List.{take_at, drop_at, take-append-drop, length-ap
 use Rattle.std.proofs.lemmas.List.Sums.{prefix_len-le-length}
 use Rattle.pbx_token.specs.declared.escape.Escape.{Escape}
 use Rattle.pbx_token.specs.declared.run.Run.TheVariants as runs
-use Rattle.pbx_token.specs.Bytes.{not, passes, digit_of, digits_value, is_break}
+use Rattle.pbx_token.specs.Bytes.{passes, digit_of, digits_value, is_break}
 use Rattle.pbx_token.specs.Escapes.{simple_value, number_at, escape_at, Character, itself, escaped, value_of, characters_text, IsCharacter, AreCharacters, IsString, unescaped}
 use Rattle.pbx_token.specs.Scan.{has_good_escapes, quoted_end}
 use Rattle.pbx_token.proofs.Options.{done, some_is, map_some, mapped, map_zero, map_more}

@@ -1,10 +1,9 @@
 -- Strings from one byte or escape on.
-use Rattle.std.proofs.Common.{◌≡◌, ℕ, zero, suc, ◌-◌, ◌<◌, ◌≤◌, Bool, true, List, [], ◌∷◌, length, take, drop, get_or, length-drop, refl, sym, ap, ◌∙◌, ◌≢◌, arith}
+use Rattle.std.proofs.Common.{◌≡◌, ℕ, zero, suc, ◌-◌, ◌<◌, ◌≤◌, Bool, true, List, [], ◌∷◌, length, take, drop, get_or, length-drop, refl, sym, ap, ◌∙◌, ◌≢◌, arith, not}
 use Rattle.std.specs.Prelude.{◌&&◌, ◌==◌, ◌↔◌, IsTrue}
 use Rattle.std.proofs.lemmas.Bool.{eqb-true}
 use Rattle.std.proofs.lemmas.List.{take_all}
 use Rattle.pbx_token.specs.declared.escape.Escape.{Escape}
-use Rattle.pbx_token.specs.Bytes.{not}
 use Rattle.pbx_token.specs.Escapes.{first_at, unescaped_after, unescaped}
 use Rattle.pbx_token.specs.Scan.{is_bad, are_good_after, has_good_escapes}
 

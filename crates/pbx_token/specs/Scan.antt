@@ -1,13 +1,13 @@
 -- How a source is taken apart, from its first byte on: what the code follows, beside what `Lexes` says. No public clause
 -- comes here: these are words for contracts of private functions.
-use Rattle.std.specs.Prelude.{◌≡◌, ℕ, zero, suc, ◌+◌, ◌*◌, ◌^◌, ◌==◌, ◌||◌, nat_lt, List, [], ◌∷◌, ◌++◌, length, take, drop, Bool, true, false, ◌&&◌, Option, Some, None, is_none, option_map, Result, Ok, Err, if◌then◌else◌}
+use Rattle.std.specs.Prelude.{◌≡◌, ℕ, zero, suc, ◌+◌, ◌*◌, ◌^◌, ◌==◌, ◌||◌, nat_lt, List, [], ◌∷◌, ◌++◌, length, take, drop, Bool, true, false, ◌&&◌, Option, Some, None, is_none, option_map, Result, Ok, Err, if◌then◌else◌, not}
 use Rattle.std.specs.List.{prefix_len}
 use Rattle.pbx_token.specs.declared.run.Run.TheVariants as runs
 use Rattle.pbx_token.specs.declared.piece.LexError.{LexError}
 use Rattle.pbx_token.specs.declared.piece.LexError.TheVariants as errors
 use Rattle.pbx_token.specs.declared.piece.Class.{Class}
 use Rattle.pbx_token.specs.declared.piece.Class.TheVariants as classes
-use Rattle.pbx_token.specs.Bytes.{not, passes, is_break, digit_of, class_of}
+use Rattle.pbx_token.specs.Bytes.{passes, is_break, digit_of, class_of}
 use Rattle.pbx_token.specs.Escapes.{escape_at, first_at}
 use Rattle.pbx_token.specs.declared.token.Place.{Place}
 use Rattle.pbx_token.specs.Tokens.{Word, Token}

@@ -28,6 +28,12 @@ abbrev pub FailsNot : LexError → Type 0
 FailsNot errors.NoMemory = Unit {0}
 FailsNot (errors.Fault left begun fault) = ⊥
 
+-- this holds, unless memory ran out
+abbrev pub UnlessMemory : Result Unit LexError → Type 0 → Type 0
+UnlessMemory (Ok u) P = P
+UnlessMemory (Err errors.NoMemory) P = Unit {0}
+UnlessMemory (Err (errors.Fault left begun fault)) P = P
+
 -- this was read, unless memory ran out
 abbrev pub ReadsAs : {X Y : Type 0} → (X → Y) → Y → Result X LexError → Type 0
 ReadsAs view y (Ok x) = view x ≡ y

@@ -1,11 +1,11 @@
 //! All tokens of a source.
 
-ghost use Rattle.std.specs.Prelude.{◌≡◌, ◌<◌, ◌^◌, ◌++◌, ◌&&◌, ℕ, List, length, false, option_map, IfOk, IfErr, OnOk};
+ghost use Rattle.std.specs.Prelude.{◌≡◌, [], ◌<◌, ◌^◌, ◌++◌, ◌&&◌, ℕ, List, length, false, option_map, IfOk, IfErr, OnOk};
 ghost use Rattle.std.specs.Str.{IsUtf8};
 ghost use Rattle.pbx_token.specs.Tokens as tokens;
 ghost use Rattle.pbx_token.specs.Pieces.{tokens_from, origin, is_semicolon, significant, Lexes};
 ghost use Rattle.pbx_token.specs.Scan.{pieces_at, Gives, ends_after, AllStay, Keeps};
-ghost use Rattle.pbx_token.specs.View.{ReadsAs, IsWithin, IsStart, BeginIn, tokens_of, word_of};
+ghost use Rattle.pbx_token.specs.View.{ReadsAs, UnlessMemory, IsWithin, IsStart, BeginIn, tokens_of, word_of};
 
 use crate::piece::{LexError, piece};
 use crate::token::{Place, Span, Token, Word, after};
@@ -61,14 +61,15 @@ fn add<'a>(
     Ok(())
 }
 
-fn all<'a>(alloc: Global, source: &'a [u8]) -> Result<Vec<Token<'a>>, LexError>
+/// Puts the tokens of the source into an empty list, to its end or to the first fault.
+fn add_all<'a>(source: &'a [u8], tokens: &mut Vec<Token<'a>>) -> Result<(), LexError>
     requires few { length source.now < 2 ^ 31 }
     requires text { IsUtf8 source.now }
-    ensures read { Gives (λ x. tokens_of x.items) (option_map (λ ps. significant (tokens_from origin ps)) (pieces_at source.now)) result }
-    ensures starts { IfOk result (λ x. BeginIn source.now x.items) }
+    requires empty { tokens.old.items ≡ [] }
+    ensures read { Gives (λ _. tokens_of tokens.new.items) (option_map (λ ps. significant (tokens_from origin ps)) (pieces_at source.now)) result }
+    ensures starts { UnlessMemory result (BeginIn source.now tokens.new.items) }
     ensures fault { IfErr result (λ e. IsWithin source.now e) }
 {
-    let mut tokens = Vec::new(alloc);
     let mut rest = source;
     let mut line = 0;
     let mut column = 0;
@@ -76,12 +77,24 @@ fn all<'a>(alloc: Global, source: &'a [u8]) -> Result<Vec<Token<'a>>, LexError>
         let (word, next) = piece(rest)?;
         let from = Place { line, column };
         let to = after(from, &rest[..rest.len() - next.len()]);
-        add(&mut tokens, word, from, to, rest.len() as u32)?;
+        add(tokens, word, from, to, rest.len() as u32)?;
         line = to.line;
         column = to.column;
         rest = next;
     }
-    Ok(tokens)
+    Ok(())
+}
+
+/// The same of a text.
+fn add_tokens<'a>(source: &'a str, into: &mut Vec<Token<'a>>) -> Result<(), LexError>
+    requires few { length source.now < 2 ^ 31 }
+    requires empty { into.old.items ≡ [] }
+    ensures found { OnOk result (Lexes source.now (tokens_of into.new.items)) }
+    ensures only { (ts : List tokens.Token) → Lexes source.now ts → ReadsAs (λ _. tokens_of into.new.items) ts result }
+    ensures starts { UnlessMemory result (BeginIn source.now into.new.items) }
+    ensures fault { IfErr result (λ e. IsWithin source.now e) }
+{
+    add_all(source.as_bytes(), into)
 }
 
 /// The tokens of a source, in order, which borrow from it.
@@ -102,7 +115,27 @@ pub fn lex(alloc: Global, source: &str) -> Result<Vec<Token<'_>>, LexError>
     // A fault lies between two characters of the source.
     ensures fault { IfErr result (λ e. IsWithin source.now e) }
 {
-    all(alloc, source.as_bytes())
+    let mut tokens = Vec::new(alloc);
+    match add_tokens(source, &mut tokens) {
+        Ok(()) => Ok(tokens),
+        Err(error) => Err(error),
+    }
+}
+
+/// The tokens of a source before its first fault, and all where it has none. The only error is want of memory.
+pub fn tokens_before_fault(alloc: Global, source: &str) -> Result<Vec<Token<'_>>, AllocError>
+    requires { length source.now < 2 ^ 31 }
+    // Each begins where it says that so many bytes of the source are left.
+    ensures starts { IfOk result (λ x. BeginIn source.now x.items) }
+    // Where the source has tokens, they are these.
+    ensures only { (ts : List tokens.Token) → Lexes source.now ts → IfOk result (λ x. tokens_of x.items ≡ ts) }
+{
+    let mut tokens = Vec::new(alloc);
+    match add_tokens(source, &mut tokens) {
+        Ok(()) => Ok(tokens),
+        Err(LexError::NoMemory) => Err(AllocError),
+        Err(LexError::Fault { .. }) => Ok(tokens),
+    }
 }
 
 /// A source has at most one list of tokens.

@@ -1,6 +1,6 @@
 -- What the tests of a tree's parts answer.
 use Rattle.std.specs.Prelude.{◌≡◌, List, Bool, true, false, ◌&&◌, Option, Some, None, Result, Ok, Err}
-use Rattle.pbx_tree.specs.declared.conditions.Unfit.{Unfit}
+use Rattle.pbx_tree.specs.declared.conditions.Expected.{Expected}
 use Rattle.pbx_tree.specs.declared.conditions.Allowed as code_allowed
 use Rattle.pbx_tree.specs.declared.conditions.Allowed.TheVariants as allowances
 use Rattle.pbx_tree.specs.declared.conditions.Wanted.{Wanted}
@@ -9,8 +9,8 @@ use Rattle.pbx_tree.specs.Tree.{Constant, Setting}
 use Rattle.pbx_tree.specs.Conditions.{is_of_kind, default_fits, option_fits, map_setting_fits, field_setting_fits, lacks}
 use Rattle.pbx_tree.specs.View.{kind_of}
 
--- nothing exactly where the test holds, else a place
-abbrev pub Fits : Bool → Result Unit Unfit → Type 0
+-- nothing exactly where the test holds, else what could stand there
+abbrev pub Fits : Bool → Result Unit Expected → Type 0
 Fits b (Ok u) = b ≡ true
 Fits b (Err e) = b ≡ false
 
@@ -35,6 +35,6 @@ if_wanted None c = false
 if_wanted (Some w) c = wanted_fits w c
 
 -- a name that fits leaves it to the value; where the name does not, no value does
-abbrev pub named_fits : Result Wanted Unfit → Constant → Bool
+abbrev pub named_fits : Result Wanted Expected → Constant → Bool
 named_fits (Ok w) c = wanted_fits w c
 named_fits (Err e) c = false

@@ -119,7 +119,8 @@ extensions_then e rest = worded (codes "extensions") e.keyword ∷ separated_the
 
 -- reserved (RANGE, .. | STRING, ..) ;
 abbrev pub reserved_then : {A : Type 0} → (A → List Token → List Token) → Reserved A → List Token → List Token
-reserved_then one_then (reserved_ranges keyword rs close) rest = worded (codes "reserved") keyword ∷ separated_then 44 (range_then one_then) rs (marked 59 close ∷ rest)
+reserved_then one_then (reserved_ranges keyword rs close) rest =
+    worded (codes "reserved") keyword ∷ separated_then 44 (range_then one_then) rs (marked 59 close ∷ rest)
 reserved_then one_then (reserved_names keyword ns close) rest = worded (codes "reserved") keyword ∷ separated_then 44 literal_then ns (marked 59 close ∷ rest)
 
 -- ---- fields
@@ -138,7 +139,8 @@ field_then f rest = label_then f.label (kind_then f.kind (tail_then f.tail rest)
 
 -- map < SCALAR , KIND > NAME = INTEGER [SETTINGS] ;
 abbrev pub map_then : MapField → List Token → List Token
-map_then m rest = worded (codes "map") m.keyword ∷ marked 60 m.open ∷ worded (scalar_word m.key) m.key_span ∷ marked 44 m.comma ∷ kind_then m.value (marked 62 m.close ∷ tail_then m.tail rest)
+map_then m rest =
+    worded (codes "map") m.keyword ∷ marked 60 m.open ∷ worded (scalar_word m.key) m.key_span ∷ marked 44 m.comma ∷ kind_then m.value (marked 62 m.close ∷ tail_then m.tail rest)
 
 -- ; or KIND NAME = INTEGER [SETTINGS] ;
 abbrev pub member_then : Member → List Token → List Token
@@ -156,7 +158,8 @@ extension_then (extension f) rest = field_then f rest
 
 -- extend TYPE { EXTENSION .. }
 abbrev pub extend_then : Extend → List Token → List Token
-extend_then e rest = worded (codes "extend") e.keyword ∷ type_then e.extendee (marked 123 e.open ∷ list_then extension_then e.extensions (marked 125 e.close ∷ rest))
+extend_then e rest =
+    worded (codes "extend") e.keyword ∷ type_then e.extendee (marked 123 e.open ∷ list_then extension_then e.extensions (marked 125 e.close ∷ rest))
 
 -- ---- enums
 
@@ -191,7 +194,8 @@ method_end_then (method_block «open» is close) rest = marked 123 «open» ∷ 
 
 -- rpc NAME TYPE returns TYPE END
 abbrev pub method_then : Method → List Token → List Token
-method_then m rest = worded (codes "rpc") m.keyword ∷ named m.name ∷ method_type_then m.input (worded (codes "returns") m.returns ∷ method_type_then m.output (method_end_then m.end rest))
+method_then m rest =
+    worded (codes "rpc") m.keyword ∷ named m.name ∷ method_type_then m.input (worded (codes "returns") m.returns ∷ method_type_then m.output (method_end_then m.end rest))
 
 abbrev pub service_item_then : ServiceItem → List Token → List Token
 service_item_then (empty_in_service s) rest = marked 59 s ∷ rest

@@ -125,7 +125,16 @@ abbrev pub field_of : code_field.Field → Field
 field_of f = record { label = f.label; kind = kind_of f.kind; tail = tail_of f.tail }
 
 abbrev pub map_of : code_map.MapField → MapField
-map_of m = record { keyword = m.keyword; «open» = m.open; key = m.key; key_span = m.key_span; comma = m.comma; value = kind_of m.value; close = m.close; tail = tail_of m.tail }
+map_of m = record {
+  keyword = m.keyword;
+  «open» = m.open;
+  key = m.key;
+  key_span = m.key_span;
+  comma = m.comma;
+  value = kind_of m.value;
+  close = m.close;
+  tail = tail_of m.tail;
+}
 
 abbrev pub member_of : code_member.Member → Member
 member_of (members.Empty s) = empty_member s
@@ -165,7 +174,14 @@ method_end_of (method_ends.Semicolon s) = method_semicolon s
 method_end_of (method_ends.Block «open» is close) = method_block «open» (map method_item_of is.items) close
 
 abbrev pub method_of : code_method.Method → Method
-method_of m = record { keyword = m.keyword; name = name_of m.name; input = method_type_of m.input; returns = m.returns; output = method_type_of m.output; end = method_end_of m.end }
+method_of m = record {
+  keyword = m.keyword;
+  name = name_of m.name;
+  input = method_type_of m.input;
+  returns = m.returns;
+  output = method_type_of m.output;
+  end = method_end_of m.end;
+}
 
 abbrev pub service_item_of : code_service_item.ServiceItem → ServiceItem
 service_item_of (service_items.Empty s) = empty_in_service s

@@ -134,14 +134,6 @@ impl Expected {
     }
 }
 
-/// Where a tree is not as the language wants it.
-#[derive(Clone, Copy, Debug, PartialEq, Eq)]
-pub struct Unfit {
-    pub place: Span,
-    /// What could stand there.
-    pub expected: Expected,
-}
-
 /// What may be set in a list of options.
 #[derive(Clone, Copy)]
 pub enum Allowed<'k, 'a> {
@@ -162,15 +154,11 @@ pub enum Wanted<'k, 'a> {
     Default(&'k Kind<'a>),
 }
 
-/// Nothing, where the test holds.
-fn fitting(fits: bool, place: Span, expected: Expected) -> Result<(), Unfit>
+/// Nothing, where the test holds, else what could stand there.
+fn fitting(fits: bool, expected: Expected) -> Result<(), Expected>
     ensures { Fits fits result }
 {
-    if fits {
-        Ok(())
-    } else {
-        Err(Unfit { place, expected })
-    }
+    if fits { Ok(()) } else { Err(expected) }
 }
 
 fn is_scalar_word(text: &str) -> bool
@@ -197,14 +185,12 @@ fn is_scalar_word(text: &str) -> bool
 }
 
 /// The name of a scalar type is no other type's, unless a dot stands before it.
-pub fn type_fits(name: &TypeName<'_>) -> Result<(), Unfit>
+pub fn type_fits(name: &TypeName<'_>) -> Result<(), Expected>
     ensures { Fits (type_fits_of (type_of name.now)) result }
 {
-    let first = name.full.first;
     let bare = name.dot.is_none();
     fitting(
-        !(bare && is_scalar_word(first.text)),
-        first.span,
+        !(bare && is_scalar_word(name.full.first.text)),
         Expected::Type,
     )
 }
@@ -216,29 +202,17 @@ fn is_key(scalar: Scalar) -> bool
 }
 
 /// The key of a map is an integer, a truth value or a text.
-pub fn key_fits(scalar: Scalar, span: Span) -> Result<(), Unfit>
+pub fn key_fits(scalar: Scalar) -> Result<(), Expected>
     ensures { Fits (is_key_of scalar) result }
 {
-    fitting(is_key(scalar), span, Expected::KeyType)
+    fitting(is_key(scalar), Expected::KeyType)
 }
 
 /// What a string stands for is a text.
-pub fn text_fits(literal: &Literal<'_>) -> Result<(), Unfit>
+pub fn text_fits(literal: &Literal<'_>) -> Result<(), Expected>
     ensures { Fits (is_text_of (literal_of literal.now)) result }
 {
-    fitting(literal.is_text, literal.span, Expected::Text)
-}
-
-/// The first token of a value.
-fn constant_place(value: &Constant<'_>) -> Span {
-    match value {
-        Constant::Number(number) => match number.minus {
-            Some(span) => span,
-            None => number.span,
-        },
-        Constant::Identifier(name) => name.span,
-        Constant::String(literal) => literal.span,
-    }
+    fitting(literal.is_text, Expected::Text)
 }
 
 fn is_true_or_false(name: &Name<'_>) -> bool
@@ -303,13 +277,12 @@ fn default_fits(kind: &Kind<'_>, value: &Constant<'_>) -> bool
 }
 
 /// The value is one of those that are wanted.
-pub fn value_fits(wanted: Wanted<'_, '_>, value: &Constant<'_>) -> Result<(), Unfit>
+pub fn value_fits(wanted: Wanted<'_, '_>, value: &Constant<'_>) -> Result<(), Expected>
     ensures { Fits (wanted_fits wanted.entry (constant_of value.now)) result }
 {
-    let place = constant_place(value);
     match wanted {
-        Wanted::Option(kind) => fitting(is_of_kind(kind, value), place, kind_expected(kind)),
-        Wanted::Default(kind) => fitting(default_fits(kind, value), place, default_expected(kind)),
+        Wanted::Option(kind) => fitting(is_of_kind(kind, value), kind_expected(kind)),
+        Wanted::Default(kind) => fitting(default_fits(kind, value), default_expected(kind)),
     }
 }
 
@@ -408,17 +381,14 @@ pub fn name_fits<'k, 'a>(
     allowed: Allowed<'k, 'a>,
     name: &Name<'_>,
     seen: &[Setting<'_>],
-) -> Result<Wanted<'k, 'a>, Unfit>
+) -> Result<Wanted<'k, 'a>, Expected>
     ensures { (equals : Span) (value : tree.Constant) → may_follow (allowed_of allowed.entry) (map setting_of seen.now) (record { name = name_of name.now; equals = equals; value = value }) ≡ named_fits result value }
 {
-    let place = name.span;
     let Some(wanted) = wanted_by(allowed, name) else {
-        let expected = unknown(allowed, name);
-        return Err(Unfit { place, expected });
+        return Err(unknown(allowed, name));
     };
     if !lacks(name.text, seen) {
-        let expected = Expected::UnsetOption;
-        return Err(Unfit { place, expected });
+        return Err(Expected::UnsetOption);
     }
     Ok(wanted)
 }

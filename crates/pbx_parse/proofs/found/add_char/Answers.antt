@@ -1,4 +1,4 @@
-use Rattle.std.proofs.Common.{◌≡◌, subst, sym, string_bytes}
+use Rattle.std.proofs.Common.{subst, sym, string_bytes}
 use Rattle.pbx_parse.specs.Errors.{IsOneLine}
 use Rattle.pbx_parse.proofs.OneLine.{one_line_more}
 use Rattle.pbx_parse.proofs.found.add_char.Goals as goal

@@ -3,4 +3,4 @@ use Rattle.pbx_token.specs.View.{BeginIn}
 use Rattle.pbx_parse.proofs.refusal.stop.Goals as goal
 
 pub returns-in-Some : goal.returns-in-Some
-returns-in-Some c = c.in-Some.ensures.starts c.args.front.now (subst (BeginIn c.args.front.now) (sym c.as_slice-in-Err.ensures.value) c.in-Ok.ensures.starts)
+returns-in-Some c = c.in-Some.ensures.starts c.args.source.now (subst (BeginIn c.args.source.now) (sym c.as_slice-in-Err.ensures.value) c.in_ok-tokens.ensures.starts)

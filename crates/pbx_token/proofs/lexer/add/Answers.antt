@@ -4,7 +4,7 @@ use Rattle.pbx_token.specs.declared.token.Word as code_word
 use Rattle.pbx_token.specs.declared.token.Token as code
 use Rattle.pbx_token.specs.Pieces.{is_semicolon}
 use Rattle.pbx_token.specs.Scan.{ends_after, Keeps}
-use Rattle.pbx_token.specs.View.{IsStart, BeginIn, tokens_of, word_of}
+use Rattle.pbx_token.specs.View.{tokens_of, word_of}
 use Rattle.pbx_token.proofs.Starts.{begin_more, begin_over}
 use Rattle.pbx_token.proofs.Semicolons.{Added, added, added_over}
 use Rattle.pbx_token.proofs.lexer.add.Goals as goal

@@ -14,14 +14,14 @@ use Rattle.pbx_token.proofs.Faults.{split_whole, split_next, cut_rest, within_mo
 use Rattle.pbx_token.proofs.Laws.{tokens_in}
 use Rattle.pbx_token.proofs.Steps.{goes_on, fails, is_done, not_zero}
 use Rattle.pbx_token.proofs.Utf8.{next_text}
-use Rattle.pbx_token.proofs.lexer.all.Goals as goal
+use Rattle.pbx_token.proofs.lexer.add_all.Goals as goal
 
 pub pieces-init : goal.pieces-init
 unfolding significant_after
 pieces-init c = record {
-  so_far = ap (λ (s : List code.Token). option_map (λ ps. significant (tokens_of s ++ tokens_from origin ps)) (pieces_at c.args.source.now)) c.new-tokens.ensures.items;
-  stay = subst (λ (s : List code.Token). significant (tokens_of s) ≡ tokens_of s) (sym c.new-tokens.ensures.items) refl;
-  starts = subst (BeginIn c.args.source.now) (sym c.new-tokens.ensures.items) (begin_none c.args.source.now);
+  so_far = ap (λ (s : List code.Token). option_map (λ ps. significant (tokens_of s ++ tokens_from origin ps)) (pieces_at c.args.source.now)) c.requires.empty;
+  stay = subst (λ (s : List code.Token). significant (tokens_of s) ≡ tokens_of s) (sym c.requires.empty) refl;
+  starts = subst (BeginIn c.args.source.now) (sym c.requires.empty) (begin_none c.args.source.now);
   at = place_none c.args.source.now;
   left = split_whole c.args.source.now;
   line = omega arith;

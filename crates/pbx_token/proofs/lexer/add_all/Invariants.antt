@@ -7,7 +7,7 @@ use Rattle.pbx_token.specs.Scan.{pieces_at}
 use Rattle.pbx_token.specs.View.{BeginIn, tokens_of}
 use Rattle.pbx_token.proofs.Faults.{Split}
 use Rattle.pbx_token.proofs.Laws.{tokens_in}
-use Rattle.pbx_token.proofs.lexer.all.Given as goal
+use Rattle.pbx_token.proofs.lexer.add_all.Given as goal
 
 abbrev pub invariant-pieces : goal.invariant-pieces
 invariant-pieces l = record {
