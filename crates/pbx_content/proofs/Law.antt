@@ -43,7 +43,7 @@ field_number n (g ∷ gs) f e = at (n == g.number) refl e (field_number n gs f)
 
 -- ---- records of one number
 
-abbrev HaveNumber : ℕ → List Rec → Type 0
+abbrev pub HaveNumber : ℕ → List Rec → Type 0
 HaveNumber n [] = Unit {0}
 HaveNumber n (r ∷ rs) = (number_of r ≡ n) × HaveNumber n rs
 
@@ -63,7 +63,7 @@ vals_number shape f (val (text s) vs) = (refl, vals_number shape f vs)
 vals_number shape f (val (message c) vs) = (refl, vals_number shape f vs)
 vals_number shape f (val (many ws) vs) = (refl, vals_number shape f vs)
 
-field_recs_number : (shape : Shape) (f : FieldShape) (v : Val) → HaveNumber f.number (field_recs shape (Some f) v)
+pub field_recs_number : (shape : Shape) (f : FieldShape) (v : Val) → HaveNumber f.number (field_recs shape (Some f) v)
 field_recs_number shape f (number z) = (refl, tt)
 field_recs_number shape f (truth b) = (refl, tt)
 field_recs_number shape f (text s) = (refl, tt)

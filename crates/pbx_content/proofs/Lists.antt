@@ -24,11 +24,11 @@ abbrev pub IsSorted : List Rec → Type 0
 IsSorted [] = Unit {0}
 IsSorted (s ∷ ss) = IsLow (number_of s) ss × IsSorted ss
 
-lower : (m n : ℕ) (ss : List Rec) → m ≤ n → IsLow n ss → IsLow m ss
+pub lower : (m n : ℕ) (ss : List Rec) → m ≤ n → IsLow n ss → IsLow m ss
 lower m n [] le h = tt
 lower m n (s ∷ ss) le h = (omega (arith, h.0), lower m n ss le h.1)
 
-low_insert : (n : ℕ) (r : Rec) (ss : List Rec) → n ≤ number_of r → IsLow n ss → IsLow n (insert r ss)
+pub low_insert : (n : ℕ) (r : Rec) (ss : List Rec) → n ≤ number_of r → IsLow n ss → IsLow n (insert r ss)
 low_insert n r [] le h = (le, tt)
 low_insert n r (s ∷ ss) le h = at (nat_lt (number_of s) (number_of r)) (low_insert n r ss le h.1)
   where

@@ -21,7 +21,7 @@ use Rattle.pbx_desc_shape.specs.Shape.{descriptor_shape}
 use Rattle.pbx_desc_shape.proofs.Proper.{descriptor_shape_proper}
 use Rattle.pbx_desc.specs.Building.{entries, followed_by, Puts, Holds}
 use Rattle.pbx_desc.specs.Sound.{AreOf, MayBe}
-use Rattle.pbx_desc.specs.Content.{listed, writable, fields_from, record_content}
+use Rattle.pbx_desc.specs.Content.{listed, fields_from, record_content}
 use Rattle.pbx_desc.specs.Unknown.{is_writable_beside}
 use Rattle.pbx_desc.proofs.Told.{val_of-Many}
 use Rattle.pbx_desc.proofs.Fields.{AreValues, are_plain, numbers, kept_is, content_sound}
@@ -80,6 +80,14 @@ puts_listed k n hs vs old new (Err e) is all h = tt
 
 -- ---- what is left to be put in
 
+-- the value of a field that is put in was the first of those that are left
+pub puts_behind : {v : Option Val} {old new : List Field} {c : Cardinality} {k : Kind} {n : ℕ} (g : FieldShape) (gs : List FieldShape) (vs : List (Option Val)) → Puts c k n v old new → g.number ≡ n
+    → followed_by (entries new) (fields_from gs vs) ≡ followed_by (entries old) (fields_from (g ∷ gs) (v ∷ vs))
+puts_behind {v} {old} {new} {c} {k} {n} g gs vs puts number =
+    ap (λ (fs : Fields). followed_by fs (fields_from gs vs)) puts.fields
+    ∙ followed-assoc (entries old) (with_field n v no_fields) (fields_from gs vs)
+    ∙ ap (followed_by (entries old)) (with-followed n v (fields_from gs vs) ∙ ap (λ m. with_field m v (fields_from gs vs)) (sym number))
+
 -- with the values that are left the list holds all values
 pub record IsLeft (all : List FieldShape) (values : List (Option Val)) (gs : List FieldShape) (vs : List (Option Val)) (list : List Field) : Type 0 where
   fields : followed_by (entries list) (fields_from gs vs) ≡ fields_from all values
@@ -90,17 +98,8 @@ start gs vs list e = record { fields = ap (λ (fs : List Field). followed_by (en
 
 pub next : {all : List FieldShape} {values : List (Option Val)} {g : FieldShape} {gs : List FieldShape} {v : Option Val} {vs : List (Option Val)} {old new : List Field} {c : Cardinality} {k : Kind} {n : ℕ}
     → IsLeft all values (g ∷ gs) (v ∷ vs) old → Puts c k n v old new → g.number ≡ n → g.cardinality ≡ c → g.kind ≡ k → IsLeft all values gs vs new
-next {all} {values} {g} {gs} {v} {vs} {old} {new} {c} {k} {n} left puts number cardinality kind = record { fields = behind; each = λ h. left.each (value, h) }
-  where
-    behind : followed_by (entries new) (fields_from gs vs) ≡ fields_from all values
-    behind =
-        ap (λ (fs : Fields). followed_by fs (fields_from gs vs)) puts.fields
-        ∙ followed-assoc (entries old) (with_field n v no_fields) (fields_from gs vs)
-        ∙ ap (followed_by (entries old)) (with-followed n v (fields_from gs vs) ∙ ap (λ m. with_field m v (fields_from gs vs)) (sym number))
-        ∙ left.fields
-
-    value : MayBe descriptor_shape g.cardinality g.kind v
-    value = rw (cardinality, kind) puts.value
+next {all} {values} {g} {gs} {v} {vs} {old} {new} {c} {k} {n} left puts number cardinality kind =
+    record { fields = puts_behind g gs vs puts number ∙ left.fields; each = λ h. left.each (rw (cardinality, kind) puts.value, h) }
 
 -- all values are put in, and the kept records stand beside them
 pub made : (t : ℕ) (gs : List FieldShape) (vs : List (Option Val)) (list : List Field) (unknown : List Rec) (contents : Contents) → fields_of descriptor_shape t ≡ gs → are_plain gs ≡ true

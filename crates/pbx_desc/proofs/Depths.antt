@@ -1,10 +1,10 @@
 -- No content has more levels than its record.
-use Rattle.std.proofs.Common.{◌≡◌, ℕ, suc, ◌+◌, ◌<◌, ◌≤◌, Bool, true, false, cond, List, [], ◌∷◌, map, Option, Some, None, option_map, refl, sym, subst, ap, ◌∙◌, arith}
+use Rattle.std.proofs.Common.{◌≡◌, ℕ, suc, ◌+◌, ◌<◌, ◌≤◌, Bool, true, false, cond, List, [], ◌∷◌, map, Option, Some, None, refl, sym, subst, ap, arith}
 use Rattle.std.specs.Prelude.{ℤ, max, All}
 use Rattle.pbx_wire.specs.Text.{depth_of}
 use Rattle.pbx_wire.specs.declared.rec.Rec.{Rec}
 use Rattle.pbx_content.specs.declared.shape.FieldShape.{FieldShape}
-use Rattle.pbx_content.specs.Content.{Content, Val, message, text, number, truth, vals_of}
+use Rattle.pbx_content.specs.Content.{Content, Val, message, text, number, vals_of}
 use Rattle.pbx_content.specs.Sound.{depth, fields_depth, val_depth, vals_depth}
 use Rattle.pbx_desc_shape.specs.Shape.{set_fields, file_fields, message_fields, field_fields, extension_range_fields, reserved_range_fields, oneof_fields, enum_fields, enum_reserved_range_fields, enum_value_fields, service_fields, method_fields, source_code_info_fields, location_fields}
 use Rattle.pbx_desc.specs.declared.enumeration.EnumDescriptorProto.{EnumDescriptorProto}
@@ -23,7 +23,7 @@ use Rattle.pbx_desc.specs.declared.service.MethodDescriptorProto.{MethodDescript
 use Rattle.pbx_desc.specs.declared.service.ServiceDescriptorProto.{ServiceDescriptorProto}
 use Rattle.pbx_desc.specs.declared.source.Location.{Location}
 use Rattle.pbx_desc.specs.declared.source.SourceCodeInfo.{SourceCodeInfo}
-use Rattle.pbx_desc.specs.Content.{listed, is_writable, writable, fields_from, record_content, of_text, of_number, of_truth, of_texts, of_numbers, of_record, of_records, of_options, options_content, extension_range_values, extension_range_content, reserved_range_values, reserved_range_content, field_values, field_content, oneof_values, oneof_content, enum_reserved_range_values, enum_reserved_range_content, enum_value_values, enum_value_content, enum_values, enum_content, method_values, method_content, service_values, service_content, location_values, location_content, source_code_info_values, source_code_info_content, message_values, message_step, message_content, file_values, file_content, file_value, file_set_values, file_set_content, files_content}
+use Rattle.pbx_desc.specs.Content.{listed, is_writable, writable, fields_from, record_content, of_text, of_number, of_truth, of_texts, of_numbers, of_record, of_records, of_options, options_content, extension_range_values, extension_range_content, reserved_range_values, reserved_range_content, field_values, field_content, oneof_values, oneof_content, enum_reserved_range_values, enum_reserved_range_content, enum_value_values, enum_value_content, enum_values, enum_content, method_values, method_content, service_values, service_content, location_values, location_content, source_code_info_values, source_code_info_content, message_values, message_step, message_content, file_values, file_content, file_set_values, file_set_content, files_content}
 use Rattle.pbx_desc.specs.Levels.{greatest, levels_of, below, below_one, options_levels, extension_range_levels, reserved_range_levels, field_levels, oneof_levels, enum_reserved_range_levels, enum_value_levels, enum_levels, method_levels, service_levels, location_levels, source_code_info_levels, message_levels_step, message_levels, file_levels, file_set_levels}
 use Rattle.pbx_desc.proofs.Messages.{layer_with}
 

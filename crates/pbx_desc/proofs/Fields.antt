@@ -1,5 +1,5 @@
 -- What a type asks of a content that has values in the order of the type's fields.
-use Rattle.std.proofs.Common.{◌≡◌, ℕ, ◌+◌, ◌^◌, ◌<◌, ◌≤◌, Bool, true, false, not, ◌&&◌, if◌then◌else◌, cond, List, [], ◌∷◌, ◌++◌, length, map, Option, Some, None, subst, refl, sym, ap, ◌∙◌, arith, inl}
+use Rattle.std.proofs.Common.{◌≡◌, ℕ, ◌^◌, ◌<◌, ◌≤◌, Bool, true, false, not, ◌&&◌, if◌then◌else◌, cond, List, [], ◌∷◌, ◌++◌, length, map, Option, Some, None, subst, refl, sym, arith, inl}
 use Rattle.std.specs.Prelude.{◌==◌, is_none}
 use Rattle.std.specs.List.{filter}
 use Rattle.std.proofs.lemmas.Bool.{eqb-true, eq-eqb}
@@ -16,8 +16,8 @@ use Rattle.pbx_content.specs.Content.{Fields, no_fields, Val, number, truth, tex
 use Rattle.pbx_content.specs.Records.{number_of, any}
 use Rattle.pbx_content.specs.Shape.{fields_of, keeps_order_of, field_of, is_float, is_numeric, is_kept, is_read_as, is_rival}
 use Rattle.pbx_content.specs.Meaning.{with_field}
-use Rattle.pbx_content.specs.Encoding.{encoded, content_recs, with_kept, fields_recs, field_recs, vals_recs, val_rec, type_of, is_packed, packed_text}
-use Rattle.pbx_content.specs.Sound.{AreAbove, IsSound, AreSound, IsSoundAt, AreElements, IsElement, AreKept}
+use Rattle.pbx_content.specs.Encoding.{encoded, with_kept, fields_recs, field_recs, vals_recs, val_rec, type_of, is_packed, packed_text}
+use Rattle.pbx_content.specs.Sound.{AreAbove, AreSound, IsSoundAt, AreElements, IsElement, AreKept}
 use Rattle.pbx_desc.specs.Content.{listed, writable, fields_from, record_content}
 use Rattle.pbx_desc.specs.Unknown.{has_one_of, is_writable_beside}
 use Rattle.pbx_desc.specs.Sound.{IsSoundIfShort, IsOf, AreOf, MayBe}
@@ -70,7 +70,7 @@ numbers gs = map (λ (g : FieldShape). g.number) gs
 -- ---- fields by their numbers
 
 -- each of the fields is the one of its number
-abbrev AreFound : List FieldShape → List FieldShape → Type 0
+abbrev pub AreFound : List FieldShape → List FieldShape → Type 0
 AreFound all [] = Unit {0}
 AreFound all (g ∷ gs) = (field_of g.number all ≡ Some g) × AreFound all gs
 
@@ -92,7 +92,7 @@ found_behind n f all (g ∷ gs) le above h = (
   found_behind n f all gs le (above_lower n g.number gs (omega (arith, above.0)) above.2) h.1,
 )
 
-found : (n : ℕ) (gs : List FieldShape) → AreAbove n gs → AreFound gs gs
+pub found : (n : ℕ) (gs : List FieldShape) → AreAbove n gs → AreFound gs gs
 found n [] above = tt
 found n (g ∷ gs) above = (rw (eq-eqb g.number g.number refl) refl, found_behind g.number g gs gs (omega arith) above.2 (found g.number gs above.2))
 

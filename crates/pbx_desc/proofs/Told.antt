@@ -1,21 +1,17 @@
 -- Trees that are made field by field, and lists of values.
 use Rattle.std.proofs.Common.{◌≡◌, ℕ, ◌+◌, ◌<◌, List, [], ◌∷◌, ◌++◌, length, take, get_or, map, true, sym, ap, ◌∙◌, rules}
-use Rattle.std.specs.Prelude.{ℤ, Bool, Result, Ok, Err, OnOk, IfOk}
+use Rattle.std.specs.Prelude.{Bool, Result, Ok, Err, OnOk, IfOk}
 use Rattle.std.specs.Str.{IsUtf8, is_utf8}
 use Rattle.std.proofs.lemmas.Str.{is_utf8-from_IsUtf8}
 use Rattle.std.proofs.lemmas.List.{take_more, map-append}
-use Rattle.pbx_wire.specs.declared.rec.Rec.{Rec}
 use Rattle.pbx_wire.specs.declared.text.Text.{Text}
 use Rattle.pbx_content.specs.declared.shape.Kind.{Kind}
 use Rattle.pbx_content.specs.declared.shape.Shape.{Shape}
 use Rattle.pbx_content.specs.declared.contents.Held.{Held}
 use Rattle.pbx_content.specs.declared.contents.Held as held
-use Rattle.pbx_content.specs.declared.contents.Field.{Field}
-use Rattle.pbx_content.specs.declared.contents.Held.TheViews.{roll-Contents}
 use Rattle.pbx_content.specs.declared.contents.Contents.{Contents, the_lemmas}
-use Rattle.pbx_content.specs.Content.{Content, content, number, truth, text, message, many, Val, vals_of}
+use Rattle.pbx_content.specs.Content.{Content, truth, text, message, many, Val, vals_of}
 use Rattle.pbx_content.specs.View.{content_of, val_of}
-use Rattle.pbx_desc.specs.Building.{entries}
 use Rattle.pbx_desc.specs.Sound.{IsOf, AreOf}
 
 pub val_of-Text : (t : Text) → val_of (held.Text t) ≡ text t
@@ -56,6 +52,10 @@ same_utf8 s t e h = rw (← e) (is_utf8-from_IsUtf8 s h)
 pub if_ok : {X E : Type 0} (P Q : X → Type 0) (r : Result X E) → ((x : X) → P x → Q x) → IfOk r P → IfOk r Q
 if_ok P Q (Ok x) f h = f x h
 if_ok P Q (Err e) f h = tt
+
+pub on_both : {X E P Q S : Type 0} (r : Result X E) → (P → Q → S) → OnOk r P → OnOk r Q → OnOk r S
+on_both (Ok x) f h k = f h k
+on_both (Err e) f h k = tt
 
 -- one message more
 pub message_pushed : (hs : List Held) (c : Contents) (x : Content) → content_of c ≡ x → map val_of (hs ++ held.Message c ∷ []) ≡ map val_of hs ++ message x ∷ []

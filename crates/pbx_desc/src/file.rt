@@ -1,6 +1,7 @@
 ghost use Rattle.std.specs.Prelude.{◌≡◌, None, [], IfOk, OnOk};
 ghost use Rattle.pbx_content.specs.View.{content_of};
-ghost use Rattle.pbx_desc_shape.specs.Shape.{descriptor_shape};
+ghost use Rattle.pbx_desc_shape.specs.Shape.{descriptor_shape as descriptor_shape_of};
+ghost use Rattle.pbx_desc.specs.Building.{IsWritten};
 ghost use Rattle.pbx_desc.specs.Content.{file_set_content, file_content};
 ghost use Rattle.pbx_desc.specs.Sound.{IsSoundIfShort};
 
@@ -11,10 +12,11 @@ use crate::enumeration::EnumDescriptorProto;
 use crate::field::FieldDescriptorProto;
 use crate::message::DescriptorProto;
 use crate::options::Options;
+use crate::parts::{put_fields, put_records, put_source};
 use crate::service::ServiceDescriptorProto;
 use crate::source::SourceCodeInfo;
-use pbx_content::Contents;
-use pbx_desc_shape::place;
+use pbx_content::{Contents, Shape, encoding_decodes};
+use pbx_desc_shape::{descriptor_shape, place};
 use pbx_wire::{List, NoMemory, Recs, Text, Texts, copy_recs};
 use std::alloc::Global;
 
@@ -64,7 +66,7 @@ impl HasContents for FileDescriptorSet {
 }
 
 impl Message for FileDescriptorSet {
-    ghost shape = { λ _. descriptor_shape };
+    ghost shape = { λ _. descriptor_shape_of };
 
     ghost type_at = { λ _. 0 };
 
@@ -173,10 +175,37 @@ impl FileDescriptorProto {
         Ok(())
     }
 
+    /// Puts the encoding behind the text, part by part: the content of the whole would be larger than the file itself.
+    fn write(&self, alloc: Global, shape: &Shape, out: &mut Vec<u8>) -> Result<(), NoMemory>
+        requires { shape.now ≡ descriptor_shape_of }
+        ensures { OnOk result (IsWritten 1 (file_content self.now) out.old.items out.new.items) }
+    {
+        let none = Recs::new(alloc);
+        let mut front = FieldList::new(alloc);
+        front.text(1, &self.name)?;
+        front.text(2, &self.package)?;
+        front.texts(3, &self.dependency)?;
+        put_fields(alloc, shape, place::FILE, front, &none, &[], out)?;
+        put_records(alloc, shape, 4, &self.message_type, out)?;
+        put_records(alloc, shape, 5, &self.enum_type, out)?;
+        put_records(alloc, shape, 6, &self.service, out)?;
+        put_records(alloc, shape, 7, &self.extension, out)?;
+        let mut middle = FieldList::new(alloc);
+        middle.options(8, &self.options)?;
+        put_fields(alloc, shape, place::FILE, middle, &none, &[], out)?;
+        put_source(alloc, shape, 9, &self.source_code_info, out)?;
+        let mut back = FieldList::new(alloc);
+        back.numbers(10, &self.public_dependency)?;
+        back.numbers(11, &self.weak_dependency)?;
+        back.text(12, &self.syntax)?;
+        let known = [1, 2, 3, 4, 5, 6, 7, 8, 9, 10, 11, 12];
+        put_fields(alloc, shape, place::FILE, back, &self.unknown, &known, out)
+    }
+
     /// What the file holds as a message of its type. The only error is want of memory.
     pub fn contents(&self, alloc: Global) -> Result<Contents, NoMemory>
         ensures content { IfOk result (λ contents. content_of contents ≡ file_content self.now) }
-        ensures sound { OnOk result (IsSoundIfShort descriptor_shape 1 (file_content self.now)) }
+        ensures sound { OnOk result (IsSoundIfShort descriptor_shape_of 1 (file_content self.now)) }
     {
         self.to_contents(alloc)
     }
@@ -208,13 +237,17 @@ impl HasContents for FileDescriptorProto {
 }
 
 impl Message for FileDescriptorProto {
-    ghost shape = { λ _. descriptor_shape };
+    ghost shape = { λ _. descriptor_shape_of };
 
     ghost type_at = { λ _. 1 };
 
     ghost content = { file_content };
 
     fn encode_to_vec(&self, alloc: Global) -> Result<Vec<u8>, NoMemory> {
-        record_bytes(alloc, self)
+        encoding_decodes();
+        let shape = descriptor_shape(alloc)?;
+        let mut bytes = Vec::new(alloc);
+        self.write(alloc, &shape, &mut bytes)?;
+        Ok(bytes)
     }
 }

@@ -14,6 +14,7 @@ mod file;
 mod laws;
 mod message;
 mod options;
+mod parts;
 mod service;
 mod set;
 mod source;

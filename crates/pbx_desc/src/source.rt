@@ -1,12 +1,14 @@
 ghost use Rattle.std.specs.Prelude.{◌≡◌, None, [], IfOk, OnOk};
-ghost use Rattle.pbx_desc_shape.specs.Shape.{descriptor_shape};
+ghost use Rattle.pbx_desc_shape.specs.Shape.{descriptor_shape as descriptor_shape_of};
+ghost use Rattle.pbx_desc.specs.Building.{IsWritten};
 ghost use Rattle.pbx_desc.specs.Content.{source_code_info_content, location_content};
 
 use crate::contents::{FieldList, HasContents};
 use crate::copy::{Duplicate, copy_to};
 use crate::encoding::{Message, record_bytes};
-use pbx_content::Contents;
-use pbx_desc_shape::place;
+use crate::parts::{put_fields, put_records};
+use pbx_content::{Contents, Shape, encoding_decodes};
+use pbx_desc_shape::{descriptor_shape, place};
 use pbx_wire::{List, NoMemory, Recs, Text, Texts, copy_recs};
 use std::alloc::Global;
 
@@ -39,6 +41,29 @@ impl SourceCodeInfo {
             unknown: copy_recs(&self.unknown, alloc)?,
         })
     }
+
+    /// Puts the encoding behind the text, place by place.
+    pub(crate) fn write(
+        &self,
+        alloc: Global,
+        shape: &Shape,
+        out: &mut Vec<u8>,
+    ) -> Result<(), NoMemory>
+        requires { shape.now ≡ descriptor_shape_of }
+        ensures { OnOk result (IsWritten 12 (source_code_info_content self.now) out.old.items out.new.items) }
+    {
+        put_records(alloc, shape, 1, &self.location, out)?;
+        let none = FieldList::new(alloc);
+        put_fields(
+            alloc,
+            shape,
+            place::SOURCE_CODE_INFO,
+            none,
+            &self.unknown,
+            &[1],
+            out,
+        )
+    }
 }
 
 impl HasContents for SourceCodeInfo {
@@ -56,14 +81,18 @@ impl HasContents for SourceCodeInfo {
 }
 
 impl Message for SourceCodeInfo {
-    ghost shape = { λ _. descriptor_shape };
+    ghost shape = { λ _. descriptor_shape_of };
 
     ghost type_at = { λ _. 12 };
 
     ghost content = { source_code_info_content };
 
     fn encode_to_vec(&self, alloc: Global) -> Result<Vec<u8>, NoMemory> {
-        record_bytes(alloc, self)
+        encoding_decodes();
+        let shape = descriptor_shape(alloc)?;
+        let mut bytes = Vec::new(alloc);
+        self.write(alloc, &shape, &mut bytes)?;
+        Ok(bytes)
     }
 }
 
@@ -155,7 +184,7 @@ impl HasContents for Location {
 }
 
 impl Message for Location {
-    ghost shape = { λ _. descriptor_shape };
+    ghost shape = { λ _. descriptor_shape_of };
 
     ghost type_at = { λ _. 13 };
 

@@ -30,6 +30,9 @@ fn answer(alloc: Global, row: &Row) -> Result<String, Stop> {
     match row.asked() {
         "varints" => wire::varints(alloc, row),
         "read-records" => wire::read(alloc, row),
+        "read-nested" => wire::nested(alloc, row),
+        "read-front" => wire::front(alloc, row),
+        "front-key" => wire::key(alloc, row),
         "write-records" => wire::written(alloc, row),
         "append-record" => wire::appended(alloc, row),
         "joined" => wire::joined(alloc, row),

@@ -1,9 +1,9 @@
 //! Asks of `pbx_wire`: records, texts, lists and blobs. What is wanted follows Protocol Buffers "Encoding".
 
-use crate::stop::{Stop, shown, small};
+use crate::stop::{Stop, shown, small, word};
 use pbx_wire::{
-    Blob, List, Rec, Recs, Text, copy_recs, read_recs, recs_text, varints_text, write_rec,
-    write_recs,
+    Blob, List, Rec, Recs, Text, copy_recs, front_key, read_rec, read_recs, rec_len, recs_text,
+    varints_text, write_rec, write_recs,
 };
 use std::alloc::{AllocError, Global};
 use test_rows::Row;
@@ -45,6 +45,63 @@ fn counted(alloc: Global, recs: &Recs) -> Result<String, Stop> {
 pub(crate) fn read(alloc: Global, row: &Row) -> Result<String, Stop> {
     match read_recs(alloc, row.bytes(1), small(row.number(0))) {
         Ok(recs) => counted(alloc, &recs),
+        Err(fault) => Ok(format!(in alloc; "{fault}")?),
+    }
+}
+
+/// Of an offset, a number of levels and bytes: the text of the record at their front, and the bytes behind it.
+pub(crate) fn front(alloc: Global, row: &Row) -> Result<String, Stop> {
+    let (at, levels) = (row.number(0) as usize, row.number(1) as usize);
+    match read_rec(alloc, at, row.bytes(2), levels) {
+        Ok(Some(front)) => {
+            let (rec, rest) = front;
+            let mut recs = Recs::new(alloc);
+            recs.add(rec)?;
+            let text = text_of(alloc, &recs)?;
+            let rest = shown(alloc, rest)?;
+            Ok(format!(in alloc; "{text} {rest}")?)
+        }
+        Ok(None) => word(alloc, "none"),
+        Err(fault) => Ok(format!(in alloc; "{fault}")?),
+    }
+}
+
+/// Of bytes: the number and the wire type of the key at their front.
+pub(crate) fn key(alloc: Global, row: &Row) -> Result<String, Stop> {
+    match front_key(row.bytes(0)) {
+        Some((number, kind)) => Ok(format!(in alloc; "{number} {kind}")?),
+        None => word(alloc, "none"),
+    }
+}
+
+/// So many groups of number 1, one in the other.
+fn groups(alloc: Global, count: u64) -> Result<Vec<u8>, AllocError> {
+    let mut bytes = Vec::new(alloc);
+    for _ in 0..count {
+        bytes.push(0x0b)?;
+    }
+    for _ in 0..count {
+        bytes.push(0x0c)?;
+    }
+    Ok(bytes)
+}
+
+/// How many records a copy has, and the lengths of its text as it is written and as that of the first is counted.
+fn lengths(alloc: Global, recs: &Recs) -> Result<String, Stop> {
+    let copy = copy_recs(recs, alloc)?;
+    let text = recs_text(alloc, &copy)?;
+    let first = match copy.as_slice() {
+        [] => None,
+        [first, ..] => rec_len(first),
+    };
+    Ok(format!(in alloc; "{} {} {first:?}", copy.len(), text.as_slice().len())?)
+}
+
+/// Of a number of levels and a number of groups in one another: what is read of these.
+pub(crate) fn nested(alloc: Global, row: &Row) -> Result<String, Stop> {
+    let bytes = groups(alloc, row.number(1))?;
+    match read_recs(alloc, bytes.as_slice(), small(row.number(0))) {
+        Ok(recs) => lengths(alloc, &recs),
         Err(fault) => Ok(format!(in alloc; "{fault}")?),
     }
 }

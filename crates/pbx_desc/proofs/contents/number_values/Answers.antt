@@ -1,4 +1,4 @@
-use Rattle.std.proofs.Common.{◌≡◌, get_or, ap, ◌∙◌, sym, subst, of_z, to_z, rules}
+use Rattle.std.proofs.Common.{◌≡◌, get_or, ap, ◌∙◌, subst, of_z, to_z, rules}
 use Rattle.std.specs.Prelude.{pos}
 use Rattle.std.specs.Int.{w32}
 use Rattle.std.specs.Int.RustNames.{FitsSigned}

@@ -1,0 +1,215 @@
+-- Texts of contents that are made part by part.
+use Rattle.std.proofs.Common.{◌≡◌, ℕ, ◌+◌, ◌*◌, ◌^◌, ◌<◌, ◌≤◌, Bool, true, false, ◌&&◌, if◌then◌else◌, List, [], ◌∷◌, ◌++◌, length, map, take, get_or, Option, Some, None, subst, refl, sym, ap, ◌∙◌, append_assoc, append-nil}
+use Rattle.std.specs.List.{concat, filter}
+use Rattle.std.proofs.lemmas.List.{map-append, take_all}
+use Rattle.pbx_wire.specs.Varint.{varint}
+use Rattle.pbx_wire.specs.Text.{text as text_of_rec, text_of, are_fit}
+use Rattle.pbx_wire.specs.declared.rec.Rec.{Rec}
+use Rattle.pbx_wire.specs.declared.rec.Rec.TheVariants as rec
+use Rattle.pbx_content.specs.declared.contents.Field.{Field}
+use Rattle.pbx_content.specs.declared.shape.Cardinality.{Cardinality}
+use Rattle.pbx_content.specs.declared.shape.Cardinality.TheVariants.{Repeated}
+use Rattle.pbx_content.specs.declared.shape.FieldShape.{FieldShape}
+use Rattle.pbx_content.specs.declared.shape.Shape.{Shape}
+use Rattle.pbx_content.specs.declared.shape.Kind.{Kind}
+use Rattle.pbx_content.specs.declared.shape.Kind.TheVariants as kind
+use Rattle.pbx_content.specs.Content.{Content, content, Fields, Val, number, truth, text, message, many, Vals, no_vals, val, vals_of}
+use Rattle.pbx_content.specs.Meaning.{with_field}
+use Rattle.pbx_content.specs.Shape.{fields_of, keeps_order_of, field_of, is_numeric}
+use Rattle.pbx_content.specs.Encoding.{encoded, content_recs, payload, with_kept, fields_recs, field_recs, vals_recs, val_rec, packed_text}
+use Rattle.pbx_content.specs.Laws.{EncodingDecodes}
+use Rattle.pbx_content.specs.Same.{Decodes}
+use Rattle.pbx_content.specs.Sound.{AreAbove, depth}
+use Rattle.pbx_content.proofs.Records.{taken_more}
+use Rattle.pbx_desc_shape.specs.Shape.{descriptor_shape, list_field}
+use Rattle.pbx_desc_shape.proofs.Proper.{descriptor_shape_proper}
+use Rattle.pbx_desc.specs.Building.{entries, followed_by, Puts, value_recs, Writes, IsWritten}
+use Rattle.pbx_desc.specs.Content.{of_records, fields_from, record_content}
+use Rattle.pbx_desc.specs.Sound.{AreOf}
+use Rattle.pbx_desc.specs.Unknown.{is_writable_beside}
+use Rattle.pbx_desc.proofs.Ascending.{Remains, remains_next, front_alone, is_run, fields_remain, fields_recs-followed}
+use Rattle.pbx_desc.proofs.Built.{entries-same, puts_behind}
+use Rattle.pbx_desc.proofs.Fields.{AreValues, are_plain, numbers, found, kept_is, content_sound}
+use Rattle.pbx_desc.proofs.Lengths.{bytes_text, text_of-append}
+
+-- ---- payloads and records
+
+pub payload_put : (n : ℕ) (bytes old mid new head : List ℕ) → head ≡ concat (map varint ((n * 8 + 2) ∷ length bytes ∷ [])) → mid ≡ old ++ head → new ≡ mid ++ bytes → new ≡ old ++ text_of_rec (rec.Bytes n bytes)
+payload_put n bytes old mid new head is begun ended =
+    let key = varint (n * 8 + 2) in
+    let len = varint (length bytes) in
+    ended
+    ∙ ap (λ (t : List ℕ). t ++ bytes) (begun ∙ ap (λ (t : List ℕ). old ++ t) is)
+    ∙ ap (λ (t : List ℕ). (old ++ (key ++ t)) ++ bytes) (append-nil len)
+    ∙ append_assoc old (key ++ len) bytes
+    ∙ ap (λ (t : List ℕ). old ++ t) (sym (bytes_text n bytes))
+
+-- one record more
+pub sent_more : {X : Type 0} (g : X → Rec) (xs : List X) (i : ℕ) (x : X) → i < length xs → x ≡ get_or xs i x → text_of (map g (take (i + 1) xs)) ≡ text_of (map g (take i xs)) ++ text_of_rec (g x)
+sent_more {X} g xs i x lt is =
+    ap (λ (ys : List X). text_of (map g ys)) (taken_more xs i x lt is)
+    ∙ ap text_of (map-append g (take i xs) (x ∷ []))
+    ∙ text_of-append (map g (take i xs)) (g x ∷ [])
+    ∙ ap (λ (t : List ℕ). text_of (map g (take i xs)) ++ t) (append-nil (text_of_rec (g x)))
+
+pub sent_next : {X : Type 0} (g : X → Rec) (xs : List X) (i : ℕ) (x : X) (first old new : List ℕ) → i < length xs → x ≡ get_or xs i x → old ≡ first ++ text_of (map g (take i xs)) → new ≡ old ++ text_of_rec (g x)
+    → new ≡ first ++ text_of (map g (take (i + 1) xs))
+sent_next g xs i x first old new lt is before here =
+    here
+    ∙ ap (λ (t : List ℕ). t ++ text_of_rec (g x)) before
+    ∙ append_assoc first (text_of (map g (take i xs))) (text_of_rec (g x))
+    ∙ ap (λ (t : List ℕ). first ++ t) (sym (sent_more g xs i x lt is))
+
+pub sent_here : (n t u : ℕ) (shape : Shape) (c d : Content) (bytes own old new : List ℕ) → new ≡ old ++ text_of_rec (rec.Bytes n bytes) → bytes ≡ own → own ≡ encoded shape u c → shape ≡ descriptor_shape → u ≡ t → c ≡ d
+    → new ≡ old ++ text_of_rec (payload n (content_recs descriptor_shape t d))
+sent_here n t u shape c d bytes own old new sent is here same type content_is =
+    sent
+    ∙ ap (λ (b : List ℕ). old ++ text_of_rec (rec.Bytes n b))
+    (is ∙ here ∙ ap (λ (s : Shape). encoded s u c) same ∙ ap (λ (k : ℕ). encoded descriptor_shape k c) type ∙ ap (encoded descriptor_shape t) content_is)
+
+vals_sent : {R : Type 0} (n t : ℕ) (f : R → Content) (rs : List R)
+    → vals_recs descriptor_shape (list_field n [] [] (kind.Message t)) (vals_of (map (λ r. message (f r)) rs)) ≡ map (λ r. payload n (content_recs descriptor_shape t (f r))) rs
+vals_sent n t f [] = refl
+vals_sent n t f (r ∷ rs) = ap (λ (xs : List Rec). payload n (content_recs descriptor_shape t (f r)) ∷ xs) (vals_sent n t f rs)
+
+pub records_sent : {R : Type 0} (n t : ℕ) (f : R → Content) (rs : List R) → map (λ r. payload n (content_recs descriptor_shape t (f r))) rs ≡ value_recs n (kind.Message t) (of_records f rs)
+records_sent n t f [] = refl
+records_sent n t f (r ∷ rs) = sym (vals_sent n t f (r ∷ rs))
+
+pub all_sent : {R : Type 0} (n t : ℕ) (f : R → Content) (items rs : List R) (i : ℕ) (old new : List ℕ) → items ≡ rs → length items ≤ i
+    → new ≡ old ++ text_of (map (λ r. payload n (content_recs descriptor_shape t (f r))) (take i items)) → AreOf descriptor_shape (kind.Message t) (map (λ r. message (f r)) (take i items))
+    → Writes Repeated (kind.Message t) n (of_records f rs) old new
+all_sent {R} n t f items rs i old new is le e sound =
+    let all : take i items ≡ rs = take_all i items le ∙ is in
+    record {
+      text = e ∙ ap (λ (xs : List R). old ++ text_of (map (λ r. payload n (content_recs descriptor_shape t (f r))) xs)) all ∙ ap (λ (xs : List Rec). old ++ text_of xs) (records_sent n t f rs);
+      value = (map (λ r. message (f r)) rs, refl, subst (λ (xs : List R). AreOf descriptor_shape (kind.Message t) (map (λ r. message (f r)) xs)) all sound);
+    }
+
+-- ---- a field alone
+
+val_alike : (shape : Shape) (f g : FieldShape) (v : Val) → f.number ≡ g.number → f.kind ≡ g.kind → val_rec shape f v ≡ val_rec shape g v
+val_alike shape f g (number z) e k = rw (e, k) refl
+val_alike shape f g (truth b) e k = rw e refl
+val_alike shape f g (text s) e k = rw e refl
+val_alike shape f g (message c) e k = rw (e, k) refl
+val_alike shape f g (many vs) e k = rw e refl
+
+vals_alike : (shape : Shape) (f g : FieldShape) (vs : Vals) → f.number ≡ g.number → f.kind ≡ g.kind → vals_recs shape f vs ≡ vals_recs shape g vs
+vals_alike shape f g no_vals e k = refl
+vals_alike shape f g (val v vs) e k = ap (λ (r : Rec). r ∷ vals_recs shape f vs) (val_alike shape f g v e k) ∙ ap (λ (rs : List Rec). val_rec shape g v ∷ rs) (vals_alike shape f g vs e k)
+
+-- fields that are not packed are told by number and kind
+field_alike : (shape : Shape) (f g : FieldShape) (v : Val) → f.number ≡ g.number → f.kind ≡ g.kind → f.packed ≡ false → g.packed ≡ false → field_recs shape (Some f) v ≡ field_recs shape (Some g) v
+field_alike shape f g (number z) e k p q = rw (e, k) refl
+field_alike shape f g (truth b) e k p q = rw e refl
+field_alike shape f g (text s) e k p q = rw e refl
+field_alike shape f g (message c) e k p q = rw (e, k) refl
+field_alike shape f g (many vs) e k p q = alone f p ∙ vals_alike shape f g vs e k ∙ sym (alone g q)
+  where
+    alone : (h : FieldShape) → h.packed ≡ false → field_recs shape (Some h) (many vs) ≡ vals_recs shape h vs
+    alone h not_packed = ap (λ b. if b && is_numeric h.kind then rec.Bytes h.number (packed_text h.kind vs) ∷ [] else vals_recs shape h vs) not_packed
+
+with_recs : (all : List FieldShape) (g : FieldShape) (k : Kind) (n : ℕ) (v : Option Val) (fs : Fields) → g.number ≡ n → g.kind ≡ k → g.packed ≡ false → field_of g.number all ≡ Some g
+    → fields_recs descriptor_shape all (with_field g.number v fs) ≡ value_recs n k v ++ fields_recs descriptor_shape all fs
+with_recs all g k n None fs e is packed here = refl
+with_recs all g k n (Some v) fs e is packed here =
+    ap (λ (o : Option FieldShape). field_recs descriptor_shape o v ++ fields_recs descriptor_shape all fs) here
+    ∙ ap (λ (rs : List Rec). rs ++ fields_recs descriptor_shape all fs) (field_alike descriptor_shape g (list_field n [] [] k) v e is packed refl)
+
+-- ---- the whole, part by part
+
+-- Of the values these are left to be written, behind those of the list, which is made before it is written.
+pub record IsOpen (t : ℕ) (all : List FieldShape) (values : List (Option Val)) (kept : List Rec) (whole : List ℕ) (gs : List FieldShape) (vs : List (Option Val)) (list : List Field) (text : List ℕ) : Type 0 where
+  left : Remains (keeps_order_of descriptor_shape t) whole (fields_recs descriptor_shape all (followed_by (entries list) (fields_from gs vs))) kept text
+  each : AreValues descriptor_shape gs vs → AreValues descriptor_shape all values
+
+-- the text that is to be
+abbrev pub goal_text : ℕ → List FieldShape → List (Option Val) → List Rec → List ℕ → List ℕ
+goal_text t all values unknown old = old ++ encoded descriptor_shape t (content (fields_from all values) (filter (is_writable_beside (numbers all)) unknown))
+
+pub begin : (t : ℕ) (all : List FieldShape) (values : List (Option Val)) (unknown : List Rec) (old : List ℕ) → fields_of descriptor_shape t ≡ all → is_run 0 all ≡ true
+    → IsOpen t all values (filter (is_writable_beside (numbers all)) unknown) (goal_text t all values unknown old) all values [] old
+begin t all values unknown old type run =
+    let kept = filter (is_writable_beside (numbers all)) unknown in
+    let above = subst (AreAbove 0) type (descriptor_shape_proper t) in
+    let remain = fields_remain descriptor_shape all values unknown above (found 0 all above) run in
+    record {
+      left = record {
+        whole_is = ap (λ (gs : List FieldShape). old ++ text_of (with_kept (keeps_order_of descriptor_shape t) (fields_recs descriptor_shape gs (fields_from all values)) kept)) type;
+        ascend = remain.0;
+        apart = remain.1;
+      };
+      each = λ h. h;
+    }
+
+-- a list is begun
+pub anew : {t : ℕ} {all : List FieldShape} {values : List (Option Val)} {kept : List Rec} {whole : List ℕ} {gs : List FieldShape} {vs : List (Option Val)} {text : List ℕ} (list : List Field)
+    → IsOpen t all values kept whole gs vs [] text → list ≡ [] → IsOpen t all values kept whole gs vs list text
+anew {t} {all} {values} {kept} {whole} {gs} {vs} {text} list state e = subst (λ (fs : List Field). IsOpen t all values kept whole gs vs fs text) (sym e) state
+
+-- a value is put into the list
+pub added : {t : ℕ} {all : List FieldShape} {values : List (Option Val)} {kept : List Rec} {whole : List ℕ} {g : FieldShape} {gs : List FieldShape} {v : Option Val} {vs : List (Option Val)} {text : List ℕ}
+    {old new : List Field} {c : Cardinality} {k : Kind} {n : ℕ} → IsOpen t all values kept whole (g ∷ gs) (v ∷ vs) old text → Puts c k n v old new → g.number ≡ n → g.cardinality ≡ c → g.kind ≡ k
+    → IsOpen t all values kept whole gs vs new text
+added {t} {all} {values} {kept} {whole} {g} {gs} {v} {vs} {text} {old} {new} {c} {k} {n} state puts e cardinality is = record {
+  left = subst (λ (fs : Fields). Remains (keeps_order_of descriptor_shape t) whole (fields_recs descriptor_shape all fs) kept text) (sym (puts_behind g gs vs puts e)) state.left;
+  each = λ h. state.each (rw (cardinality, is) puts.value, h);
+}
+
+-- the list is written
+pub flushed : {t : ℕ} {all : List FieldShape} {values : List (Option Val)} {kept : List Rec} {whole : List ℕ} {gs : List FieldShape} {vs : List (Option Val)} {old : List ℕ} (list : List Field)
+    (shape : Shape) (p : Rec → Bool) (none : List Rec) (new : List ℕ) → IsOpen t all values kept whole gs vs list old → fields_of descriptor_shape t ≡ all → shape ≡ descriptor_shape
+    → none ≡ [] → new ≡ old ++ encoded shape t (content (entries list) (filter p none)) → IsOpen t all values kept whole gs vs [] new
+flushed {t} {all} {values} {kept} {whole} {gs} {vs} {old} list shape p none new state type same nothing e =
+    let keeps = keeps_order_of descriptor_shape t in
+    let xs = fields_recs descriptor_shape all (entries list) in
+    let ys = fields_recs descriptor_shape all (fields_from gs vs) in
+    let left : Remains keeps whole (xs ++ ys) kept old = subst (λ (rs : List Rec). Remains keeps whole rs kept old) (fields_recs-followed descriptor_shape all (entries list) (fields_from gs vs)) state.left in
+    let here : encoded shape t (content (entries list) (filter p none)) ≡ text_of xs =
+    ap (λ (s : Shape). encoded s t (content (entries list) (filter p none))) same
+    ∙ ap (λ (rs : List Rec). encoded descriptor_shape t (content (entries list) (filter p rs))) nothing
+    ∙ ap (λ (hs : List FieldShape). text_of (with_kept keeps (fields_recs descriptor_shape hs (entries list)) [])) type
+    ∙ ap text_of (front_alone keeps xs ys left.ascend)
+    in
+    record { left = remains_next keeps whole xs ys kept old new left (e ∙ ap (λ (b : List ℕ). old ++ b) here); each = state.each }
+
+-- a value is written
+pub written : {t : ℕ} {all : List FieldShape} {values : List (Option Val)} {kept : List Rec} {whole : List ℕ} {g : FieldShape} {gs : List FieldShape} {v : Option Val} {vs : List (Option Val)} {old new : List ℕ}
+    {c : Cardinality} {k : Kind} {n : ℕ} → IsOpen t all values kept whole (g ∷ gs) (v ∷ vs) [] old → Writes c k n v old new → g.number ≡ n → g.cardinality ≡ c → g.kind ≡ k → g.packed ≡ false
+    → field_of g.number all ≡ Some g → IsOpen t all values kept whole gs vs [] new
+written {t} {all} {values} {kept} {whole} {g} {gs} {v} {vs} {old} {new} {c} {k} {n} state writes e cardinality is packed here =
+    let keeps = keeps_order_of descriptor_shape t in
+    let ys = fields_recs descriptor_shape all (fields_from gs vs) in
+    record {
+      left = remains_next keeps whole (value_recs n k v) ys kept old new
+          (subst (λ (rs : List Rec). Remains keeps whole rs kept old) (with_recs all g k n v (fields_from gs vs) e is packed here) state.left) writes.text;
+      each = λ h. state.each (rw (cardinality, is) writes.value, h);
+    }
+
+-- the last list is written, with the kept records
+pub closed : {t : ℕ} {all : List FieldShape} {values : List (Option Val)} {old : List ℕ} (unknown : List Rec) (first : List ℕ) (list : List Field) (shape : Shape) (new : List ℕ)
+    → IsOpen t all values (filter (is_writable_beside (numbers all)) unknown) (goal_text t all values unknown first) [] [] list old → fields_of descriptor_shape t ≡ all → are_plain all ≡ true
+    → shape ≡ descriptor_shape → new ≡ old ++ encoded shape t (content (entries list) (filter (is_writable_beside (numbers all)) unknown))
+    → are_fit (filter (is_writable_beside (numbers all)) unknown) ≡ true → IsWritten t (record_content all values unknown) first new
+closed {t} {all} {values} {old} unknown first list shape new state type plain same e fit =
+    let kept = filter (is_writable_beside (numbers all)) unknown in
+    let keeps = keeps_order_of descriptor_shape t in
+    let kept_are = kept_is all unknown plain in
+    record {
+      text = e
+          ∙ ap (λ (s : Shape). old ++ encoded s t (content (entries list) kept)) same
+          ∙ ap (λ (hs : List FieldShape). old ++ text_of (with_kept keeps (fields_recs descriptor_shape hs (entries list)) kept)) type
+          ∙ ap (λ (fs : Fields). old ++ text_of (with_kept keeps (fields_recs descriptor_shape all fs) kept)) (entries-same list)
+          ∙ sym state.left.whole_is
+          ∙ ap (λ (rs : List Rec). first ++ encoded descriptor_shape t (content (fields_from all values) rs)) (sym kept_are);
+      sound = content_sound descriptor_shape t all values unknown type plain (descriptor_shape_proper t) (state.each tt) (rw kept_are fit);
+    }
+
+-- ---- read back
+
+pub written_decodes : (t : ℕ) (c : Content) (old new : List ℕ) → EncodingDecodes → IsWritten t c old new → old ≡ [] → length new < 2 ^ 64 → depth c ≤ 100 → Decodes descriptor_shape t new c
+written_decodes t c old new law is none short deep =
+    let same : new ≡ encoded descriptor_shape t c = is.text ∙ ap (λ (b : List ℕ). b ++ encoded descriptor_shape t c) none in
+    subst (λ (b : List ℕ). Decodes descriptor_shape t b c) (sym same)
+    (law descriptor_shape t c descriptor_shape_proper (is.sound (subst (λ (b : List ℕ). length b < 2 ^ 64) same short)) deep)

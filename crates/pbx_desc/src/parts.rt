@@ -1,0 +1,93 @@
+ghost use Rattle.std.specs.Prelude.{◌≡◌, ◌++◌, true, filter, OnOk};
+ghost use Rattle.pbx_wire.specs.Text.{text as text_of_rec, are_fit};
+ghost use Rattle.pbx_wire.specs.declared.rec.Rec.TheVariants as rec;
+ghost use Rattle.pbx_content.specs.declared.shape.Cardinality.TheVariants.{Singular, Repeated};
+ghost use Rattle.pbx_content.specs.declared.shape.Kind.TheVariants as kind;
+ghost use Rattle.pbx_content.specs.Content.{content};
+ghost use Rattle.pbx_content.specs.Encoding.{encoded};
+ghost use Rattle.pbx_desc_shape.specs.Shape.{descriptor_shape};
+ghost use Rattle.pbx_desc.specs.Building.{entries, Writes};
+ghost use Rattle.pbx_desc.specs.Content.{of_record, of_records, source_code_info_content};
+ghost use Rattle.pbx_desc.specs.Unknown.{is_writable_beside};
+
+use crate::contents::{FieldList, HasContents};
+use crate::source::SourceCodeInfo;
+use pbx_content::{Shape, encode};
+use pbx_wire::{List, NoMemory, Recs, varints_text};
+use std::alloc::Global;
+
+/// Puts a payload behind the text, under this number.
+fn put_payload(
+    alloc: Global,
+    number: u32,
+    payload: &[u8],
+    out: &mut Vec<u8>,
+) -> Result<(), NoMemory>
+    ensures { OnOk result (out.new.items ≡ out.old.items ++ text_of_rec (rec.Bytes number payload.now)) }
+{
+    let head = varints_text(alloc, &[u64::from(number) * 8 + 2, payload.len() as u64])?;
+    out.extend_from_slice(head.as_slice())?;
+    out.extend_from_slice(payload)?;
+    Ok(())
+}
+
+/// Puts the encoding of these fields behind the text, with those of the unknown records that may be written and have no
+/// known number.
+pub(crate) fn put_fields(
+    alloc: Global,
+    shape: &Shape,
+    type_at: usize,
+    fields: FieldList,
+    unknown: &Recs,
+    known: &[u32],
+    out: &mut Vec<u8>,
+) -> Result<(), NoMemory>
+    ensures text { OnOk result (out.new.items
+        ≡ out.old.items ++ encoded shape.now type_at (content (entries fields.list) (filter (is_writable_beside known.now) unknown.now))) }
+    ensures fit { OnOk result (are_fit (filter (is_writable_beside known.now) unknown.now) ≡ true) }
+{
+    let contents = fields.with_unknown(unknown, known)?;
+    let own = encode(alloc, shape, type_at, &contents)?;
+    out.extend_from_slice(own.as_slice())?;
+    Ok(())
+}
+
+/// Puts the records behind the text, each as a message under this number. One content at a time is there.
+pub(crate) fn put_records<R: HasContents>(
+    alloc: Global,
+    shape: &Shape,
+    number: u32,
+    records: &List<R>,
+    out: &mut Vec<u8>,
+) -> Result<(), NoMemory>
+    requires { shape.now ≡ descriptor_shape }
+    ensures { OnOk result
+        (Writes Repeated (kind.Message R.TYPE_AT) number (of_records R.content records.now) out.old.items out.new.items) }
+{
+    for record in records.as_slice() {
+        let contents = record.to_contents(alloc)?;
+        let own = encode(alloc, shape, R::TYPE_AT, &contents)?;
+        put_payload(alloc, number, own.as_slice(), out)?;
+    }
+    Ok(())
+}
+
+/// Puts the places behind the text, as a message under this number, if there are any.
+pub(crate) fn put_source(
+    alloc: Global,
+    shape: &Shape,
+    number: u32,
+    source: &Option<SourceCodeInfo>,
+    out: &mut Vec<u8>,
+) -> Result<(), NoMemory>
+    requires { shape.now ≡ descriptor_shape }
+    ensures { OnOk result
+        (Writes Singular (kind.Message 12) number (of_record source_code_info_content source.now) out.old.items out.new.items) }
+{
+    if let Some(source) = source {
+        let mut own = Vec::new(alloc);
+        source.write(alloc, shape, &mut own)?;
+        put_payload(alloc, number, own.as_slice(), out)?;
+    }
+    Ok(())
+}
