@@ -1,0 +1,11 @@
+pub mod Content
+pub mod Records
+pub mod Shape
+pub mod Meaning
+pub mod Onto
+pub mod Encoding
+pub mod Same
+pub mod Sound
+pub mod Faults
+pub mod Index
+pub mod Laws
