@@ -1,0 +1,15 @@
+pub mod Tree
+pub mod Packs
+pub mod Alone
+pub mod Judging
+pub mod Step
+pub mod Likeness
+pub mod Meant
+pub mod Reading
+pub mod Single
+pub mod Rivals
+pub mod TreeFields
+pub mod Decoded
+pub mod Keyed
+pub mod EncodedOrder
+pub mod EncodedNumbers

@@ -1,0 +1,24 @@
+//! Contents of messages as trees: read from bytes, merged, and written in their one canonical encoding.
+//!
+//! What contents are, what bytes mean and what is written is defined in `pbx_meaning`, apart from this code.
+#![tactic(auto)]
+
+mod contents;
+mod copying;
+mod decoding;
+mod encoding;
+mod fields;
+mod key;
+mod levels;
+mod merging;
+mod numeral;
+mod order;
+mod pairs;
+mod scalars;
+mod values;
+
+pub use contents::{Contents, Field, Held, Pair};
+pub use decoding::{decode, decode_parts, decode_within};
+pub use encoding::{content_records, encode};
+pub use key::MapKey;
+pub use levels::depth;

@@ -1,0 +1,84 @@
+//! Asks of `pbx_codec`, as rows of data: the bytes of a message, and what is written for what they mean.
+//!
+//! Of a row that asks `decode`, or `decode-parts`, the third field is a shape, whose first type the message has, and the
+//! fourth the bytes in hexadecimal digits. The answer is what is written for what they mean, in such digits, or the rule that they break with
+//! the offset of the record that breaks it. `pbx_shape_text` says how a shape is written.
+#![tactic(auto)]
+
+mod stop;
+
+use pbx_codec::{Contents, decode, decode_parts, encode};
+use pbx_meaning::Schema;
+use pbx_shape_text::schema;
+use pbx_wire::DecodeError;
+use std::alloc::{AllocError, Global};
+use std::io;
+use stop::Stop;
+use test_rows::{Row, answer_line};
+
+/// A rule that bytes break, with the offset of the record that breaks it.
+fn broken(alloc: Global, rule: &str, at: usize) -> Result<String, Stop> {
+    Ok(format!(in alloc; "{rule} at {at}")?)
+}
+
+/// The fault as an answer.
+fn fault_line(alloc: Global, fault: DecodeError) -> Result<String, Stop> {
+    match fault {
+        DecodeError::Varint(at) => broken(alloc, "varint", at),
+        DecodeError::Key(at) => broken(alloc, "key", at),
+        DecodeError::WireType(at) => broken(alloc, "wire type", at),
+        DecodeError::Underflow(at) => broken(alloc, "underflow", at),
+        DecodeError::Utf8(at) => broken(alloc, "utf8", at),
+        DecodeError::EndGroup(at) => broken(alloc, "end group", at),
+        DecodeError::TooDeep(at) => broken(alloc, "too deep", at),
+        DecodeError::NoMemory => Err(Stop::NoMemory),
+    }
+}
+
+/// What is written for what the bytes were read as, or the fault.
+fn written(
+    alloc: Global,
+    schema: &Schema,
+    read: Result<Contents, DecodeError>,
+) -> Result<String, Stop> {
+    match read {
+        Ok(contents) => {
+            let written = encode(alloc, schema, 0, &contents)?;
+            Ok(hex::encode(alloc, written.as_slice())?)
+        }
+        Err(fault) => fault_line(alloc, fault),
+    }
+}
+
+/// What the row's word asks for.
+fn answer(alloc: Global, row: &Row) -> Result<String, Stop> {
+    let schema = schema(alloc, row.text(0))?;
+    let bytes = hex::decode(alloc, row.text(1))?;
+    match row.asked() {
+        "decode" => written(alloc, &schema, decode(alloc, &schema, 0, bytes.as_slice())),
+        "decode-parts" => written(
+            alloc,
+            &schema,
+            decode_parts(alloc, &schema, 0, bytes.as_slice()),
+        ),
+        _ => Err(Stop::NoSuchWord),
+    }
+}
+
+/// The line for a row.
+fn told(alloc: Global, line: &str) -> Result<String, AllocError> {
+    let row = Row::read(alloc, line)?;
+    match answer(alloc, &row) {
+        Ok(answer) => answer_line(alloc, &row, answer.as_str()),
+        Err(Stop::NoSuchWord) => answer_line(alloc, &row, "no such word"),
+        Err(Stop::NoMemory) => Err(AllocError),
+    }
+}
+
+fn main(rt: HostRuntime) -> io::Result<()> {
+    for line in rt.lines(rt.alloc()) {
+        let told = told(rt.alloc(), line?.as_str())?;
+        println!(rt; "{told}")?;
+    }
+    Ok(())
+}
