@@ -1,0 +1,3 @@
+pub mod Decimal
+pub mod Base64
+pub mod Laws

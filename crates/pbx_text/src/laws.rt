@@ -1,0 +1,11 @@
+ghost use Rattle.pbx_text.specs.Laws.{NumbersReadBack, BytesReadBack};
+
+/// What is written of a number reads as the number.
+pub fn numbers_read_back()
+    ensures { NumbersReadBack }
+{}
+
+/// What is written of bytes reads as the bytes.
+pub fn bytes_read_back()
+    ensures { BytesReadBack }
+{}

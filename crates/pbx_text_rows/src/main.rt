@@ -1,0 +1,84 @@
+//! Asks of `pbx_text`, as rows of data.
+//!
+//! A row's third field and those behind it are what the asked word needs: of `signed` the least and the greatest number
+//! and the text, of `unsigned` the greatest number and the text, of `base64` the text, of `write-signed` and
+//! `write-unsigned` the number, of `write-base64` the bytes. Bytes are answered as hexadecimal digits.
+#![tactic(auto)]
+
+mod stop;
+
+use pbx_text::{
+    read_base64, read_signed, read_unsigned, write_base64, write_signed, write_unsigned,
+};
+use std::alloc::{AllocError, Global};
+use std::io;
+use stop::Stop;
+use test_rows::{Row, answer_line};
+
+/// A field of a row as a signed number; 0 where it is none.
+fn signed(row: &Row, at: usize) -> i64 {
+    row.text(at).parse::<i64>().unwrap_or(0)
+}
+
+fn signed_text(alloc: Global, row: &Row) -> Result<String, Stop> {
+    let number = read_signed(row.text(2), signed(row, 0), signed(row, 1))?;
+    Ok(format!(in alloc; "{number}")?)
+}
+
+fn unsigned_text(alloc: Global, row: &Row) -> Result<String, Stop> {
+    let number = read_unsigned(row.text(1), row.number(0))?;
+    Ok(format!(in alloc; "{number}")?)
+}
+
+fn base64_text(alloc: Global, row: &Row) -> Result<String, Stop> {
+    let bytes = read_base64(alloc, row.text(0))?;
+    Ok(hex::encode(alloc, bytes.as_slice())?)
+}
+
+fn written_signed(alloc: Global, row: &Row) -> Result<String, Stop> {
+    let text = write_signed(alloc, signed(row, 0))?;
+    Ok(String::from_str(alloc, text.as_str())?)
+}
+
+fn written_unsigned(alloc: Global, row: &Row) -> Result<String, Stop> {
+    let text = write_unsigned(alloc, row.number(0))?;
+    Ok(String::from_str(alloc, text.as_str())?)
+}
+
+fn written_base64(alloc: Global, row: &Row) -> Result<String, Stop> {
+    let text = write_base64(alloc, row.bytes(0))?;
+    Ok(String::from_str(alloc, text.as_str())?)
+}
+
+/// What the row's word asks for.
+fn answer(alloc: Global, row: &Row) -> Result<String, Stop> {
+    match row.asked() {
+        "signed" => signed_text(alloc, row),
+        "unsigned" => unsigned_text(alloc, row),
+        "base64" => base64_text(alloc, row),
+        "write-signed" => written_signed(alloc, row),
+        "write-unsigned" => written_unsigned(alloc, row),
+        "write-base64" => written_base64(alloc, row),
+        _ => Err(Stop::NoSuchWord),
+    }
+}
+
+/// The line for a row.
+fn told(alloc: Global, line: &str) -> Result<String, AllocError> {
+    let row = Row::read(alloc, line)?;
+    match answer(alloc, &row) {
+        Ok(answer) => answer_line(alloc, &row, answer.as_str()),
+        Err(Stop::Form) => answer_line(alloc, &row, "no such text"),
+        Err(Stop::Range) => answer_line(alloc, &row, "out of range"),
+        Err(Stop::NoSuchWord) => answer_line(alloc, &row, "no such word"),
+        Err(Stop::NoMemory) => Err(AllocError),
+    }
+}
+
+fn main(rt: HostRuntime) -> io::Result<()> {
+    for line in rt.lines(rt.alloc()) {
+        let told = told(rt.alloc(), line?.as_str())?;
+        println!(rt; "{told}")?;
+    }
+    Ok(())
+}
