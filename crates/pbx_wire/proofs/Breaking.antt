@@ -51,11 +51,11 @@ bytes_end at len bytes short = rw (lt-ltb (length bytes) len short) refl
 
 -- ---- the record at the front
 
--- what is read behind a key of this kind is read so as a whole
-behind_key_again : (body : Bodies) (group at number kind : ℕ) (rest bytes : List ℕ) (e : DecodeError) → kind < 8 → BeginsWith number kind rest bytes
-    → keyed_at body group at number kind rest ≡ Err e
+-- what is read behind a key of this wire_type is read so as a whole
+behind_key_again : (body : Bodies) (group at number wire_type : ℕ) (rest bytes : List ℕ) (e : DecodeError) → wire_type < 8 → BeginsWith number wire_type rest bytes
+    → keyed_at body group at number wire_type rest ≡ Err e
     → next_item_at body group at bytes ≡ Err e
-behind_key_again body group at number kind rest bytes e small (key, k, parts) h = rw (parts, next_again body group at number kind key rest small k) h
+behind_key_again body group at number wire_type rest bytes e small (key, k, parts) h = rw (parts, next_again body group at number wire_type key rest small k) h
 
 key_fault_again : (body : Bodies) (group at : ℕ) (bytes : List ℕ) (e : DecodeError) → key_at at bytes ≡ Err e → next_item_at body group at bytes ≡ Err e
 key_fault_again body group at bytes e h = rw h refl
@@ -65,25 +65,25 @@ unfolding key_at
 varint_fault_again body group at bytes e h = rw h refl
 
 -- a number behind the key of a varint, or of bytes
-number_fault_again : (body : Bodies) (group at number kind : ℕ) (rest : List ℕ) (e : DecodeError) → (kind ≡ 0) ⊎ (kind ≡ 2) → varint_at at 9 rest ≡ Err e
-    → keyed_at body group at number kind rest ≡ Err e
+number_fault_again : (body : Bodies) (group at number wire_type : ℕ) (rest : List ℕ) (e : DecodeError) → (wire_type ≡ 0) ⊎ (wire_type ≡ 2) → varint_at at 9 rest ≡ Err e
+    → keyed_at body group at number wire_type rest ≡ Err e
 unfolding keyed_at value_at
-number_fault_again body group at number kind rest e (inl k) h = rw (k, h) refl
-number_fault_again body group at number kind rest e (inr k) h = rw (k, h) refl
+number_fault_again body group at number wire_type rest e (inl k) h = rw (k, h) refl
+number_fault_again body group at number wire_type rest e (inr k) h = rw (k, h) refl
 
-number_kind : (kind : ℕ) → (kind ≡ 0) ⊎ (kind ≡ 2) → kind < 8
-number_kind kind (inl k) = omega arith
-number_kind kind (inr k) = omega arith
+number_kind : (wire_type : ℕ) → (wire_type ≡ 0) ⊎ (wire_type ≡ 2) → wire_type < 8
+number_kind wire_type (inl k) = omega arith
+number_kind wire_type (inr k) = omega arith
 
-ended_value_again : (body : Bodies) (group at number kind : ℕ) (rest : List ℕ) → EndsInValue kind rest
-    → (kind < 8) × (keyed_at body group at number kind rest ≡ Err (errors.Underflow at))
+ended_value_again : (body : Bodies) (group at number wire_type : ℕ) (rest : List ℕ) → EndsInValue wire_type rest
+    → (wire_type < 8) × (keyed_at body group at number wire_type rest ≡ Err (errors.Underflow at))
 unfolding keyed_at value_at
-ended_value_again body group at number kind rest (inl (k, ends)) =
-    (number_kind kind k, number_fault_again body group at number kind rest (errors.Underflow at) k (ends_again at rest ends))
-ended_value_again body group at number kind rest (inr (inl (k, short))) = (omega arith, rw (k, bytes_end at 8 rest short) refl)
-ended_value_again body group at number kind rest (inr (inr (inl (k, (len, n, payload, is, short, parts))))) =
+ended_value_again body group at number wire_type rest (inl (k, ends)) =
+    (number_kind wire_type k, number_fault_again body group at number wire_type rest (errors.Underflow at) k (ends_again at rest ends))
+ended_value_again body group at number wire_type rest (inr (inl (k, short))) = (omega arith, rw (k, bytes_end at 8 rest short) refl)
+ended_value_again body group at number wire_type rest (inr (inr (inl (k, (len, n, payload, is, short, parts))))) =
     (omega arith, rw (k, parts, varint_again at len payload n is, bytes_end at n payload short) refl)
-ended_value_again body group at number kind rest (inr (inr (inr (k, short)))) = (omega arith, rw (k, bytes_end at 4 rest short) refl)
+ended_value_again body group at number wire_type rest (inr (inr (inr (k, short)))) = (omega arith, rw (k, bytes_end at 4 rest short) refl)
 
 -- a body of which what breaks a rule is not read
 pub record BreaksBody (body : Bodies) (spells : Body) (faults : FaultBody) (levels total : ℕ) : Type 0 where
@@ -102,27 +102,27 @@ other_end_again : (body : Bodies) (group at number : ℕ) (rest : List ℕ) → 
 unfolding keyed_at
 other_end_again body group at number rest h = rw (ne_eqb number group h) refl
 
-bad_type_again : (body : Bodies) (group at number kind : ℕ) (rest : List ℕ) → (kind ≡ 6) ⊎ (kind ≡ 7)
-    → (kind < 8) × (keyed_at body group at number kind rest ≡ Err (errors.WireType at))
+bad_type_again : (body : Bodies) (group at number wire_type : ℕ) (rest : List ℕ) → (wire_type ≡ 6) ⊎ (wire_type ≡ 7)
+    → (wire_type < 8) × (keyed_at body group at number wire_type rest ≡ Err (errors.WireType at))
 unfolding keyed_at value_at
-bad_type_again body group at number kind rest (inl k) = (omega arith, rw k refl)
-bad_type_again body group at number kind rest (inr k) = (omega arith, rw k refl)
+bad_type_again body group at number wire_type rest (inl k) = (omega arith, rw k refl)
+bad_type_again body group at number wire_type rest (inr k) = (omega arith, rw k refl)
 
 long_varint_again : (body : Bodies) (group at : ℕ) (bytes : List ℕ) → HasLongVarint bytes → next_item_at body group at bytes ≡ Err (errors.Varint at)
 long_varint_again body group at bytes (inl long) = varint_fault_again body group at bytes _ (long_again at bytes long)
-long_varint_again body group at bytes (inr (number, kind, rest, begins, k, long)) =
-    behind_key_again body group at number kind rest bytes _ (number_kind kind k) begins
-    (number_fault_again body group at number kind rest _ k (long_again at rest long))
+long_varint_again body group at bytes (inr (number, wire_type, rest, begins, k, long)) =
+    behind_key_again body group at number wire_type rest bytes _ (number_kind wire_type k) begins
+    (number_fault_again body group at number wire_type rest _ k (long_again at rest long))
 
-positive_number : (number kind : ℕ) (rest bytes : List ℕ) → BeginsWith number kind rest bytes → number ≢ 0
-positive_number number kind rest bytes (key, k, parts) z = absurd (omega (arith, k.positive))
+positive_number : (number wire_type : ℕ) (rest bytes : List ℕ) → BeginsWith number wire_type rest bytes → number ≢ 0
+positive_number number wire_type rest bytes (key, k, parts) z = absurd (omega (arith, k.positive))
 
 ended_again : (body : Bodies) (spells : Body) (faults : FaultBody) (levels total : ℕ) → BreaksBody body spells faults levels total
     → (group at : ℕ) (bytes : List ℕ) → EndsInRecord spells bytes → next_item_at body group at bytes ≡ Err (errors.Underflow at)
 ended_again body spells faults levels total again group at bytes (inl (some, ends)) = varint_fault_again body group at bytes _ (ends_again at bytes ends)
-ended_again body spells faults levels total again group at bytes (inr (inl (number, kind, rest, begins, ends))) =
-    let h = ended_value_again body group at number kind rest ends in
-    behind_key_again body group at number kind rest bytes _ h.0 begins h.1
+ended_again body spells faults levels total again group at bytes (inr (inl (number, wire_type, rest, begins, ends))) =
+    let h = ended_value_again body group at number wire_type rest ends in
+    behind_key_again body group at number wire_type rest bytes _ h.0 begins h.1
 ended_again body spells faults levels total again group at bytes (inr (inr (number, rest, rs, begins, s))) =
     let open_ = positive_number number 3 rest bytes begins in
     behind_key_again body group at number 3 rest bytes _ (omega arith) begins
@@ -134,9 +134,9 @@ itself_again : (body : Bodies) (spells : Body) (faults : FaultBody) (levels tota
 itself_again body spells faults levels total again group at bytes (errors.Varint n) (z, h) = rw (z, add-zero) (long_varint_again body group at bytes h)
 itself_again body spells faults levels total again group at bytes (errors.Key n) (z, h) =
     rw (z, add-zero) (key_fault_again body group at bytes _ (bad_key_again at bytes h))
-itself_again body spells faults levels total again group at bytes (errors.WireType n) (z, (number, kind, rest, begins, of)) =
-    let h = bad_type_again body group at number kind rest of in
-    rw (z, add-zero) (behind_key_again body group at number kind rest bytes _ h.0 begins h.1)
+itself_again body spells faults levels total again group at bytes (errors.WireType n) (z, (number, wire_type, rest, begins, of)) =
+    let h = bad_type_again body group at number wire_type rest of in
+    rw (z, add-zero) (behind_key_again body group at number wire_type rest bytes _ h.0 begins h.1)
 itself_again body spells faults levels total again group at bytes (errors.Underflow n) (z, h) =
     rw (z, add-zero) (ended_again body spells faults levels total again group at bytes h)
 itself_again body spells faults levels total again group at bytes (errors.Utf8 n) h = absurd h
@@ -160,8 +160,8 @@ breaks_again body spells faults levels total again group bytes e within (inr (ke
     behind_key_again body group at number 3 rest bytes _ (omega arith) (key, k, parts) (group_fault_again body group at number rest _ moved)
 
 -- no bytes break no rule
-begins_some : (number kind : ℕ) (rest bytes : List ℕ) → BeginsWith number kind rest bytes → 0 < length bytes
-begins_some number kind rest bytes (key, k, parts) = omega (arith, ap length parts, length-append key rest, chain_has key k.varint.chain)
+begins_some : (number wire_type : ℕ) (rest bytes : List ℕ) → BeginsWith number wire_type rest bytes → 0 < length bytes
+begins_some number wire_type rest bytes (key, k, parts) = omega (arith, ap length parts, length-append key rest, chain_has key k.varint.chain)
 
 long_some : (bytes : List ℕ) → IsLongVarint bytes → 0 < length bytes
 long_some bytes (front, tenth, rest, on, nine, large, parts) = omega (arith, ap length parts, length-append front (tenth ∷ rest))
@@ -172,12 +172,12 @@ not_empty (b ∷ bytes) h = omega arith
 
 itself_some : (spells : Body) (levels group : ℕ) (bytes : List ℕ) (e : DecodeError) → BreaksItself spells levels group bytes e → 0 < length bytes
 itself_some spells levels group bytes (errors.Varint n) (z, inl long) = long_some bytes long
-itself_some spells levels group bytes (errors.Varint n) (z, inr (number, kind, rest, begins, k, long)) = begins_some number kind rest bytes begins
+itself_some spells levels group bytes (errors.Varint n) (z, inr (number, wire_type, rest, begins, k, long)) = begins_some number wire_type rest bytes begins
 itself_some spells levels group bytes (errors.Key n) (z, (key, value, rest, is, bad, parts)) =
     omega (arith, ap length parts, length-append key rest, chain_has key is.chain)
-itself_some spells levels group bytes (errors.WireType n) (z, (number, kind, rest, begins, of)) = begins_some number kind rest bytes begins
+itself_some spells levels group bytes (errors.WireType n) (z, (number, wire_type, rest, begins, of)) = begins_some number wire_type rest bytes begins
 itself_some spells levels group bytes (errors.Underflow n) (z, inl (some, ends)) = not_empty bytes some
-itself_some spells levels group bytes (errors.Underflow n) (z, inr (inl (number, kind, rest, begins, ends))) = begins_some number kind rest bytes begins
+itself_some spells levels group bytes (errors.Underflow n) (z, inr (inl (number, wire_type, rest, begins, ends))) = begins_some number wire_type rest bytes begins
 itself_some spells levels group bytes (errors.Underflow n) (z, inr (inr (number, rest, rs, begins, s))) = begins_some number 3 rest bytes begins
 itself_some spells levels group bytes (errors.Utf8 n) h = absurd h
 itself_some spells levels group bytes (errors.EndGroup n) (z, (number, rest, begins, other)) = begins_some number 4 rest bytes begins

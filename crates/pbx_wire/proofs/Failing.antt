@@ -4,7 +4,8 @@ use Rattle.std.proofs.Common.{None, Result, Ok, Err, ◌⊎◌, inl, inr, if◌t
 use Rattle.std.proofs.Math.Nat.{add-zero, zero-add, add_assoc}
 use borrow.Author.Tests.{ltb-true, ltb-false}
 use Rattle.std.specs.Prelude.{◌==◌, IfErr}
-use Rattle.std.specs.Int.{w32, w64, from_le_bytes}
+use Rattle.std.specs.Int.{w32, w64}
+use Rattle.pbx_wire.specs.Fixed.{fixed}
 use Rattle.std.proofs.lemmas.Bool.{eqb-true, eqb-false}
 use Rattle.std.proofs.lemmas.List.{nil_from_length}
 use Rattle.pbx_wire.specs.declared.error.DecodeError.{DecodeError}
@@ -144,45 +145,45 @@ bytes_fail at len bytes e h =
 
 -- why no value is read
 abbrev pub ValueFault : ℕ → ℕ → List ℕ → DecodeError → Type 0
-ValueFault at kind bytes e =
-    ((e ≡ errors.Varint at) × ((kind ≡ 0) ⊎ (kind ≡ 2)) × IsLongVarint bytes)
-    ⊎ (((e ≡ errors.Underflow at) × EndsInValue kind bytes) ⊎ ((e ≡ errors.WireType at) × ((kind ≡ 6) ⊎ (kind ≡ 7))))
+ValueFault at wire_type bytes e =
+    ((e ≡ errors.Varint at) × ((wire_type ≡ 0) ⊎ (wire_type ≡ 2)) × IsLongVarint bytes)
+    ⊎ (((e ≡ errors.Underflow at) × EndsInValue wire_type bytes) ⊎ ((e ≡ errors.WireType at) × ((wire_type ≡ 6) ⊎ (wire_type ≡ 7))))
 
-number_fault : (at kind : ℕ) (bytes : List ℕ) (e : DecodeError) → (kind ≡ 0) ⊎ (kind ≡ 2) → VarintFault at 9 bytes e → ValueFault at kind bytes e
-number_fault at kind bytes e k (inl (told, on, short)) = inr (inl (told, inl (k, (on, omega arith))))
-number_fault at kind bytes e k (inr (told, l)) = inl (told, k, long_varint bytes l)
+number_fault : (at wire_type : ℕ) (bytes : List ℕ) (e : DecodeError) → (wire_type ≡ 0) ⊎ (wire_type ≡ 2) → VarintFault at 9 bytes e → ValueFault at wire_type bytes e
+number_fault at wire_type bytes e k (inl (told, on, short)) = inr (inl (told, inl (k, (on, omega arith))))
+number_fault at wire_type bytes e k (inr (told, l)) = inl (told, k, long_varint bytes l)
 
-varint_rec_fails : (at n kind : ℕ) (bytes : List ℕ) (e : DecodeError) → kind ≡ 0 → varint_rec_at at n bytes ≡ Err e → ValueFault at kind bytes e
-varint_rec_fails at n kind bytes e k h =
+varint_rec_fails : (at n wire_type : ℕ) (bytes : List ℕ) (e : DecodeError) → wire_type ≡ 0 → varint_rec_at at n bytes ≡ Err e → ValueFault at wire_type bytes e
+varint_rec_fails at n wire_type bytes e k h =
     elim (bind_err (varint_at at 9 bytes) (λ v. Ok (rec.Varint n v.0, v.1)) e h) [
-      | inl f ↦ number_fault at kind bytes e (inl k) (varint_fails at 9 bytes e f)
+      | inl f ↦ number_fault at wire_type bytes e (inl k) (varint_fails at 9 bytes e f)
       | inr r ↦ absurd cc
     ]
 
-fixed64_rec_fails : (at n kind : ℕ) (bytes : List ℕ) (e : DecodeError) → kind ≡ 1 → fixed64_rec_at at n bytes ≡ Err e → ValueFault at kind bytes e
-fixed64_rec_fails at n kind bytes e k h =
+fixed64_rec_fails : (at n wire_type : ℕ) (bytes : List ℕ) (e : DecodeError) → wire_type ≡ 1 → fixed64_rec_at at n bytes ≡ Err e → ValueFault at wire_type bytes e
+fixed64_rec_fails at n wire_type bytes e k h =
     elim (bind_err (number_at w64 8 at bytes) (λ v. Ok (rec.Fixed64 n v.0, v.1)) e h) [
-      | inl f ↦ elim (bind_err (bytes_at at 8 bytes) (λ v. Ok (from_le_bytes w64 v.0, v.1)) e f) [
+      | inl f ↦ elim (bind_err (bytes_at at 8 bytes) (λ v. Ok (fixed w64 v.0, v.1)) e f) [
         | inl g ↦ let b = bytes_fail at 8 bytes e g in inr (inl (b.0, inr (inl (k, b.1))))
         | inr r ↦ absurd cc
       ]
       | inr r ↦ absurd cc
     ]
 
-fixed32_rec_fails : (at n kind : ℕ) (bytes : List ℕ) (e : DecodeError) → kind ≡ 5 → fixed32_rec_at at n bytes ≡ Err e → ValueFault at kind bytes e
-fixed32_rec_fails at n kind bytes e k h =
+fixed32_rec_fails : (at n wire_type : ℕ) (bytes : List ℕ) (e : DecodeError) → wire_type ≡ 5 → fixed32_rec_at at n bytes ≡ Err e → ValueFault at wire_type bytes e
+fixed32_rec_fails at n wire_type bytes e k h =
     elim (bind_err (number_at w32 4 at bytes) (λ v. Ok (rec.Fixed32 n v.0, v.1)) e h) [
-      | inl f ↦ elim (bind_err (bytes_at at 4 bytes) (λ v. Ok (from_le_bytes w32 v.0, v.1)) e f) [
+      | inl f ↦ elim (bind_err (bytes_at at 4 bytes) (λ v. Ok (fixed w32 v.0, v.1)) e f) [
         | inl g ↦ let b = bytes_fail at 4 bytes e g in inr (inl (b.0, inr (inr (inr (k, b.1)))))
         | inr r ↦ absurd cc
       ]
       | inr r ↦ absurd cc
     ]
 
-bytes_rec_fails : (at n kind : ℕ) (bytes : List ℕ) (e : DecodeError) → kind ≡ 2 → bytes_rec_at at n bytes ≡ Err e → ValueFault at kind bytes e
-bytes_rec_fails at n kind bytes e k h =
+bytes_rec_fails : (at n wire_type : ℕ) (bytes : List ℕ) (e : DecodeError) → wire_type ≡ 2 → bytes_rec_at at n bytes ≡ Err e → ValueFault at wire_type bytes e
+bytes_rec_fails at n wire_type bytes e k h =
     elim (bind_err (varint_at at 9 bytes) (λ len. bytes_at at len.0 len.1 >>= λ b. Ok (rec.Bytes n b.0, b.1)) e h) [
-      | inl f ↦ number_fault at kind bytes e (inr k) (varint_fails at 9 bytes e f)
+      | inl f ↦ number_fault at wire_type bytes e (inr k) (varint_fails at 9 bytes e f)
       | inr r ↦
           let t = varint_takes at 9 bytes r.0.0 r.0.1 r.1 in
           elim (bind_err (bytes_at at r.0.0 r.0.1) (λ b. Ok (rec.Bytes n b.0, b.1)) e r.2) [
@@ -193,29 +194,29 @@ bytes_rec_fails at n kind bytes e k h =
           ]
     ]
 
-other_type : (kind : ℕ) → kind < 8 → kind ≢ 0 → kind ≢ 1 → kind ≢ 2 → kind ≢ 3 → kind ≢ 4 → kind ≢ 5 → (kind ≡ 6) ⊎ (kind ≡ 7)
-other_type kind h a b c d e f = grind arith
+other_type : (wire_type : ℕ) → wire_type < 8 → wire_type ≢ 0 → wire_type ≢ 1 → wire_type ≢ 2 → wire_type ≢ 3 → wire_type ≢ 4 → wire_type ≢ 5 → (wire_type ≡ 6) ⊎ (wire_type ≡ 7)
+other_type wire_type h a b c d e f = grind arith
 
-pub value_fails : (at n kind : ℕ) (bytes : List ℕ) (e : DecodeError) → kind < 8 → kind ≢ 3 → kind ≢ 4 → value_at at n kind bytes ≡ Err e
-    → ValueFault at kind bytes e
+pub value_fails : (at n wire_type : ℕ) (bytes : List ℕ) (e : DecodeError) → wire_type < 8 → wire_type ≢ 3 → wire_type ≢ 4 → value_at at n wire_type bytes ≡ Err e
+    → ValueFault at wire_type bytes e
 unfolding value_at
-value_fails at n kind bytes e small three four h =
-    let last = if kind == 5 then fixed32_rec_at at n bytes else Err (errors.WireType at) in
-    let third = if kind == 2 then bytes_rec_at at n bytes else last in
-    let second = if kind == 1 then fixed64_rec_at at n bytes else third in
-    elim (chosen (kind == 0) (varint_rec_at at n bytes) second (Err e) h) [
-      | inl h ↦ varint_rec_fails at n kind bytes e (eqb-true kind 0 h.0) h.1
-      | inr zero_not ↦ elim (chosen (kind == 1) (fixed64_rec_at at n bytes) third (Err e) zero_not.1) [
-        | inl h ↦ fixed64_rec_fails at n kind bytes e (eqb-true kind 1 h.0) h.1
-        | inr one_not ↦ elim (chosen (kind == 2) (bytes_rec_at at n bytes) last (Err e) one_not.1) [
-          | inl h ↦ bytes_rec_fails at n kind bytes e (eqb-true kind 2 h.0) h.1
-          | inr two_not ↦ elim (chosen (kind == 5) (fixed32_rec_at at n bytes) (Err (errors.WireType at)) (Err e) two_not.1) [
-            | inl h ↦ fixed32_rec_fails at n kind bytes e (eqb-true kind 5 h.0) h.1
+value_fails at n wire_type bytes e small three four h =
+    let last = if wire_type == 5 then fixed32_rec_at at n bytes else Err (errors.WireType at) in
+    let third = if wire_type == 2 then bytes_rec_at at n bytes else last in
+    let second = if wire_type == 1 then fixed64_rec_at at n bytes else third in
+    elim (chosen (wire_type == 0) (varint_rec_at at n bytes) second (Err e) h) [
+      | inl h ↦ varint_rec_fails at n wire_type bytes e (eqb-true wire_type 0 h.0) h.1
+      | inr zero_not ↦ elim (chosen (wire_type == 1) (fixed64_rec_at at n bytes) third (Err e) zero_not.1) [
+        | inl h ↦ fixed64_rec_fails at n wire_type bytes e (eqb-true wire_type 1 h.0) h.1
+        | inr one_not ↦ elim (chosen (wire_type == 2) (bytes_rec_at at n bytes) last (Err e) one_not.1) [
+          | inl h ↦ bytes_rec_fails at n wire_type bytes e (eqb-true wire_type 2 h.0) h.1
+          | inr two_not ↦ elim (chosen (wire_type == 5) (fixed32_rec_at at n bytes) (Err (errors.WireType at)) (Err e) two_not.1) [
+            | inl h ↦ fixed32_rec_fails at n wire_type bytes e (eqb-true wire_type 5 h.0) h.1
             | inr five_not ↦
                 inr (inr (
                   sym (err_is _ e five_not.1),
-                  other_type kind small (eqb-false kind 0 zero_not.0) (eqb-false kind 1 one_not.0)
-                      (eqb-false kind 2 two_not.0) three four (eqb-false kind 5 five_not.0),
+                  other_type wire_type small (eqb-false wire_type 0 zero_not.0) (eqb-false wire_type 1 one_not.0)
+                      (eqb-false wire_type 2 two_not.0) three four (eqb-false wire_type 5 five_not.0),
                 ))
           ]
         ]
@@ -310,32 +311,32 @@ end_fails spells faults levels group at n key rest e k h =
       | inr t ↦ broken_other_end spells faults levels group at (key ++ rest) e (sym (err_is _ e t.1)) (n, rest, (key, k, refl), eqb-false n group t.0)
     ]
 
-value_fault : (spells : Body) (faults : FaultBody) (levels group at n kind : ℕ) (key rest : List ℕ) (e : DecodeError) → IsKey key n kind
-    → ValueFault at kind rest e → Broken spells faults levels group at (key ++ rest) e
-value_fault spells faults levels group at n kind key rest e k (inl (told, of, long)) =
-    broken_varint spells faults levels group at (key ++ rest) e told (inr (n, kind, rest, (key, k, refl), of, long))
-value_fault spells faults levels group at n kind key rest e k (inr (inl (told, ends))) =
-    broken_end spells faults levels group at (key ++ rest) e told (inr (inl (n, kind, rest, (key, k, refl), ends)))
-value_fault spells faults levels group at n kind key rest e k (inr (inr (told, of))) =
-    broken_type spells faults levels group at (key ++ rest) e told (n, kind, rest, (key, k, refl), of)
+value_fault : (spells : Body) (faults : FaultBody) (levels group at n wire_type : ℕ) (key rest : List ℕ) (e : DecodeError) → IsKey key n wire_type
+    → ValueFault at wire_type rest e → Broken spells faults levels group at (key ++ rest) e
+value_fault spells faults levels group at n wire_type key rest e k (inl (told, of, long)) =
+    broken_varint spells faults levels group at (key ++ rest) e told (inr (n, wire_type, rest, (key, k, refl), of, long))
+value_fault spells faults levels group at n wire_type key rest e k (inr (inl (told, ends))) =
+    broken_end spells faults levels group at (key ++ rest) e told (inr (inl (n, wire_type, rest, (key, k, refl), ends)))
+value_fault spells faults levels group at n wire_type key rest e k (inr (inr (told, of))) =
+    broken_type spells faults levels group at (key ++ rest) e told (n, wire_type, rest, (key, k, refl), of)
 
 keyed_fails : (body : Bodies) (spells : Body) (faults : FaultBody) (levels total : ℕ) → FailsBody body spells faults levels total
-    → (group n kind : ℕ) (key rest : List ℕ) (e : DecodeError)
-    → length (key ++ rest) ≤ total → kind < 8 → IsKey key n kind → keyed_at body group (total - length (key ++ rest)) n kind rest ≡ Err e
+    → (group n wire_type : ℕ) (key rest : List ℕ) (e : DecodeError)
+    → length (key ++ rest) ≤ total → wire_type < 8 → IsKey key n wire_type → keyed_at body group (total - length (key ++ rest)) n wire_type rest ≡ Err e
     → Broken spells faults levels group (total - length (key ++ rest)) (key ++ rest) e
 unfolding keyed_at
-keyed_fails body spells faults levels total fails group n kind key rest e within small k h =
+keyed_fails body spells faults levels total fails group n wire_type key rest e within small k h =
     let at = total - length (key ++ rest) in
     let ending = end_item_at group at n rest in
-    let plain = plain_item_at at n kind rest in
+    let plain = plain_item_at at n wire_type rest in
     let some = λ (r : Rec). Some r in
-    elim (chosen (kind == 3) (group_item_at body at n rest) (if kind == 4 then ending else plain) (Err e) h) [
-      | inl t ↦ group_fails body spells faults levels total fails group n key rest e within (of_kind key n kind 3 k t.0) t.1
-      | inr three ↦ elim (chosen (kind == 4) ending plain (Err e) three.1) [
-        | inl t ↦ end_fails spells faults levels group at n key rest e (of_kind key n kind 4 k t.0) t.1
-        | inr four ↦ elim (bind_err (value_at at n kind rest) (λ r. Ok (some r.0, r.1)) e four.1) [
-          | inl f ↦ value_fault spells faults levels group at n kind key rest e k
-              (value_fails at n kind rest e small (eqb-false kind 3 three.0) (eqb-false kind 4 four.0) f)
+    elim (chosen (wire_type == 3) (group_item_at body at n rest) (if wire_type == 4 then ending else plain) (Err e) h) [
+      | inl t ↦ group_fails body spells faults levels total fails group n key rest e within (of_kind key n wire_type 3 k t.0) t.1
+      | inr three ↦ elim (chosen (wire_type == 4) ending plain (Err e) three.1) [
+        | inl t ↦ end_fails spells faults levels group at n key rest e (of_kind key n wire_type 4 k t.0) t.1
+        | inr four ↦ elim (bind_err (value_at at n wire_type rest) (λ r. Ok (some r.0, r.1)) e four.1) [
+          | inl f ↦ value_fault spells faults levels group at n wire_type key rest e k
+              (value_fails at n wire_type rest e small (eqb-false wire_type 3 three.0) (eqb-false wire_type 4 four.0) f)
           | inr r ↦ absurd cc
         ]
       ]

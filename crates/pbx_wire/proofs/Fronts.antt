@@ -59,10 +59,10 @@ front_is at bytes key rest h =
     let t = key_takes at bytes key rest h in
     (omega arith, (rest, (t.text, key_of t.text key (key / 8) (key % 8) t.holds refl refl, t.parts)))
 
-no_key : (at : ℕ) (bytes : List ℕ) (e : DecodeError) → key_at at bytes ≡ Err e → (number kind : ℕ) (rest : List ℕ) → BeginsWith number kind rest bytes → ⊥
-no_key at bytes e h number kind rest (key, k, parts) =
-    let read : key_at at bytes ≡ Ok (number * 8 + kind, rest) = rw parts (key_again at number kind key rest k) in
+no_key : (at : ℕ) (bytes : List ℕ) (e : DecodeError) → key_at at bytes ≡ Err e → (number wire_type : ℕ) (rest : List ℕ) → BeginsWith number wire_type rest bytes → ⊥
+no_key at bytes e h number wire_type rest (key, k, parts) =
+    let read : key_at at bytes ≡ Ok (number * 8 + wire_type, rest) = rw parts (key_again at number wire_type key rest k) in
     absurd cc
 
 pub front_none : (at : ℕ) (bytes : List ℕ) (e : DecodeError) → key_at at bytes ≡ Err e → IsFrontKey bytes None
-front_none at bytes e h number kind rest small begins = no_key at bytes e h number kind rest begins
+front_none at bytes e h number wire_type rest small begins = no_key at bytes e h number wire_type rest begins

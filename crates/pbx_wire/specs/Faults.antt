@@ -48,7 +48,7 @@ IsLongVarint bytes = (front : List ℕ) × (tenth : ℕ) × (rest : List ℕ) ×
 
 -- a key of this number and wire type stands at the front, and the rest behind it
 abbrev pub BeginsWith : ℕ → ℕ → List ℕ → List ℕ → Type 0
-BeginsWith number kind rest bytes = (key : List ℕ) × IsKey key number kind × (bytes ≡ key ++ rest)
+BeginsWith number wire_type rest bytes = (key : List ℕ) × IsKey key number wire_type × (bytes ≡ key ++ rest)
 
 -- the bytes have fewer than the length at their front says
 abbrev pub EndsInPayload : List ℕ → Type 0
@@ -56,9 +56,9 @@ EndsInPayload bytes = (len : List ℕ) × (n : ℕ) × (payload : List ℕ) × I
 
 -- the bytes end inside the value of this wire type
 abbrev pub EndsInValue : ℕ → List ℕ → Type 0
-EndsInValue kind bytes =
-    (((kind ≡ 0) ⊎ (kind ≡ 2)) × EndsInVarint bytes)
-    ⊎ (((kind ≡ 1) × (length bytes < 8)) ⊎ (((kind ≡ 2) × EndsInPayload bytes) ⊎ ((kind ≡ 5) × (length bytes < 4))))
+EndsInValue wire_type bytes =
+    (((wire_type ≡ 0) ⊎ (wire_type ≡ 2)) × EndsInVarint bytes)
+    ⊎ (((wire_type ≡ 1) × (length bytes < 8)) ⊎ (((wire_type ≡ 2) × EndsInPayload bytes) ⊎ ((wire_type ≡ 5) × (length bytes < 4))))
 
 -- ---- the record at the front
 
@@ -69,7 +69,9 @@ FaultBody = ℕ → List ℕ → DecodeError → Type 0
 -- a varint of more than ten bytes or more than 64 bits: the key, a number or a length
 abbrev pub HasLongVarint : List ℕ → Type 0
 HasLongVarint bytes =
-    IsLongVarint bytes ⊎ ((number : ℕ) × (kind : ℕ) × (rest : List ℕ) × BeginsWith number kind rest bytes × ((kind ≡ 0) ⊎ (kind ≡ 2)) × IsLongVarint rest)
+    IsLongVarint bytes
+    ⊎ ((number : ℕ) × (wire_type : ℕ) × (rest : List ℕ)
+    × BeginsWith number wire_type rest bytes × ((wire_type ≡ 0) ⊎ (wire_type ≡ 2)) × IsLongVarint rest)
 
 -- a key of number 0, or of more than 32 bits
 abbrev pub HasBadKey : List ℕ → Type 0
@@ -77,16 +79,16 @@ HasBadKey bytes = (key : List ℕ) × (value : ℕ) × (rest : List ℕ) × IsVa
 
 -- a key of wire type 6 or 7
 abbrev pub HasBadType : List ℕ → Type 0
-HasBadType bytes = (number : ℕ) × (kind : ℕ) × (rest : List ℕ) × BeginsWith number kind rest bytes × ((kind ≡ 6) ⊎ (kind ≡ 7))
+HasBadType bytes = (number : ℕ) × (wire_type : ℕ) × (rest : List ℕ) × BeginsWith number wire_type rest bytes × ((wire_type ≡ 6) ⊎ (wire_type ≡ 7))
 
 -- The bytes end inside the record: in its key, in its value, or, of a group, behind records and before the end of the group.
 abbrev pub EndsInRecord : Body → List ℕ → Type 0
 EndsInRecord spells bytes =
     ((bytes ≢ []) × EndsInVarint bytes)
-    ⊎ (((number : ℕ) × (kind : ℕ) × (rest : List ℕ) × BeginsWith number kind rest bytes × EndsInValue kind rest)
+    ⊎ (((number : ℕ) × (wire_type : ℕ) × (rest : List ℕ) × BeginsWith number wire_type rest bytes × EndsInValue wire_type rest)
     ⊎ ((number : ℕ) × (rest : List ℕ) × (rs : List Rec) × BeginsWith number 3 rest bytes × spells rest rs))
 
--- an end of a group that is not the one that is open
+-- an end of a group that is not the one that is open (Protocol Buffers "Encoding": Groups)
 abbrev pub HasOtherEnd : ℕ → List ℕ → Type 0
 HasOtherEnd group bytes = (number : ℕ) × (rest : List ℕ) × BeginsWith number 4 rest bytes × (number ≢ group)
 

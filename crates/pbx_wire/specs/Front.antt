@@ -1,4 +1,4 @@
--- What stands at the front of bytes: a record, or its key.
+-- What stands at the front of bytes: a record, or its key (Protocol Buffers "Encoding": Message Structure).
 use Rattle.std.specs.Prelude.{◌≡◌, ◌<◌, ℕ, List, [], ◌++◌, Option, Some, None}
 use Rattle.pbx_wire.specs.declared.error.DecodeError.{DecodeError}
 use Rattle.pbx_wire.specs.declared.rec.Rec.{Rec}
@@ -15,5 +15,5 @@ IsFrontFault levels at bytes e = (own : DecodeError) × BreaksOne levels bytes o
 
 -- the number and the wire type of the key at the front, or that none is there
 abbrev pub IsFrontKey : List ℕ → Option (ℕ × ℕ) → Type 0
-IsFrontKey bytes None = (number kind : ℕ) (rest : List ℕ) → kind < 8 → BeginsWith number kind rest bytes → ⊥
+IsFrontKey bytes None = (number wire_type : ℕ) (rest : List ℕ) → wire_type < 8 → BeginsWith number wire_type rest bytes → ⊥
 IsFrontKey bytes (Some key) = (key.1 < 8) × ((rest : List ℕ) × BeginsWith key.0 key.1 rest bytes)

@@ -1,14 +1,20 @@
 -- Laws of the definitions, each proved as the contract of a public function.
-use Rattle.std.specs.Prelude.{◌≡◌, ◌⊎◌, ◌↔◌, ℕ, List, Some}
+use Rattle.std.specs.Prelude.{◌≡◌, ◌⊎◌, ◌↔◌, ◌≤◌, ℕ, List, true, Some}
 use Rattle.pbx_wire.specs.declared.error.DecodeError.{DecodeError}
 use Rattle.pbx_wire.specs.declared.rec.Rec.{Rec}
 use Rattle.pbx_wire.specs.Spelling.{Spells}
 use Rattle.pbx_wire.specs.Reading.{records_in}
 use Rattle.pbx_wire.specs.Faults.{IsFault}
+use Rattle.pbx_wire.specs.Text.{text_of, are_numbered, are_fit, depth_of}
 
 -- The records that reading finds are those that the bytes spell.
 abbrev pub RecordsAreSpelled : Type 0
 RecordsAreSpelled = (levels : ℕ) (bytes : List ℕ) (rs : List Rec) → (records_in levels bytes ≡ Some rs) ↔ Spells levels bytes rs
+
+-- The text of records spells them, where their numbers and values are those that records may have.
+abbrev pub WrittenIsSpelled : Type 0
+WrittenIsSpelled =
+    (levels : ℕ) (rs : List Rec) → are_numbered rs ≡ true → are_fit rs ≡ true → depth_of rs ≤ levels → Spells levels (text_of rs) rs
 
 -- Bytes spell records, or break a rule.
 abbrev pub SpelledOrFaulty : Type 0
