@@ -4,7 +4,8 @@ use Rattle.std.proofs.Common.{None, Result, Ok, Err, ◌⊎◌, inl, inr}
 use Rattle.std.proofs.Common.{if◌then◌else◌, option_map, refl, sym, ap, ◌∙◌, arith, append_assoc, append-nil, length-append, length-drop}
 use Rattle.std.specs.Prelude.{◌==◌}
 use Rattle.std.specs.Option.{is_some}
-use Rattle.std.specs.Int.{Width, w32, w64, from_le_bytes}
+use Rattle.std.specs.Int.{Width, w32, w64}
+use Rattle.pbx_wire.specs.Fixed.{fixed}
 use Rattle.std.proofs.lemmas.Bool.{le-ltb, ltb-true, ltb-false, ne_eqb, eqb-false}
 use Rattle.pbx_wire.specs.declared.error.DecodeError.{DecodeError}
 use Rattle.pbx_wire.specs.declared.error.DecodeError.TheVariants as errors
@@ -227,7 +228,7 @@ fixed_there w len (suc turns) (b ∷ bs) d h = at (nat_lt (length (b ∷ bs)) le
   where
     at : (t : Bool) → nat_lt (length (b ∷ bs)) len ≡ t
         → (length (drop len (b ∷ bs)) ≤ turns → is_some (fixed_in w len turns (drop len (b ∷ bs))) ≡ (length (drop len (b ∷ bs)) % len == 0))
-        → is_some (if t then None else option_map (λ vs. from_le_bytes w (take len (b ∷ bs)) ∷ vs) (fixed_in w len turns (drop len (b ∷ bs))))
+        → is_some (if t then None else option_map (λ vs. fixed w (take len (b ∷ bs)) ∷ vs) (fixed_in w len turns (drop len (b ∷ bs))))
         ≡ (length (b ∷ bs) % len == 0)
     at true e ih =
         let less : length (b ∷ bs) < len = ltb-true (length (b ∷ bs)) len e in
@@ -235,7 +236,7 @@ fixed_there w len (suc turns) (b ∷ bs) d h = at (nat_lt (length (b ∷ bs)) le
     at false e ih =
         let le : len ≤ length (b ∷ bs) = ltb-false (length (b ∷ bs)) len e in
         let long = length-drop len (b ∷ bs) in
-        there_map (λ vs. from_le_bytes w (take len (b ∷ bs)) ∷ vs) (fixed_in w len turns (drop len (b ∷ bs)))
+        there_map (λ vs. fixed w (take len (b ∷ bs)) ∷ vs) (fixed_in w len turns (drop len (b ∷ bs)))
         ∙ ih (omega (arith, long, d.positive))
         ∙ ap (λ n. n % len == 0) long ∙ ap (λ n. n == 0) (d.high (length (b ∷ bs)) le)
 

@@ -5,7 +5,7 @@ use Rattle.std.specs.List.{IsDistinct, AllByRecursion, list_all}
 use Rattle.std.proofs.lemmas.Bool.Decides.{nat_tests}
 use Rattle.std.proofs.lemmas.Bool.{ltb-true}
 use Rattle.pbx_wire.specs.declared.rec.Rec.{Rec}
-use Rattle.pbx_wire.specs.Text.{is_number}
+use Rattle.pbx_wire.specs.Text.{is_record_number}
 use Rattle.pbx_wire.proofs.Written.{both}
 use Rattle.pbx_meaning.specs.declared.shape.Shape.{Shape}
 use Rattle.pbx_meaning.specs.declared.shape.FieldShape.{FieldShape}
@@ -61,12 +61,12 @@ lacks_from : (n : ℕ) (fs : List FieldShape) → AllByRecursion (λ m. (n == m)
 lacks_from n [] h = tt
 lacks_from n (f ∷ fs) h = (h.0, lacks_from n fs h.1)
 
-pub apart_from : (fs : List FieldShape) → IsTrue (list_all (λ (f : FieldShape). is_number f.number) fs)
+pub apart_from : (fs : List FieldShape) → IsTrue (list_all (λ (f : FieldShape). is_record_number f.number) fs)
     → IsDistinct (λ m n. m == n) (map (λ (f : FieldShape). f.number) fs) → AreApart fs
 unfolding IsDistinct
 apart_from [] n d = tt
 apart_from (f ∷ fs) n d =
-    let one = both (is_number f.number) (list_all (λ (f : FieldShape). is_number f.number) fs) n in
+    let one = both (is_record_number f.number) (list_all (λ (f : FieldShape). is_record_number f.number) fs) n in
     let low = both (nat_lt 0 f.number) (nat_lt f.number 536870912) one.0 in
     (ltb-true 0 f.number low.0, lacks_from f.number fs d.0, apart_from fs one.1 d.1)
 

@@ -17,7 +17,7 @@ use Rattle.pbx_meaning.specs.Records.{number_of, those_of, any}
 use Rattle.pbx_meaning.specs.Shape.{field_of, is_float, is_read_as, is_kept, is_rival, is_other, same_oneof}
 use Rattle.pbx_meaning.specs.Meaning.{with_field, singular, by_cardinality, value}
 use Rattle.pbx_meaning.specs.Onto.{InnerOnto, from_empty, value_onto, value_onto_among, values_onto, layer_onto, meaning_onto}
-use Rattle.pbx_meaning.specs.Laws.{payload_onto, IsSettledIn, EmptyIsSettled, OntoIsSettled, OntoNothing, OntoKeepsOne, value_beside, OntoReadsOne}
+use Rattle.pbx_meaning.specs.Laws.{payload_onto, IsStableIn, EmptyIsStable, OntoIsStable, OntoNothing, OntoKeepsOne, value_beside, OntoReadsOne}
 use Rattle.pbx_meaning.proofs.OntoSplits.{there}
 use Rattle.pbx_meaning.proofs.OntoFields.{AreAbove, get-above, AreGot, values_got, values_above}
 use Rattle.pbx_meaning.proofs.OntoLaw.{value_nothing, onto_at, onto_is, onto_judges, value_judges, unbound}
@@ -170,9 +170,9 @@ record IsSettled (shape : Shape) (inner : InnerOnto) (fs : List FieldShape) (old
   ascend : IsAscending old
   own : (k : ℕ) → field_of k fs ≡ None → get k old ≡ None
 
-settled_layer : (shape : Shape) (inner : InnerOnto) (fs : List FieldShape) (old : Content) → AreAbove 0 fs → layer_onto shape inner fs old [] ≡ Some old
+stable_layer : (shape : Shape) (inner : InnerOnto) (fs : List FieldShape) (old : Content) → AreAbove 0 fs → layer_onto shape inner fs old [] ≡ Some old
     → IsSettled shape inner fs (fields old)
-settled_layer shape inner fs (content vs ks) above e = at (values_onto shape inner fs fs vs []) refl e
+stable_layer shape inner fs (content vs ks) above e = at (values_onto shape inner fs fs vs []) refl e
   where
     at : (x : Option Fields) → values_onto shape inner fs fs vs [] ≡ x → option_map (λ ws. content ws (ks ++ [])) x ≡ Some (content vs ks)
         → IsSettled shape inner fs vs
@@ -190,9 +190,9 @@ settled_layer shape inner fs (content vs ks) above e = at (values_onto shape inn
           own = λ k none. only_own shape inner fs vs [] fs vs k same none;
         }
 
-settled_by : (shape : Shape) (levels : ℕ) (fs : List FieldShape) (old : Content) → AreAbove 0 fs → IsSettledIn shape levels fs old
+stable_by : (shape : Shape) (levels : ℕ) (fs : List FieldShape) (old : Content) → AreAbove 0 fs → IsStableIn shape levels fs old
     → IsSettled shape (onto_at shape levels) fs (fields old)
-settled_by shape levels fs old above e = settled_layer shape (onto_at shape levels) fs old above (sym (onto_is shape levels fs old []) ∙ e)
+stable_by shape levels fs old above e = stable_layer shape (onto_at shape levels) fs old above (sym (onto_is shape levels fs old []) ∙ e)
 
 nothing_values : (shape : Shape) (inner : InnerOnto) (gs hs : List FieldShape) → values_onto shape inner gs hs no_fields [] ≡ Some no_fields
 nothing_values shape inner gs [] = refl
@@ -200,11 +200,11 @@ nothing_values shape inner gs (h ∷ hs) =
     let first : value_onto_among shape inner gs h None [] ≡ Some None = rw (nothing_is shape inner h) (none_stays shape inner h) in
     rw (first, nothing_values shape inner gs hs) refl
 
-pub empty_is_settled : EmptyIsSettled
-empty_is_settled shape levels fs = onto_is shape levels fs empty [] ∙ rw (nothing_values shape (onto_at shape levels) fs fs) refl
+pub empty_is_stable : EmptyIsStable
+empty_is_stable shape levels fs = onto_is shape levels fs empty [] ∙ rw (nothing_values shape (onto_at shape levels) fs fs) refl
 
-pub onto_is_settled : OntoIsSettled
-onto_is_settled shape levels fs old new rs proper own e =
+pub onto_is_stable : OntoIsStable
+onto_is_stable shape levels fs old new rs proper own e =
     sym (onto_appends shape levels fs old new rs [] proper own e) ∙ ap (λ (x : List Rec). meaning_onto shape levels fs old x) (append-nil rs) ∙ e
 
 at_payload : (shape : Shape) (levels : ℕ) → payload_onto shape levels ≡ onto_at shape levels
@@ -304,7 +304,7 @@ onto_of shape levels fs old new r b k e = onto_is shape levels fs old (r ∷ [])
 pub onto_keeps_one : OntoKeepsOne
 onto_keeps_one shape levels fs old r proper own settled k =
     let above = are_above shape proper fs own in
-    let s = settled_by shape levels fs old above settled in
+    let s = stable_by shape levels fs old above settled in
     onto_of shape levels fs old (fields old) r true k
     (collected shape (onto_at shape levels) fs (fields old) (r ∷ []) 0 fs (fields old) above s.ascend
     (keeps_among shape (onto_at shape levels) fs (fields old) r s k) s.own)
@@ -423,7 +423,7 @@ read_not_kept fs r f found read = at (any (is_read_as r) fs) refl
 pub onto_reads_one : OntoReadsOne
 onto_reads_one shape levels fs old new r f v proper own settled found read e asc out all =
     let above = are_above shape proper fs own in
-    let s = settled_by shape levels fs old above settled in
+    let s = stable_by shape levels fs old above settled in
     let value : value_onto shape (onto_at shape levels) f (get f.number (fields old)) (r ∷ []) ≡ Some v = rw (← at_payload shape levels) e in
     onto_of shape levels fs old new r false (read_not_kept fs r f found read)
     (collected shape (onto_at shape levels) fs (fields old) (r ∷ []) 0 fs new above asc

@@ -14,7 +14,7 @@ use Rattle.pbx_meaning.specs.Shape.{fields_of, field_of, is_float}
 use Rattle.pbx_meaning.specs.Meaning.{is_default, shown}
 use Rattle.pbx_meaning.specs.Onto.{list_of, pair_list, InnerOnto, singular_onto, onto_by_cardinality, value_onto}
 use Rattle.pbx_meaning.specs.Sound.{IsBefore, AreSound, IsSoundAt, AreElements, IsElement, ArePairs}
-use Rattle.pbx_meaning.specs.Laws.{payload_onto, SoundIsSettled}
+use Rattle.pbx_meaning.specs.Laws.{payload_onto, SoundIsStable}
 use Rattle.pbx_meaning.proofs.WrittenNumbers.{number_numeral}
 use Rattle.pbx_meaning.proofs.OntoOne.{none_stays, onto_nothing}
 
@@ -110,7 +110,7 @@ sound_own shape gs (field n v fs) k h e = at (k == n) refl (sound_own shape gs f
     at true d ih = absurd (none (eqb-true k n d))
     at false d ih = ih
 
-pub sound_is_settled : SoundIsSettled
-sound_is_settled shape levels t (content fs ks) proper h =
+pub sound_is_stable : SoundIsStable
+sound_is_stable shape levels t (content fs ks) proper h =
     onto_nothing shape levels (fields_of shape t) (content fs ks) fs proper (inl (t, refl)) h.0 (λ n e. sound_own shape (fields_of shape t) fs n h.1 e)
     (λ g e. sound_stays shape (payload_onto shape levels) (fields_of shape t) fs g h.1 e)

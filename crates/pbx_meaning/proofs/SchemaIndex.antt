@@ -11,7 +11,7 @@ use Rattle.std.proofs.lemmas.Cmp.{ranked}
 use Rattle.std.proofs.lemmas.List.{take_more, get_or_default}
 use Rattle.std.proofs.lemmas.List.Sorted.{All-permutation, IsPermutation-sym, IsPermutation-cons, IsPermutation-map, IsNonDecreasingBy-from_default}
 use Rattle.std.proofs.lemmas.Map.Keys.{IsDistinct-IsPermutation, IsDistinct-head, IsDistinct-tail, IsDistinct-cons}
-use Rattle.pbx_wire.specs.Text.{is_number}
+use Rattle.pbx_wire.specs.Text.{is_record_number}
 use Rattle.pbx_wire.proofs.Written.{both}
 use Rattle.pbx_meaning.specs.declared.shape.FieldShape.{FieldShape}
 use Rattle.pbx_meaning.specs.Shape.{inserted, by_number, field_of}
@@ -89,11 +89,11 @@ rise_ascends n (e ∷ es) h a d =
     let lt : nat_lt n e.0 ≡ true = grind (arith, nat_tests, h.0) in
     rw (lt, rise_ascends e.0 es h.1 d.0 d.1) refl
 
-zero_apart : (fs : List FieldShape) → list_all (λ (f : FieldShape). is_number f.number) fs ≡ true
+zero_apart : (fs : List FieldShape) → list_all (λ (f : FieldShape). is_record_number f.number) fs ≡ true
     → AllByRecursion (λ m. (0 == m) ≡ false) (map (λ (f : FieldShape). f.number) fs)
 zero_apart [] h = tt
 zero_apart (f ∷ fs) h =
-    let parts = both (is_number f.number) (list_all (λ (f : FieldShape). is_number f.number) fs) h in
+    let parts = both (is_record_number f.number) (list_all (λ (f : FieldShape). is_record_number f.number) fs) h in
     let positive : nat_lt 0 f.number ≡ true = (both (nat_lt 0 f.number) (nat_lt f.number 536870912) parts.0).0 in
     (grind (arith, nat_tests), zero_apart fs parts.1)
 
@@ -109,22 +109,22 @@ proper_ascends fs es proper moved up =
     rise_ascends 0 es (rise_from 0 es up (λ lt. omega arith)) (IsDistinct-head _ 0 (numbers es) after) (IsDistinct-tail _ 0 (numbers es) after)
 
 good_parts : (fs : List FieldShape) → are_good fs ≡ true
-    → (list_all (λ (f : FieldShape). is_number f.number) fs ≡ true) × (list_all (λ (f : FieldShape). has_good_keys f.cardinality) fs ≡ true)
+    → (list_all (λ (f : FieldShape). is_record_number f.number) fs ≡ true) × (list_all (λ (f : FieldShape). has_good_keys f.cardinality) fs ≡ true)
 good_parts [] h = (refl, refl)
 good_parts (f ∷ fs) h =
-    let parts = both (is_number f.number && has_good_keys f.cardinality) (are_good fs) h in
-    let one = both (is_number f.number) (has_good_keys f.cardinality) parts.0 in
+    let parts = both (is_record_number f.number && has_good_keys f.cardinality) (are_good fs) h in
+    let one = both (is_record_number f.number) (has_good_keys f.cardinality) parts.0 in
     let rest = good_parts fs parts.1 in
     (rw (one.0, rest.0) refl, rw (one.1, rest.1) refl)
 
 pub proper_good : (fs : List FieldShape) → AreProper fs → are_good fs ≡ true
 proper_good fs proper = at fs proper.numbered proper.keyed
   where
-    at : (fs : List FieldShape) → list_all (λ (f : FieldShape). is_number f.number) fs ≡ true
+    at : (fs : List FieldShape) → list_all (λ (f : FieldShape). is_record_number f.number) fs ≡ true
         → list_all (λ (f : FieldShape). has_good_keys f.cardinality) fs ≡ true → are_good fs ≡ true
     at [] h k = refl
     at (f ∷ fs) h k =
-        let p = both (is_number f.number) (list_all (λ (f : FieldShape). is_number f.number) fs) h in
+        let p = both (is_record_number f.number) (list_all (λ (f : FieldShape). is_record_number f.number) fs) h in
         let q = both (has_good_keys f.cardinality) (list_all (λ (f : FieldShape). has_good_keys f.cardinality) fs) k in
         rw (p.0, q.0, at fs p.1 q.1) refl
 

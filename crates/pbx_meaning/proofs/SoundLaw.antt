@@ -18,12 +18,11 @@ use Rattle.pbx_meaning.specs.Records.{is_of, those_of, each, flat, any, after_la
 use Rattle.pbx_meaning.specs.Shape.{fields_of, field_of, same_oneof, is_float, is_other, is_read_as, is_kept, is_rival}
 use Rattle.pbx_meaning.specs.Meaning.{with_field, value, records_of, meaning, meaning_within, parts_meaning_of}
 use Rattle.pbx_meaning.specs.Onto.{InnerOnto, from_empty, still, singular_onto, onto_by_cardinality, value_onto, value_onto_among, values_onto, layer_onto, meaning_onto, merged_of}
-use Rattle.pbx_meaning.specs.Laws.{AreBytes}
 use Rattle.pbx_meaning.specs.Sound.{has_good_keys, IsProper, AreKept, has_one_member, IsSound, AreSound, IsSoundAt, depth as content_depth, fields_depth}
 use Rattle.pbx_meaning.proofs.OntoFields.{AreAbove, values_above, IsGot, AreGot, values_got}
 use Rattle.pbx_meaning.proofs.OntoLaw.{onto_at, onto_is, onto_empty, unbound}
 use Rattle.pbx_meaning.proofs.OntoSplits.{after_last_part}
-use Rattle.pbx_meaning.proofs.SoundLists.{all-flat, all-each, all-filter, all-right, all-weaken, all-both}
+use Rattle.pbx_meaning.proofs.SoundLists.{all-flat, each-all, all-filter, all-right, all-weaken, all-both}
 use Rattle.pbx_meaning.proofs.SoundRecords.{IsGood, AreGood, are_inside, records_good}
 use Rattle.pbx_meaning.proofs.SoundValues.{mapped_is, bound_is, IsSoundIn, sound_in, sound_of, IsType, Keeps, nothing_sound, types, MayBe, no_value, get_sound, value_sound}
 
@@ -392,51 +391,51 @@ sound_by : (shape : Shape) (levels m n : ℕ) → IsProper shape → Keeps shape
 sound_by shape levels m n proper ks le gs type old d rs s deep g e =
     layer_sound shape m n (onto_at shape levels) proper ks le gs type old d rs s deep g (sym (onto_is shape levels gs old rs) ∙ e)
 
-payloads_good : (l : ℕ) (bs : List (List ℕ)) (rs : List Rec) → AllByRecursion AreBytes bs → records_of l bs ≡ Some rs → AreGood l rs
-payloads_good l bs rs b e =
+payloads_good : (l : ℕ) (bs : List (List ℕ)) (rs : List Rec) → records_of l bs ≡ Some rs → AreGood l rs
+payloads_good l bs rs e =
     let rss = mapped_is flat (each (records_in l) bs) rs e in
-    subst (AreGood l) rss.2 (all-flat (IsGood l) rss.0 (all-each AreBytes (AreGood l) (records_in l) (λ b rs h d. records_good l b rs h d) bs rss.0 b rss.1))
+    subst (AreGood l) rss.2 (all-flat (IsGood l) rss.0 (each-all (AreGood l) (records_in l) (records_good l) bs rss.0 rss.1))
 
 onto_keeps : (shape : Shape) (levels m : ℕ) → IsProper shape → levels ≤ m → Keeps shape m (onto_at shape levels)
 unfolding onto_at
-onto_keeps shape zero m proper le = record { keeps = λ gs c d bs type b s deep e. absurd cc }
+onto_keeps shape zero m proper le = record { keeps = λ gs c d bs type s deep e. absurd cc }
 onto_keeps shape (suc l) zero proper le = absurd (omega arith)
 onto_keeps shape (suc l) (suc m) proper le = record {
-  keeps = λ gs c d bs type b s deep e.
+  keeps = λ gs c d bs type s deep e.
       let rs = bound_is (meaning_onto shape l gs c) (records_of l bs) d e in
       let is =
-      sound_by shape l m l proper (onto_keeps shape l m proper (omega arith)) (omega arith) gs type c d rs.0 s deep (payloads_good l bs rs.0 b rs.1) rs.2 in
+      sound_by shape l m l proper (onto_keeps shape l m proper (omega arith)) (omega arith) gs type c d rs.0 s deep (payloads_good l bs rs.0 rs.1) rs.2 in
       (is.0, is.1, omega arith);
 }
 
 -- What bytes mean, a message may have, and it nests at most one level deeper than they may.
-within_sound : (shape : Shape) (levels n t : ℕ) (bytes : List ℕ) (c : Content) → IsProper shape → n ≤ suc levels → AreBytes bytes
+within_sound : (shape : Shape) (levels n t : ℕ) (bytes : List ℕ) (c : Content) → IsProper shape → n ≤ suc levels
     → option_and_then (meaning shape levels (fields_of shape t)) (records_in n bytes) ≡ Some c
     → IsSound shape t c × (content_depth c ≤ suc levels)
-within_sound shape levels n t bytes c proper le b e =
+within_sound shape levels n t bytes c proper le e =
     let gs = fields_of shape t in
     let rs = bound_is (meaning shape levels gs) (records_in n bytes) c e in
     let is =
     sound_by shape levels levels n proper (onto_keeps shape levels levels proper (omega arith)) le gs (types shape proper t) empty c rs.0
-    (nothing_sound shape gs) (omega arith) (records_good n bytes rs.0 b rs.1) (onto_empty shape levels gs rs.0 ∙ rs.2) in
+    (nothing_sound shape gs) (omega arith) (records_good n bytes rs.0 rs.1) (onto_empty shape levels gs rs.0 ∙ rs.2) in
     (sound_of shape t c is.0, is.1)
 
-pub meaning_sound : (shape : Shape) (levels t : ℕ) (bytes : List ℕ) (c : Content) → IsProper shape → AreBytes bytes
+pub meaning_sound : (shape : Shape) (levels t : ℕ) (bytes : List ℕ) (c : Content) → IsProper shape
     → meaning_within shape levels (fields_of shape t) bytes ≡ Some c → IsSound shape t c × (content_depth c ≤ suc levels)
-meaning_sound shape levels t bytes c proper b e = within_sound shape levels levels t bytes c proper (omega arith) b e
+meaning_sound shape levels t bytes c proper e = within_sound shape levels levels t bytes c proper (omega arith) e
 
-pub parts_sound : (shape : Shape) (t : ℕ) (bytes : List ℕ) (c : Content) → IsProper shape → AreBytes bytes → parts_meaning_of shape t bytes ≡ Some c
+pub parts_sound : (shape : Shape) (t : ℕ) (bytes : List ℕ) (c : Content) → IsProper shape → parts_meaning_of shape t bytes ≡ Some c
     → IsSound shape t c
-parts_sound shape t bytes c proper b e = (within_sound shape 101 100 t bytes c proper (omega arith) b e).0
+parts_sound shape t bytes c proper e = (within_sound shape 101 100 t bytes c proper (omega arith) e).0
 
 -- What bytes mean behind a content that a message may have, a message may have.
-pub merged_sound : (shape : Shape) (t : ℕ) (old new : Content) (bytes : List ℕ) → IsProper shape → AreBytes bytes → IsSound shape t old
+pub merged_sound : (shape : Shape) (t : ℕ) (old new : Content) (bytes : List ℕ) → IsProper shape → IsSound shape t old
     → merged_of shape t old bytes ≡ Some new → IsSound shape t new
-merged_sound shape t old new bytes proper b s e =
+merged_sound shape t old new bytes proper s e =
     let gs = fields_of shape t in
     let m = max (content_depth old) 100 in
     let rs = bound_is (meaning_onto shape 100 gs old) (records_in 100 bytes) new e in
     let is =
     sound_by shape 100 m 100 proper (onto_keeps shape 100 m proper (omega arith)) (omega arith) gs (types shape proper t) old new rs.0
-    (sound_in shape t old s) (omega arith) (records_good 100 bytes rs.0 b rs.1) rs.2 in
+    (sound_in shape t old s) (omega arith) (records_good 100 bytes rs.0 rs.1) rs.2 in
     sound_of shape t new is.0

@@ -39,6 +39,15 @@ all-each {Y = Y} Q P f g (x ∷ xs) ys h e = at (f x) (each f xs) refl refl e (�
         let is : (y ∷ zs) ≡ ys = cc in
         subst (AllByRecursion P) is (g x y h.0 p, ih zs q)
 
+-- the same where what one gives has it, whatever it comes from
+pub each-all : {X Y : Type 0} (P : Y → Type 0) (f : X → Option Y) → ((x : X) (y : Y) → f x ≡ Some y → P y)
+    → (xs : List X) (ys : List Y) → each f xs ≡ Some ys → AllByRecursion P ys
+each-all {X = X} P f g xs ys e = all-each (λ x. Unit {0}) P f (λ x y h d. g x y d) xs ys (any_all xs) e
+  where
+    any_all : (xs : List X) → AllByRecursion (λ x. Unit {0}) xs
+    any_all [] = tt
+    any_all (x ∷ xs) = (tt, any_all xs)
+
 pub all-filter : {X : Type 0} (P : X → Type 0) (p : X → Bool) (xs : List X) → AllByRecursion P xs → AllByRecursion P (filter p xs)
 all-filter P p [] h = tt
 all-filter P p (x ∷ xs) h = at (p x) (all-filter P p xs h.1)

@@ -3,13 +3,14 @@ use Rattle.std.proofs.Common.{◌≡◌, inl, inr, ℕ, zero, suc, ◌+◌, ◌*
 use Rattle.std.specs.Prelude.{ℤ, pos, negsuc, ◌==◌, option_and_then, IsTrue, codes}
 use Rattle.std.specs.List.{AllByRecursion, list_all}
 use mir.Val.{hbits}
-use Rattle.std.specs.Int.{Width, w32, w64, from_le_bytes}
+use Rattle.std.specs.Int.{Width, w32, w64}
+use Rattle.pbx_wire.specs.Fixed.{fixed}
+use Rattle.pbx_wire.proofs.Fixed.{fits_4, fits_8}
 use Rattle.std.specs.Int.RustNames.{FitsSigned}
 use Rattle.std.specs.Str.{is_utf8, chars}
 use lib.Utf8.{encode}
 use Rattle.std.proofs.lemmas.Bool.{ltb-true}
 use Rattle.std.proofs.lemmas.Bool.Decides.{nat_tests}
-use Rattle.std.proofs.lemmas.List.{take-append-drop}
 use borrow.Author.Gap.{read_sfits}
 use Rattle.pbx_wire.specs.declared.error.DecodeError.{DecodeError}
 use Rattle.pbx_wire.specs.declared.rec.Rec.{Rec, Varint, Fixed64, Bytes, Group', Fixed32, out-Rec, map-Rec, fold_out-Rec}
@@ -28,14 +29,13 @@ use Rattle.pbx_meaning.specs.Records.{bytes_of, varint_of, fixed32_of, fixed64_o
 use Rattle.pbx_meaning.specs.Shape.{declared_of, fields_of, field_of, is_other, entry_field, entry_fields, Form, as_varint, as_four, as_eight, as_payload, form_of, is_float, is_packable, is_key_kind}
 use Rattle.pbx_meaning.specs.Meaning.{Inner, no_inner, unzigzag, numeric, number_in, numbers_in, as_text, alone, one, or_packed, spread, zero_of, is_default, shown, or_else, key_in, pair_in, entry_in}
 use Rattle.pbx_meaning.specs.Onto.{list_of, pair_list, elements, pairs_held, message_held, InnerOnto, from_empty, latest, joined_onto, singular_onto, onto_by_cardinality, value_onto}
-use Rattle.pbx_meaning.specs.Laws.{AreBytes}
 use Rattle.pbx_meaning.specs.Sound.{has_good_keys, IsProper, IsNumber, IsKeyOf, IsBefore, IsShown, AreKept, has_one_member, IsSound, AreSound, IsSoundAt, AreElements, ArePairs, IsElement, depth, fields_depth, val_depth, vals_depth, pairs_depth}
 use Rattle.pbx_meaning.proofs.OntoFields.{AreAbove, all-by_number, fields_ascend}
 use Rattle.pbx_meaning.proofs.OntoLaw.{plain_onto}
 use Rattle.pbx_meaning.proofs.OntoSplits.{is_plain, no_plain}
 use Rattle.pbx_meaning.proofs.OntoPairs.{Compared, first, same, later, key_compared}
 use Rattle.pbx_meaning.proofs.SoundLists.{all-append, all-flat, all-map, all-last, all-each}
-use Rattle.pbx_meaning.proofs.SoundRecords.{bytes_parts, fits_4, fits_8, IsGood, AreGood}
+use Rattle.pbx_meaning.proofs.SoundRecords.{IsGood, AreGood}
 
 -- ---- numbers
 
@@ -103,32 +103,29 @@ varints_fit (suc turns) (b ∷ bs) vs e = at (varint_at 0 9 (b ∷ bs)) refl e (
             let fits : v.0 < 2 ^ 64 = omega (arith, t.holds.fits) in
             subst (AllByRecursion (λ v. v < 2 ^ 64)) is (fits, ih v.1 ws q)
 
-fixed_fit : (w : Width) (len n : ℕ) → ((bs : List ℕ) → AreBytes bs → from_le_bytes w bs < n) → (turns : ℕ) (b vs : List ℕ) → AreBytes b
+fixed_fit : (w : Width) (len n : ℕ) → ((bs : List ℕ) → fixed w bs < n) → (turns : ℕ) (b vs : List ℕ)
     → fixed_in w len turns b ≡ Some vs → AllByRecursion (λ v. v < n) vs
 unfolding fixed_in
-fixed_fit w len n fits turns [] vs h e = let nothing : List ℕ = [] in let is : nothing ≡ vs = cc in subst (AllByRecursion (λ v. v < n)) is tt
-fixed_fit w len n fits zero (b ∷ bs) vs h e = absurd cc
-fixed_fit w len n fits (suc turns) (b ∷ bs) vs h e =
+fixed_fit w len n fits turns [] vs e = let nothing : List ℕ = [] in let is : nothing ≡ vs = cc in subst (AllByRecursion (λ v. v < n)) is tt
+fixed_fit w len n fits zero (b ∷ bs) vs e = absurd cc
+fixed_fit w len n fits (suc turns) (b ∷ bs) vs e =
     at (nat_lt (length (b ∷ bs)) len) (fixed_in w len turns (drop len (b ∷ bs))) refl e (fixed_fit w len n fits turns (drop len (b ∷ bs)))
   where
-    parts : AreBytes (take len (b ∷ bs)) × AreBytes (drop len (b ∷ bs))
-    parts = bytes_parts (take len (b ∷ bs)) (drop len (b ∷ bs)) (rw (take-append-drop len (b ∷ bs)) h)
-
     at : (c : Bool) (y : Option (List ℕ)) → fixed_in w len turns (drop len (b ∷ bs)) ≡ y
-        → (if c then None else option_map (λ ws. from_le_bytes w (take len (b ∷ bs)) ∷ ws) y) ≡ Some vs
-        → ((ws : List ℕ) → AreBytes (drop len (b ∷ bs)) → fixed_in w len turns (drop len (b ∷ bs)) ≡ Some ws → AllByRecursion (λ v. v < n) ws)
+        → (if c then None else option_map (λ ws. fixed w (take len (b ∷ bs)) ∷ ws) y) ≡ Some vs
+        → ((ws : List ℕ) → fixed_in w len turns (drop len (b ∷ bs)) ≡ Some ws → AllByRecursion (λ v. v < n) ws)
         → AllByRecursion (λ v. v < n) vs
     at true y q e ih = absurd cc
     at false None q e ih = absurd cc
     at false (Some ws) q e ih =
-        let is : (from_le_bytes w (take len (b ∷ bs)) ∷ ws) ≡ vs = cc in
-        subst (AllByRecursion (λ v. v < n)) is (fits (take len (b ∷ bs)) parts.0, ih ws parts.1 q)
+        let is : (fixed w (take len (b ∷ bs)) ∷ ws) ≡ vs = cc in
+        subst (AllByRecursion (λ v. v < n)) is (fits (take len (b ∷ bs)), ih ws q)
 
-numbers_fit : (fm : Form) (b vs : List ℕ) → AreBytes b → numbers_in fm b ≡ Some vs → AllByRecursion (λ v. v < limit fm) vs
-numbers_fit as_varint b vs h e = varints_fit (length b) b vs e
-numbers_fit as_four b vs h e = fixed_fit w32 4 (2 ^ 32) fits_4 (length b) b vs h e
-numbers_fit as_eight b vs h e = fixed_fit w64 8 (2 ^ 64) fits_8 (length b) b vs h e
-numbers_fit as_payload b vs h e = absurd cc
+numbers_fit : (fm : Form) (b vs : List ℕ) → numbers_in fm b ≡ Some vs → AllByRecursion (λ v. v < limit fm) vs
+numbers_fit as_varint b vs e = varints_fit (length b) b vs e
+numbers_fit as_four b vs e = fixed_fit w32 4 (2 ^ 32) fits_4 (length b) b vs e
+numbers_fit as_eight b vs e = fixed_fit w64 8 (2 ^ 64) fits_8 (length b) b vs e
+numbers_fit as_payload b vs e = absurd cc
 
 unzigzag_fits : (w : Width) (v : ℕ) → v < 2 * 2 ^ hbits w → FitsSigned w (unzigzag v)
 unzigzag_fits w v lt = at (v % 2 == 0)
@@ -188,7 +185,7 @@ pub record IsType (gs : List FieldShape) : Type 0 where
 
 -- what payloads mean behind a content that may be one is so, and nests no more than m
 pub record Keeps (shape : Shape) (m : ℕ) (inner : InnerOnto) : Type 0 where
-  pub keeps : (gs : List FieldShape) (c d : Content) (bs : List (List ℕ)) → IsType gs → AllByRecursion AreBytes bs → IsSoundIn shape gs c → depth c ≤ m
+  pub keeps : (gs : List FieldShape) (c d : Content) (bs : List (List ℕ)) → IsType gs → IsSoundIn shape gs c → depth c ≤ m
       → inner gs c bs ≡ Some d
       → IsSoundIn shape gs d × (depth d ≤ m) × (0 < m)
 
@@ -253,7 +250,7 @@ alone_sound shape m n inner proper ks (kind.Message t) r v g e =
     let b = bound_is (λ b. option_map message (inner (fields_of shape t) empty (b ∷ []))) (bytes_of r) v e in
     let c = mapped_is message (inner (fields_of shape t) empty (b.0 ∷ [])) v b.2 in
     let is =
-    ks.keeps (fields_of shape t) empty c.0 (b.0 ∷ []) (types shape proper t) (g.payload b.0 b.1, tt) (nothing_sound shape (fields_of shape t))
+    ks.keeps (fields_of shape t) empty c.0 (b.0 ∷ []) (types shape proper t) (nothing_sound shape (fields_of shape t))
     (omega arith) c.1 in
     subst (IsValue shape (suc m) (kind.Message t)) c.2 ((t, refl, sound_of shape t c.0 is.0), omega (arith, is.1))
 alone_sound shape m n inner proper ks kind.Int32 r v g e = number_sound shape (suc m) n kind.Int32 r v refl refl g e
@@ -289,7 +286,7 @@ spread_sound shape m n inner proper ks k plain r vs g e = at (is_packable k) ref
         let ns = mapped_is (map (numeric k)) (numbers_in (form_of k) b) vs e in
         subst (AllByRecursion (IsValue shape (suc m) k)) ns.2
         (all-map (IsValue shape (suc m) k) (λ v. v < limit (form_of k)) (numeric k)
-        (λ v lt. (numeric_sound shape k v p plain lt, omega (arith, numeric_flat k v))) ns.0 (numbers_fit (form_of k) b ns.0 (g.payload b d) ns.1))
+        (λ v lt. (numeric_sound shape k v p plain lt, omega (arith, numeric_flat k v))) ns.0 (numbers_fit (form_of k) b ns.0 ns.1))
 
 -- ---- lists
 
@@ -390,9 +387,6 @@ latest_sound shape n f old vs c had h = at (last_of vs) refl
         let good : IsValue shape n f.kind v = subst (IsValue shape n f.kind) is.0 (all-last (IsValue shape n f.kind) vs w h d) in
         (from_element shape f v c is.1 good.0, good.1)
 
-payloads_good : (n : ℕ) (rs : List Rec) (bs : List (List ℕ)) → AreGood n rs → each bytes_of rs ≡ Some bs → AllByRecursion AreBytes bs
-payloads_good n rs bs g e = all-each (IsGood n) AreBytes bytes_of (λ r b good d. good.payload b d) rs bs g e
-
 -- what the message that stands there holds, if it stands there
 held_sound : (shape : Shape) (m t : ℕ) (f : FieldShape) (old : Option Val) → f.kind ≡ kind.Message t → MayBe shape (suc m) f old
     → IsSoundIn shape (fields_of shape t) (message_held old) × (depth (message_held old) ≤ m)
@@ -410,12 +404,12 @@ held_sound shape m t f (Some (keyed ps)) k h = (nothing_sound shape (fields_of s
 
 joined_sound : (shape : Shape) (m t : ℕ) (inner : InnerOnto) → IsProper shape → Keeps shape m inner → (f : FieldShape) → f.cardinality ≡ Singular
     → f.kind ≡ kind.Message t → (old o : Option Val) (bs : List (List ℕ)) → MayBe shape (suc m) f old
-    → AllByRecursion AreBytes bs → joined_onto inner (fields_of shape t) old bs ≡ Some o → MayBe shape (suc m) f o
-joined_sound shape m t inner proper ks f c k old o [] had g e = let is : old ≡ o = cc in subst (MayBe shape (suc m) f) is had
-joined_sound shape m t inner proper ks f c k old o (b ∷ bs) had g e = λ v is.
+    → joined_onto inner (fields_of shape t) old bs ≡ Some o → MayBe shape (suc m) f o
+joined_sound shape m t inner proper ks f c k old o [] had e = let is : old ≡ o = cc in subst (MayBe shape (suc m) f) is had
+joined_sound shape m t inner proper ks f c k old o (b ∷ bs) had e = λ v is.
     let d = mapped_is (λ c. Some (message c)) (inner (fields_of shape t) (message_held old) (b ∷ bs)) o e in
     let before = held_sound shape m t f old k had in
-    let after = ks.keeps (fields_of shape t) (message_held old) d.0 (b ∷ bs) (types shape proper t) g before.0 before.1 d.1 in
+    let after = ks.keeps (fields_of shape t) (message_held old) d.0 (b ∷ bs) (types shape proper t) before.0 before.1 d.1 in
     let made : message d.0 ≡ v = (let q : Some (message d.0) ≡ Some v = d.2 ∙ is in cc) in
     subst (IsFor shape (suc m) f) made ((c, (t, k, sound_of shape t d.0 after.0)), omega (arith, after.1))
 
@@ -438,7 +432,7 @@ singular_sound shape m n inner proper ks f c old o rs had g = at (is_plain f.kin
     at false p e =
         let t = no_plain f.kind p in
         let bs = bound_is (joined_onto inner (fields_of shape t.0) old) (each bytes_of rs) o (rw t.1 at e) in
-        joined_sound shape m t.0 inner proper ks f c t.1 old o bs.0 had (payloads_good n rs bs.0 g bs.1) bs.2
+        joined_sound shape m t.0 inner proper ks f c t.1 old o bs.0 had bs.2
 
 -- ---- keys
 
@@ -600,7 +594,7 @@ map_sound shape m n inner proper ks key good f plain c old o rs had g e v is =
     entry : (r : Rec) (c : Content) → IsGood n r → entry_in (from_empty inner) key f.kind r ≡ Some c → IsEntry shape m key f.kind c
     entry r c g e =
         let b = bound_is (λ b. inner (entry_fields key f.kind) empty (b ∷ [])) (bytes_of r) c e in
-        ks.keeps (entry_fields key f.kind) empty c (b.0 ∷ []) (entry_type key f.kind) (g.payload b.0 b.1, tt) (nothing_sound shape (entry_fields key f.kind))
+        ks.keeps (entry_fields key f.kind) empty c (b.0 ∷ []) (entry_type key f.kind) (nothing_sound shape (entry_fields key f.kind))
         (omega arith) b.2
 
 -- What records of a field give behind a value that it may have, it may have.

@@ -5,9 +5,8 @@ use Rattle.std.specs.Prelude.{option_and_then}
 use Rattle.std.specs.Str.{is_utf8}
 use Rattle.std.proofs.lemmas.Bool.{lt-ltb}
 use Rattle.std.proofs.lemmas.List.{map-append}
-use Rattle.pbx_wire.specs.Text.{text, text_of, is_number, is_numbered, all_true, are_numbered, is_fit, are_fit, depth as rec_depth, depth_of}
-use Rattle.pbx_wire.proofs.Written.{written_spelled, all_true-append}
-use Rattle.pbx_wire.proofs.Again.{all_again}
+use Rattle.pbx_wire.specs.Text.{text, text_of, is_record_number, is_numbered, all_true, are_numbered, is_fit, are_fit, depth as rec_depth, depth_of}
+use Rattle.pbx_wire.proofs.Written.{written_again, all_true-append}
 use Rattle.pbx_wire.specs.declared.rec.Rec.{Rec}
 use Rattle.pbx_wire.specs.declared.rec.Rec.{the_lemmas as rec_lemmas}
 use Rattle.pbx_wire.specs.declared.rec.Rec.TheVariants as rec
@@ -85,24 +84,24 @@ first_writable r rs numbered fit shallow w = record {
   shallow = rw (shallow, w.shallow) refl;
 }
 
-number_writable : (n : ℕ) (form : Form) (v : ℕ) (rs : List Rec) → is_number n ≡ true → FitsForm form v → Writable rs → Writable (number_rec n form v ∷ rs)
+number_writable : (n : ℕ) (form : Form) (v : ℕ) (rs : List Rec) → is_record_number n ≡ true → FitsForm form v → Writable rs → Writable (number_rec n form v ∷ rs)
 number_writable n as_varint v rs h lt w =
-    let numbered : is_numbered (rec.Varint n v) ≡ is_number n = search (rules, rec_lemmas) in
+    let numbered : is_numbered (rec.Varint n v) ≡ is_record_number n = search (rules, rec_lemmas) in
     let fit : is_fit (rec.Varint n v) ≡ nat_lt v (2 ^ 64) = search (rules, rec_lemmas) in
     first_writable (rec.Varint n v) rs (numbered ∙ h) (λ short. fit ∙ lt-ltb v (2 ^ 64) lt) (search (rules, rec_lemmas)) w
 number_writable n as_four v rs h lt w =
-    let numbered : is_numbered (rec.Fixed32 n v) ≡ is_number n = search (rules, rec_lemmas) in
+    let numbered : is_numbered (rec.Fixed32 n v) ≡ is_record_number n = search (rules, rec_lemmas) in
     let fit : is_fit (rec.Fixed32 n v) ≡ nat_lt v (2 ^ 32) = search (rules, rec_lemmas) in
     first_writable (rec.Fixed32 n v) rs (numbered ∙ h) (λ short. fit ∙ lt-ltb v (2 ^ 32) lt) (search (rules, rec_lemmas)) w
 number_writable n as_eight v rs h lt w =
-    let numbered : is_numbered (rec.Fixed64 n v) ≡ is_number n = search (rules, rec_lemmas) in
+    let numbered : is_numbered (rec.Fixed64 n v) ≡ is_record_number n = search (rules, rec_lemmas) in
     let fit : is_fit (rec.Fixed64 n v) ≡ nat_lt v (2 ^ 64) = search (rules, rec_lemmas) in
     first_writable (rec.Fixed64 n v) rs (numbered ∙ h) (λ short. fit ∙ lt-ltb v (2 ^ 64) lt) (search (rules, rec_lemmas)) w
 number_writable n as_payload v rs h lt w = absurd lt
 
-bytes_writable : (n : ℕ) (b : List ℕ) (rs : List Rec) → is_number n ≡ true → Writable rs → Writable (rec.Bytes n b ∷ rs)
+bytes_writable : (n : ℕ) (b : List ℕ) (rs : List Rec) → is_record_number n ≡ true → Writable rs → Writable (rec.Bytes n b ∷ rs)
 bytes_writable n b rs h w =
-    let numbered : is_numbered (rec.Bytes n b) ≡ is_number n = search (rules, rec_lemmas) in
+    let numbered : is_numbered (rec.Bytes n b) ≡ is_record_number n = search (rules, rec_lemmas) in
     let fit : is_fit (rec.Bytes n b) ≡ nat_lt (length b) (2 ^ 64) = search (rules, rec_lemmas) in
     first_writable (rec.Bytes n b) rs (numbered ∙ h) (λ short. fit ∙ lt-ltb (length b) (2 ^ 64) (omega (arith, short, bytes_within n b)))
     (search (rules, rec_lemmas)) w
@@ -116,7 +115,7 @@ append_writable (x ∷ xs) ys v w = record {
   shallow = rw (depth-append (x ∷ xs) ys, v.shallow, w.shallow) refl;
 }
 
-val_writable : (shape : Shape) (n : ℕ) (k : Kind) (v : Val) (rs : List Rec) → is_number n ≡ true → IsElement shape k v → Writable rs
+val_writable : (shape : Shape) (n : ℕ) (k : Kind) (v : Val) (rs : List Rec) → is_record_number n ≡ true → IsElement shape k v → Writable rs
     → Writable (val_rec shape n k v ∷ rs)
 val_writable shape n k (number z) rs h e w = number_writable n (form_of k) (numeral k (number z)) rs h (number_numeral k z e).fits w
 val_writable shape n k (truth b) rs h e w = rw e (number_writable n (form_of kind.Bool) (numeral kind.Bool (truth b)) rs h (truth_numeral b).fits w)
@@ -126,16 +125,16 @@ val_writable shape n k (message c) rs h e w = bytes_writable n (encoded shape (t
 val_writable shape n k (many vs) rs h e w = absurd e
 val_writable shape n k (keyed ps) rs h e w = absurd e
 
-vals_writable : (shape : Shape) (n : ℕ) (k : Kind) (vs : Vals) → is_number n ≡ true → AreElements shape k vs → Writable (vals_recs shape n k vs)
+vals_writable : (shape : Shape) (n : ℕ) (k : Kind) (vs : Vals) → is_record_number n ≡ true → AreElements shape k vs → Writable (vals_recs shape n k vs)
 vals_writable shape n k no_vals h e = nothing_writable
 vals_writable shape n k (val v vs) h e = val_writable shape n k v (vals_recs shape n k vs) h e.0 (vals_writable shape n k vs h e.1)
 
-pairs_writable : (shape : Shape) (n : ℕ) (key k : Kind) (ps : Pairs) → is_number n ≡ true → Writable (pairs_recs shape n key k ps)
+pairs_writable : (shape : Shape) (n : ℕ) (key k : Kind) (ps : Pairs) → is_record_number n ≡ true → Writable (pairs_recs shape n key k ps)
 pairs_writable shape n key k no_pairs h = nothing_writable
 pairs_writable shape n key k (pair l v ps) h =
     bytes_writable n (text_of (entry_recs shape key k l v)) (pairs_recs shape n key k ps) h (pairs_writable shape n key k ps h)
 
-field_writable : (shape : Shape) (f : FieldShape) (v : Val) → is_number f.number ≡ true → IsSoundAt shape (Some f) v → Writable (field_recs shape (Some f) v)
+field_writable : (shape : Shape) (f : FieldShape) (v : Val) → is_record_number f.number ≡ true → IsSoundAt shape (Some f) v → Writable (field_recs shape (Some f) v)
 field_writable shape f (number z) n h = val_writable shape f.number f.kind (number z) [] n h.2 nothing_writable
 field_writable shape f (truth b) n h = val_writable shape f.number f.kind (truth b) [] n h.2 nothing_writable
 field_writable shape f (text_val s) n h = bytes_writable f.number s [] n nothing_writable
@@ -159,9 +158,6 @@ fields_writable shape gs (field n v fs) a h =
     at (Some f) e s = field_writable shape f v (numbered_field 0 n gs f a e) s
 
 -- ---- the records of a content are spelled by its text
-
-written_again : (levels : ℕ) (rs : List Rec) → are_numbered rs ≡ true → are_fit rs ≡ true → depth_of rs ≤ levels → records_in levels (text_of rs) ≡ Some rs
-written_again levels rs numbered fit deep = rw (all_again levels (text_of rs) rs (written_spelled levels rs numbered fit deep)) refl
 
 kept_short : (a b n : ℕ) → n ≡ a + b → n < 2 ^ 64 → a < 2 ^ 64
 kept_short a b n e h = omega (arith, e, h)

@@ -1,13 +1,14 @@
 -- What a number is written as is read as the number, by the form of its kind.
 use Rattle.std.proofs.Common.{◌≡◌, ℕ, zero, suc, ◌%◌, ◌^◌, ◌<◌, ◌≤◌, ℤ, pos, negsuc, Bool, true, false, not, nat_lt, List, [], ◌∷◌, ◌++◌, length, Some, None}
 use Rattle.std.proofs.Common.{option_map, refl, ap, ◌∙◌, arith, length-append}
-use Rattle.std.specs.Int.{Width, w32, w64, cast_signed, cast_unsigned, from_le_bytes, to_le_bytes}
+use Rattle.std.specs.Int.{Width, w32, w64, cast_signed, cast_unsigned, to_le_bytes}
+use Rattle.pbx_wire.specs.Fixed.{fixed}
 use Rattle.std.specs.Int.RustNames.{FitsSigned}
 use Rattle.std.proofs.lemmas.Bool.{le-ltb}
 use Rattle.std.proofs.lemmas.Bool.Decides.{nat_tests}
 use Rattle.std.proofs.lemmas.Int.{to_z-of_z}
 use Rattle.std.proofs.lemmas.List.{take_at, drop_at}
-use Rattle.std.proofs.lemmas.Nat.{from_le_bytes-to_le_bytes_4, from_le_bytes-to_le_bytes_8}
+use Rattle.pbx_wire.proofs.Fixed.{fixed_back_4, fixed_back_8}
 use Rattle.pbx_wire.specs.Varint.{varint}
 use Rattle.pbx_wire.specs.Spelling.{IsVarint}
 use Rattle.pbx_wire.proofs.Again.{varint_again}
@@ -188,7 +189,7 @@ varints_back (v ∷ vs) (suc turns) h le =
     let rest = varints_back vs turns h.1 (omega (arith, varint_has (varint v) v is, length-append (varint v) (numbers_text as_varint vs))) in
     rw (varints_step turns v (varint v) (numbers_text as_varint vs) is, rest) refl
 
-fixed_step : (w : Width) (len turns v : ℕ) (t rest : List ℕ) → 0 < len → length t ≡ len → from_le_bytes w t ≡ v
+fixed_step : (w : Width) (len turns v : ℕ) (t rest : List ℕ) → 0 < len → length t ≡ len → fixed w t ≡ v
     → fixed_in w len (suc turns) (t ++ rest) ≡ option_map (λ vs. v ∷ vs) (fixed_in w len turns rest)
 unfolding fixed_in
 fixed_step w len turns v [] rest lt e is = absurd (omega arith)
@@ -205,7 +206,7 @@ fours_back [] turns h le = no_fixed w32 4 turns
 fours_back (v ∷ vs) zero h le = absurd (omega (arith, length-append (to_le_bytes w32 v) (numbers_text as_four vs)))
 fours_back (v ∷ vs) (suc turns) h le =
     let rest = fours_back vs turns h.1 (omega (arith, length-append (to_le_bytes w32 v) (numbers_text as_four vs))) in
-    rw (fixed_step w32 4 turns v (to_le_bytes w32 v) (numbers_text as_four vs) (omega arith) refl (from_le_bytes-to_le_bytes_4 v h.0), rest) refl
+    rw (fixed_step w32 4 turns v (to_le_bytes w32 v) (numbers_text as_four vs) (omega arith) refl (fixed_back_4 v h.0), rest) refl
 
 eights_back : (vs : List ℕ) (turns : ℕ) → AllFit as_eight vs → length (numbers_text as_eight vs) ≤ turns
     → fixed_in w64 8 turns (numbers_text as_eight vs) ≡ Some vs
@@ -213,7 +214,7 @@ eights_back [] turns h le = no_fixed w64 8 turns
 eights_back (v ∷ vs) zero h le = absurd (omega (arith, length-append (to_le_bytes w64 v) (numbers_text as_eight vs)))
 eights_back (v ∷ vs) (suc turns) h le =
     let rest = eights_back vs turns h.1 (omega (arith, length-append (to_le_bytes w64 v) (numbers_text as_eight vs))) in
-    rw (fixed_step w64 8 turns v (to_le_bytes w64 v) (numbers_text as_eight vs) (omega arith) refl (from_le_bytes-to_le_bytes_8 v h.0), rest) refl
+    rw (fixed_step w64 8 turns v (to_le_bytes w64 v) (numbers_text as_eight vs) (omega arith) refl (fixed_back_8 v h.0), rest) refl
 
 pub numbers_back : (form : Form) (vs : List ℕ) → (is_payload form ≡ false) → AllFit form vs → numbers_in form (numbers_text form vs) ≡ Some vs
 numbers_back as_varint vs e h = varints_back vs (length (numbers_text as_varint vs)) h (omega arith)

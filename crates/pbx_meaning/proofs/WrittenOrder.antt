@@ -6,7 +6,7 @@ use Rattle.std.specs.List.{AllByRecursion}
 use Rattle.std.proofs.lemmas.Map.Keys.{IsDistinct-head, IsDistinct-tail}
 use Rattle.std.proofs.lemmas.Bool.{ltb-true}
 use Rattle.std.proofs.lemmas.Bool.Decides.{nat_tests}
-use Rattle.pbx_wire.specs.Text.{is_number}
+use Rattle.pbx_wire.specs.Text.{is_record_number}
 use Rattle.pbx_wire.proofs.Written.{both}
 use Rattle.pbx_meaning.specs.declared.shape.Shape.{Shape}
 use Rattle.pbx_meaning.specs.declared.shape.FieldShape.{FieldShape}
@@ -16,7 +16,7 @@ use Rattle.pbx_meaning.specs.Sound.{IsProper}
 -- the numbers of the fields ascend from above n, and records may have them
 abbrev pub AreAbove : ℕ → List FieldShape → Type 0
 AreAbove n [] = Unit {0}
-AreAbove n (f ∷ fs) = (n < f.number) × (is_number f.number ≡ true) × AreAbove f.number fs
+AreAbove n (f ∷ fs) = (n < f.number) × (is_record_number f.number ≡ true) × AreAbove f.number fs
 
 -- no field has the number
 abbrev AreApart : ℕ → List FieldShape → Type 0
@@ -35,7 +35,7 @@ apart_by_number : (n : ℕ) (fs : List FieldShape) → AllByRecursion (λ m. (n 
 apart_by_number n [] h = tt
 apart_by_number n (f ∷ fs) h = apart_inserted n f (by_number fs) h.0 (apart_by_number n fs h.1)
 
-above_inserted : (n : ℕ) (f : FieldShape) (gs : List FieldShape) → AreAbove n gs → n < f.number → is_number f.number ≡ true → AreApart f.number gs
+above_inserted : (n : ℕ) (f : FieldShape) (gs : List FieldShape) → AreAbove n gs → n < f.number → is_record_number f.number ≡ true → AreApart f.number gs
     → AreAbove n (inserted f gs)
 above_inserted n f [] a lt is h = (lt, is, tt)
 above_inserted n f (g ∷ gs) a lt is h = at (nat_lt g.number f.number) refl (λ less. above_inserted g.number f gs a.2 less is h.1)
@@ -45,11 +45,11 @@ above_inserted n f (g ∷ gs) a lt is h = at (nat_lt g.number f.number) refl (λ
     at true e ih = (a.0, a.1, ih (grind (arith, nat_tests)))
     at false e ih = let apart = h.0 in let less : f.number < g.number = grind (arith, nat_tests, apart) in (lt, is, (less, a.1, a.2))
 
-above_by_number : (fs : List FieldShape) → list_all (λ f. is_number f.number) fs ≡ true → IsDistinct (λ m n. m == n) (map (λ f. f.number) fs)
+above_by_number : (fs : List FieldShape) → list_all (λ f. is_record_number f.number) fs ≡ true → IsDistinct (λ m n. m == n) (map (λ f. f.number) fs)
     → AreAbove 0 (by_number fs)
 above_by_number [] h d = tt
 above_by_number (f ∷ fs) h d =
-    let parts = both (is_number f.number) (list_all (λ f. is_number f.number) fs) h in
+    let parts = both (is_record_number f.number) (list_all (λ f. is_record_number f.number) fs) h in
     let positive = both (nat_lt 0 f.number) (nat_lt f.number 536870912) parts.0 in
     let apart = IsDistinct-head (λ m n. m == n) f.number (map (λ (g : FieldShape). g.number) fs) d in
     let rest = IsDistinct-tail (λ m n. m == n) f.number (map (λ (g : FieldShape). g.number) fs) d in
@@ -105,10 +105,10 @@ field_number n (g ∷ gs) f e = at (n == g.number) refl e (field_number n gs f)
     at true e h ih = let same : g ≡ f = cc in let here : n ≡ g.number = grind (arith, nat_tests) in here ∙ ap (λ (k : FieldShape). k.number) same
     at false e h ih = ih h
 
-pub numbered_field : (k n : ℕ) (gs : List FieldShape) (f : FieldShape) → AreAbove k gs → field_of n gs ≡ Some f → is_number f.number ≡ true
+pub numbered_field : (k n : ℕ) (gs : List FieldShape) (f : FieldShape) → AreAbove k gs → field_of n gs ≡ Some f → is_record_number f.number ≡ true
 numbered_field k n [] f a e = absurd cc
 numbered_field k n (g ∷ gs) f a e = at (n == g.number) e (numbered_field g.number n gs f a.2)
   where
-    at : (b : Bool) → (if b then Some g else field_of n gs) ≡ Some f → (field_of n gs ≡ Some f → is_number f.number ≡ true) → is_number f.number ≡ true
-    at true e ih = let same : g ≡ f = cc in ap (λ (x : FieldShape). is_number x.number) (sym same) ∙ a.1
+    at : (b : Bool) → (if b then Some g else field_of n gs) ≡ Some f → (field_of n gs ≡ Some f → is_record_number f.number ≡ true) → is_record_number f.number ≡ true
+    at true e ih = let same : g ≡ f = cc in ap (λ (x : FieldShape). is_record_number x.number) (sym same) ∙ a.1
     at false e ih = ih e

@@ -1,4 +1,4 @@
--- The one list of records that is written for a content, and its text: the one canonical encoding.
+-- The one list of records that is written for a content, and its text: the one canonical encoding (Protocol Buffers "Encoding").
 use Rattle.std.specs.Prelude.{ℕ, ◌+◌, ◌*◌, ◌%◌, ◌^◌, ℤ, pos, negsuc, List, [], ◌∷◌, ◌++◌, Bool, ◌&&◌, Option, Some, None, if◌then◌else◌}
 use Rattle.std.specs.Int.{w32, w64, cast_unsigned, to_le_bytes}
 use Rattle.pbx_wire.specs.Varint.{varint}
@@ -11,13 +11,14 @@ use Rattle.pbx_meaning.specs.declared.shape.Cardinality.{Cardinality}
 use Rattle.pbx_meaning.specs.declared.shape.Cardinality.TheVariants.{Singular, Repeated, Map}
 use Rattle.pbx_meaning.specs.declared.shape.Shape.{Shape}
 use Rattle.pbx_meaning.specs.declared.shape.FieldShape.{FieldShape}
-use Rattle.pbx_meaning.specs.Content.{Key, truth_key, number_key, text_key, Content, content, Fields, no_fields, field, Val, number, truth, text, octets, message, many, keyed, Vals, no_vals, val, Pairs, no_pairs, pair}
+use Rattle.pbx_meaning.specs.Content.{Key, truth_key, number_key, text_key, Content, content, Fields, no_fields, field, Val, number, truth, text, octets}
+use Rattle.pbx_meaning.specs.Content.{message, many, keyed, Vals, no_vals, val, Pairs, no_pairs, pair}
 use Rattle.pbx_meaning.specs.Records.{sorted}
 use Rattle.pbx_meaning.specs.Shape.{fields_of, keeps_order_of, field_of, Form, as_varint, as_four, as_eight, as_payload, form_of, is_packable}
 
 -- ---- numbers
 
--- Protocol Buffers "Encoding": Signed Integers
+-- 0, -1, 1, -2 .. as 0, 1, 2, 3 .. (Protocol Buffers "Encoding": Signed Integers)
 abbrev pub zigzag : ℤ → ℕ
 zigzag (pos n) = 2 * n
 zigzag (negsuc n) = 2 * n + 1
@@ -42,7 +43,7 @@ numeral k (number z) = wire_number k z
 numeral k (truth b) = truth_number b
 numeral k _ = 0
 
--- a number as it stands behind its key
+-- a number as it stands behind its key (Protocol Buffers "Encoding": Base 128 Varints, Non-varint Numbers)
 abbrev pub number_text : Form → ℕ → List ℕ
 number_text as_varint v = varint v
 number_text as_four v = to_le_bytes w32 v
@@ -54,7 +55,7 @@ abbrev pub packed_text : Kind → Vals → List ℕ
 packed_text k no_vals = []
 packed_text k (val v vs) = number_text (form_of k) (numeral k v) ++ packed_text k vs
 
--- the field's lists are written as one record
+-- the field's lists are written as one record (Protocol Buffers "Encoding": Packed Repeated Fields)
 abbrev pub is_packed : FieldShape → Bool
 is_packed f = f.packed && is_packable f.kind
 

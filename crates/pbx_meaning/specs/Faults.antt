@@ -28,18 +28,19 @@ wire_type as_payload = 2
 wire_type as_four = 5
 
 -- the wire types that records of such a field have: a list of numbers may be packed, and a map has entries
+-- (Protocol Buffers "Encoding": Message Structure, Packed Repeated Fields, Maps)
 abbrev pub reads : Cardinality → Kind → ℕ → Bool
 reads Singular k w = w == wire_type (form_of k)
 reads Repeated k w = w == wire_type (form_of k) || (is_packable k && w == 2)
 reads (Map key) k w = w == 2
 
--- payloads of such a field are texts
+-- payloads of such a field are texts, which are UTF-8 (Protocol Buffers "Language Guide (proto 3)": Scalar Value Types)
 abbrev pub is_of_texts : Cardinality → Kind → Bool
 is_of_texts Singular kind.String = true
 is_of_texts Repeated kind.String = true
 is_of_texts _ _ = false
 
--- payloads of such a field hold numbers
+-- payloads of such a field hold numbers (Protocol Buffers "Encoding": Packed Repeated Fields)
 abbrev pub is_of_numbers : Cardinality → Kind → Bool
 is_of_numbers Repeated k = is_packable k
 is_of_numbers Singular k = false
@@ -50,7 +51,7 @@ abbrev pub message_fields : Shape → Kind → Option (List FieldShape)
 message_fields shape (kind.Message t) = Some (fields_of shape t)
 message_fields shape _ = None
 
--- the fields of the messages, or map entries, that payloads of such a field are
+-- the fields of the messages, or map entries, that payloads of such a field are (Protocol Buffers "Encoding": Submessages, Maps)
 abbrev pub payload_fields : Shape → Cardinality → Kind → Option (List FieldShape)
 payload_fields shape Singular k = message_fields shape k
 payload_fields shape Repeated k = message_fields shape k

@@ -2,7 +2,7 @@
 use Rattle.std.specs.Prelude.{ℕ, ◌+◌, List, [], ◌∷◌, Bool, true, ◌&&◌, nat_lt, IsTrue}
 use Rattle.std.specs.List.{list_all}
 use Rattle.std.specs.List.Sorted.{IsPermutation}
-use Rattle.pbx_wire.specs.Text.{is_number}
+use Rattle.pbx_wire.specs.Text.{is_record_number}
 use Rattle.pbx_meaning.specs.declared.shape.FieldShape.{FieldShape}
 use Rattle.pbx_meaning.specs.declared.shape.MessageShape.{MessageShape}
 use Rattle.pbx_meaning.specs.Sound.{has_good_keys}
@@ -19,7 +19,7 @@ ascend n (e ∷ es) = nat_lt n e.0 && ascend e.0 es
 
 -- each number and key kind is one that may be
 abbrev pub are_good : List FieldShape → Bool
-are_good fs = list_all (λ f. is_number f.number && has_good_keys f.cardinality) fs
+are_good fs = list_all (λ f. is_record_number f.number && has_good_keys f.cardinality) fs
 
 -- the entries of the fields, by ascending number
 pub record IsIndexOf (fs : List FieldShape) (entries : List (ℕ × ℕ)) : Type 0 where

@@ -1,7 +1,6 @@
 -- Laws of the definitions, each proved as the contract of a public function.
-use Rattle.std.specs.Prelude.{◌≡◌, ◌≢◌, ◌⊎◌, ℕ, zero, suc, ◌-◌, ◌≤◌, ◌<◌, ◌^◌, ◌↔◌, List, [], ◌∷◌, ◌++◌, length, Bool, true, false, ◌||◌, ◌==◌, IsTrue, nat_lt}
+use Rattle.std.specs.Prelude.{◌≡◌, ◌≢◌, ◌⊎◌, ℕ, zero, suc, ◌-◌, ◌≤◌, ◌<◌, ◌^◌, ◌↔◌, List, [], ◌∷◌, ◌++◌, length, Bool, true, false, ◌||◌, ◌==◌}
 use Rattle.std.specs.Prelude.{Option, Some, None, option_and_then, Ok, Err, if◌then◌else◌}
-use Rattle.std.specs.List.{list_all}
 use Rattle.pbx_wire.specs.declared.error.DecodeError.{DecodeError}
 use Rattle.pbx_wire.specs.declared.error.DecodeError.TheVariants as errors
 use Rattle.pbx_wire.specs.declared.rec.Rec.{Rec}
@@ -27,10 +26,6 @@ use Rattle.pbx_meaning.specs.Faults.{MessageFaultsLayer, IsFaultOf, IsFaultOfPar
 abbrev pub IsShort : Shape → ℕ → Content → Type 0
 IsShort shape t c = length (encoded shape t c) < 2 ^ 64
 
--- each is a byte
-abbrev pub AreBytes : List ℕ → Type 0
-AreBytes bytes = IsTrue (list_all (λ b. nat_lt b 256) bytes)
-
 -- ---- what is written is read
 
 -- What is written for a content decodes to it.
@@ -54,12 +49,12 @@ EncodingDecodesParts =
 abbrev pub MeaningIsSound : Type 0
 MeaningIsSound =
     (shape : Shape) (levels t : ℕ) (bytes : List ℕ) (c : Content)
-    → IsProper shape → AreBytes bytes → meaning_within shape levels (fields_of shape t) bytes ≡ Some c → IsSound shape t c × (depth c ≤ suc levels)
+    → IsProper shape → meaning_within shape levels (fields_of shape t) bytes ≡ Some c → IsSound shape t c × (depth c ≤ suc levels)
 
 -- The same part by part.
 abbrev pub PartsMeaningIsSound : Type 0
 PartsMeaningIsSound =
-    (shape : Shape) (t : ℕ) (bytes : List ℕ) (c : Content) → IsProper shape → AreBytes bytes → parts_meaning_of shape t bytes ≡ Some c → IsSound shape t c
+    (shape : Shape) (t : ℕ) (bytes : List ℕ) (c : Content) → IsProper shape → parts_meaning_of shape t bytes ≡ Some c → IsSound shape t c
 
 -- ---- contents that are the same
 
@@ -75,12 +70,15 @@ DecodesToSame = (shape : Shape) (t : ℕ) (bytes : List ℕ) (c d : Content) →
 abbrev pub SameIsWrittenAlike : Type 0
 SameIsWrittenAlike = (shape : Shape) (t : ℕ) (c d : Content) → Same shape t c d → encoded shape t c ≡ encoded shape t d
 
+-- A content is the same as itself.
 abbrev pub SameIsReflexive : Type 0
 SameIsReflexive = (shape : Shape) (t : ℕ) (c : Content) → Same shape t c c
 
+-- Of contents that are the same, each is the same as the other.
 abbrev pub SameIsSymmetric : Type 0
 SameIsSymmetric = (shape : Shape) (t : ℕ) (c d : Content) → Same shape t c d → Same shape t d c
 
+-- What is the same as what is the same is the same.
 abbrev pub SameIsTransitive : Type 0
 SameIsTransitive = (shape : Shape) (t : ℕ) (c d e : Content) → Same shape t c d → Same shape t d e → Same shape t c e
 
@@ -111,7 +109,7 @@ OntoJudgesTheNew =
 abbrev pub MergedIsSound : Type 0
 MergedIsSound =
     (shape : Shape) (t : ℕ) (old new : Content) (bytes : List ℕ)
-    → IsProper shape → AreBytes bytes → IsSound shape t old → merged_of shape t old bytes ≡ Some new → IsSound shape t new
+    → IsProper shape → IsSound shape t old → merged_of shape t old bytes ≡ Some new → IsSound shape t new
 
 -- ---- faults
 
@@ -319,22 +317,23 @@ payload_onto shape zero = λ fs c bs. None
 payload_onto shape (suc levels) = λ fs c bs. option_and_then (meaning_onto shape levels fs c) (records_of levels bs)
 
 -- where no record comes, the content stays as it is
-abbrev pub IsSettledIn : Shape → ℕ → List FieldShape → Content → Type 0
-IsSettledIn shape levels fs c = meaning_onto shape levels fs c [] ≡ Some c
+abbrev pub IsStableIn : Shape → ℕ → List FieldShape → Content → Type 0
+IsStableIn shape levels fs c = meaning_onto shape levels fs c [] ≡ Some c
 
--- An empty content is settled, and so is what records mean.
-abbrev pub EmptyIsSettled : Type 0
-EmptyIsSettled = (shape : Shape) (levels : ℕ) (fs : List FieldShape) → IsSettledIn shape levels fs empty
+-- An empty content is stable.
+abbrev pub EmptyIsStable : Type 0
+EmptyIsStable = (shape : Shape) (levels : ℕ) (fs : List FieldShape) → IsStableIn shape levels fs empty
 
-abbrev pub OntoIsSettled : Type 0
-OntoIsSettled =
+-- So is what records mean behind a content.
+abbrev pub OntoIsStable : Type 0
+OntoIsStable =
     (shape : Shape) (levels : ℕ) (fs : List FieldShape) (old new : Content) (rs : List Rec)
-    → IsProper shape → AreFieldsOf shape fs → meaning_onto shape levels fs old rs ≡ Some new → IsSettledIn shape levels fs new
+    → IsProper shape → AreFieldsOf shape fs → meaning_onto shape levels fs old rs ≡ Some new → IsStableIn shape levels fs new
 
 -- So is each content that a message may have.
-abbrev pub SoundIsSettled : Type 0
-SoundIsSettled =
-    (shape : Shape) (levels t : ℕ) (c : Content) → IsProper shape → IsSound shape t c → IsSettledIn shape levels (fields_of shape t) c
+abbrev pub SoundIsStable : Type 0
+SoundIsStable =
+    (shape : Shape) (levels t : ℕ) (c : Content) → IsProper shape → IsSound shape t c → IsStableIn shape levels (fields_of shape t) c
 
 -- Where no record comes, each field has what no record leaves of its value.
 abbrev pub OntoNothing : Type 0
@@ -349,7 +348,7 @@ OntoNothing =
 abbrev pub OntoKeepsOne : Type 0
 OntoKeepsOne =
     (shape : Shape) (levels : ℕ) (fs : List FieldShape) (old : Content) (r : Rec)
-    → IsProper shape → AreFieldsOf shape fs → IsSettledIn shape levels fs old → is_kept fs r ≡ true
+    → IsProper shape → AreFieldsOf shape fs → IsStableIn shape levels fs old → is_kept fs r ≡ true
     → meaning_onto shape levels fs old (r ∷ []) ≡ Some (content (fields old) (kept old ++ r ∷ []))
 
 -- what g has once f has a new value: nothing where f is another member of its oneof
@@ -360,7 +359,7 @@ value_beside f new g old = if g.number == f.number then new else if is_other g f
 abbrev pub OntoReadsOne : Type 0
 OntoReadsOne =
     (shape : Shape) (levels : ℕ) (fs : List FieldShape) (old : Content) (new : Fields) (r : Rec) (f : FieldShape) (v : Option Val)
-    → IsProper shape → AreFieldsOf shape fs → IsSettledIn shape levels fs old → field_of (number_of r) fs ≡ Some f → is_float f.kind ≡ false
+    → IsProper shape → AreFieldsOf shape fs → IsStableIn shape levels fs old → field_of (number_of r) fs ≡ Some f → is_float f.kind ≡ false
     → value_onto shape (payload_onto shape levels) f (get f.number (fields old)) (r ∷ []) ≡ Some v
     → IsAscending new → ((n : ℕ) → field_of n fs ≡ None → get n new ≡ None)
     → ((g : FieldShape) → field_of g.number fs ≡ Some g → get g.number new ≡ value_beside f v g (get g.number (fields old)))

@@ -1,5 +1,6 @@
 -- What records of the wire mean as a message of a type, by filters of their list. None is the answer for records that are not of their fields' forms.
-use Rattle.std.specs.Prelude.{ℕ, zero, suc, ◌%◌, ◌/◌, ◌^◌, ℤ, pos, negsuc, List, [], ◌∷◌, map, filter, length, Bool, true, false, not, ◌==◌, Option, Some, None, option_map, option_and_then, if◌then◌else◌}
+use Rattle.std.specs.Prelude.{ℕ, zero, suc, ◌%◌, ◌/◌, ◌^◌, ℤ, pos, negsuc, List, [], ◌∷◌, map, filter, length, Bool, true, false, not, ◌==◌, Option, Some}
+use Rattle.std.specs.Prelude.{None, option_map, option_and_then, if◌then◌else◌}
 use Rattle.std.specs.Ordering.{int_eq}
 use Rattle.std.specs.Int.{w32, w64, cast_signed}
 use Rattle.std.specs.Str.{is_utf8}
@@ -10,9 +11,11 @@ use Rattle.pbx_meaning.specs.declared.shape.Cardinality.{Cardinality}
 use Rattle.pbx_meaning.specs.declared.shape.Cardinality.TheVariants.{Singular, Repeated, Map}
 use Rattle.pbx_meaning.specs.declared.shape.Shape.{Shape}
 use Rattle.pbx_meaning.specs.declared.shape.FieldShape.{FieldShape}
-use Rattle.pbx_meaning.specs.Content.{Key, truth_key, number_key, text_key, Content, content, fields, empty, get, Fields, no_fields, field, Val, number, truth, text, octets, message, many, keyed, no_vals, val, no_pairs, pair, vals_of, by_key}
+use Rattle.pbx_meaning.specs.Content.{Key, truth_key, number_key, text_key, Content, content, fields, empty, get, Fields, no_fields, field, Val, number}
+use Rattle.pbx_meaning.specs.Content.{truth, text, octets, message, many, keyed, no_vals, val, no_pairs, pair, vals_of, by_key}
 use Rattle.pbx_meaning.specs.Records.{varint_of, fixed64_of, fixed32_of, bytes_of, those_of, last_of, each, flat, after_last, records_in, varints_in, fixed_in}
-use Rattle.pbx_meaning.specs.Shape.{fields_of, first_number, entry_fields, Form, as_varint, as_four, as_eight, as_payload, form_of, is_float, is_packable, is_kept, is_rival}
+use Rattle.pbx_meaning.specs.Shape.{fields_of, first_number, entry_fields, Form, as_varint, as_four, as_eight, as_payload, form_of, is_float, is_packable}
+use Rattle.pbx_meaning.specs.Shape.{is_kept, is_rival}
 
 -- ---- numbers
 

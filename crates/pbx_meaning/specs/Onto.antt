@@ -8,7 +8,8 @@ use Rattle.pbx_meaning.specs.declared.shape.Cardinality.{Cardinality}
 use Rattle.pbx_meaning.specs.declared.shape.Cardinality.TheVariants.{Singular, Repeated, Map}
 use Rattle.pbx_meaning.specs.declared.shape.Shape.{Shape}
 use Rattle.pbx_meaning.specs.declared.shape.FieldShape.{FieldShape}
-use Rattle.pbx_meaning.specs.Content.{Key, Content, content, empty, get, kept, fields, Fields, no_fields, Val, message, many, keyed, Vals, no_vals, val, Pairs, no_pairs, pair, vals_of, by_key}
+use Rattle.pbx_meaning.specs.Content.{Key, Content, content, empty, get, kept, fields, Fields, no_fields, Val, message, many, keyed, Vals, no_vals, val}
+use Rattle.pbx_meaning.specs.Content.{Pairs, no_pairs, pair, vals_of, by_key}
 use Rattle.pbx_meaning.specs.Records.{bytes_of, those_of, last_of, each, flat, after_last, any, records_in}
 use Rattle.pbx_meaning.specs.Shape.{fields_of, is_float, is_kept, is_rival}
 use Rattle.pbx_meaning.specs.Meaning.{Inner, no_inner, alone, spread, shown, pair_in, entry_in, value, with_field, records_of}
@@ -54,12 +55,12 @@ InnerOnto = List FieldShape → Content → List (List ℕ) → Option Content
 abbrev pub from_empty : InnerOnto → Inner
 from_empty inner fs bs = inner fs empty bs
 
--- the last value, or the old one where none came
+-- the last value, or the old one where none came (Protocol Buffers "Encoding": Last One Wins)
 abbrev pub latest : Shape → FieldShape → Option Val → Option Val → Option Val
 latest shape f old None = old
 latest shape f old (Some v) = shown shape f.presence f.kind (Some v)
 
--- a message of payloads behind the old one, which stays where no payload came
+-- a message of payloads behind the old one, which stays where no payload came (Protocol Buffers "Encoding": Last One Wins)
 abbrev pub joined_onto : InnerOnto → List FieldShape → Option Val → List (List ℕ) → Option (Option Val)
 joined_onto inner fs old [] = Some old
 joined_onto inner fs old (b ∷ bs) = option_map (λ c. Some (message c)) (inner fs (message_held old) (b ∷ bs))

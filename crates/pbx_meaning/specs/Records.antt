@@ -1,6 +1,8 @@
 -- Records of the wire: their parts, filters of lists of them, and the records that bytes spell (Protocol Buffers "Encoding": Message Structure).
-use Rattle.std.specs.Prelude.{ℕ, suc, zero, List, [], ◌∷◌, ◌++◌, filter, take, drop, length, Bool, true, false, ◌==◌, nat_lt, Option, Some, None, option_map, option_and_then, if◌then◌else◌}
-use Rattle.std.specs.Int.{Width, from_le_bytes}
+use Rattle.std.specs.Prelude.{ℕ, suc, zero, List, [], ◌∷◌, ◌++◌, filter, take, drop, length, Bool, true, false, ◌==◌, nat_lt, Option, Some, None, option_map}
+use Rattle.std.specs.Prelude.{option_and_then, if◌then◌else◌}
+use Rattle.std.specs.Int.{Width}
+use Rattle.pbx_wire.specs.Fixed.{fixed}
 use Rattle.pbx_wire.specs.Reading.{varint_at, ok_of}
 pub use Rattle.pbx_wire.specs.Reading.{records_in}
 use Rattle.pbx_wire.specs.declared.rec.Rec.{Rec, Varint, Fixed64, Bytes, Group', Fixed32}
@@ -108,4 +110,4 @@ fixed_in w len turns [] = Some []
 fixed_in w len zero (b ∷ bs) = None
 fixed_in w len (suc turns) (b ∷ bs) =
     if nat_lt (length (b ∷ bs)) len then None
-    else option_map (λ vs. from_le_bytes w (take len (b ∷ bs)) ∷ vs) (fixed_in w len turns (drop len (b ∷ bs)))
+    else option_map (λ vs. fixed w (take len (b ∷ bs)) ∷ vs) (fixed_in w len turns (drop len (b ∷ bs)))

@@ -3,7 +3,8 @@ use Rattle.std.specs.Prelude.{◌≡◌, ℕ, List, Bool, Option, Some, None, if
 use Rattle.pbx_wire.specs.declared.rec.Rec.{Rec}
 use Rattle.pbx_meaning.specs.declared.shape.Shape.{Shape}
 use Rattle.pbx_meaning.specs.declared.shape.FieldShape.{FieldShape}
-use Rattle.pbx_meaning.specs.Content.{Content, content, Fields, no_fields, field, Val, number, truth, text, octets, message, many, keyed, Vals, no_vals, val, Pairs, no_pairs, pair}
+use Rattle.pbx_meaning.specs.Content.{Content, content, Fields, no_fields, field, Val, number, truth, text, octets, message, many, keyed, Vals, no_vals, val}
+use Rattle.pbx_meaning.specs.Content.{Pairs, no_pairs, pair}
 use Rattle.pbx_meaning.specs.Records.{sorted}
 use Rattle.pbx_meaning.specs.Shape.{fields_of, keeps_order_of, field_of}
 use Rattle.pbx_meaning.specs.Encoding.{type_of}

@@ -120,7 +120,7 @@ pub data Form : Type 0 where
   -- wire type 2
   as_payload : Form
 
--- the form of a kind
+-- the form of a kind (Protocol Buffers "Encoding": Message Structure)
 abbrev pub form_of : Kind → Form
 form_of kind.Double = as_eight
 form_of kind.Float = as_four
@@ -152,7 +152,7 @@ is_read_as r f = number_of r == f.number && not (is_float f.kind)
 abbrev pub is_kept : List FieldShape → Rec → Bool
 is_kept fs r = not (any (is_read_as r) fs)
 
--- both are members of one oneof
+-- both are members of one oneof (Protocol Buffers "Language Guide (proto 3)": Oneof)
 abbrev pub same_oneof : Option ℕ → Option ℕ → Bool
 same_oneof (Some a) (Some b) = a == b
 same_oneof _ _ = false

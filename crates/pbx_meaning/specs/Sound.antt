@@ -4,7 +4,7 @@ use Rattle.std.specs.Int.{w32, w64}
 use Rattle.std.specs.Int.RustNames.{FitsSigned}
 use Rattle.std.specs.List.{IsDistinct, list_all}
 use Rattle.std.specs.Str.{is_utf8}
-use Rattle.pbx_wire.specs.Text.{is_number, are_numbered, are_fit, all_true, depth_of}
+use Rattle.pbx_wire.specs.Text.{is_record_number, are_numbered, are_fit, all_true, depth_of}
 use Rattle.pbx_wire.specs.declared.rec.Rec.{Rec}
 use Rattle.pbx_meaning.specs.declared.shape.Kind.{Kind}
 use Rattle.pbx_meaning.specs.declared.shape.Kind.TheVariants as kind
@@ -14,7 +14,8 @@ use Rattle.pbx_meaning.specs.declared.shape.Shape.{Shape}
 use Rattle.pbx_meaning.specs.declared.shape.SchemaError.{SchemaError}
 use Rattle.pbx_meaning.specs.declared.shape.SchemaError.TheVariants.{Improper, NoMemory}
 use Rattle.pbx_meaning.specs.declared.shape.FieldShape.{FieldShape}
-use Rattle.pbx_meaning.specs.Content.{Key, truth_key, number_key, text_key, key_before, Content, content, Fields, no_fields, field, Val, number, truth, text, octets, message, many, keyed, Vals, no_vals, val, Pairs, no_pairs, pair, has, IsAscending}
+use Rattle.pbx_meaning.specs.Content.{Key, truth_key, number_key, text_key, key_before, Content, content, Fields, no_fields, field, Val, number, truth, text}
+use Rattle.pbx_meaning.specs.Content.{octets, message, many, keyed, Vals, no_vals, val, Pairs, no_pairs, pair, has, IsAscending}
 use Rattle.pbx_meaning.specs.Shape.{declared_of, fields_of, field_of, first_number, is_kept, is_key_kind, is_other}
 use Rattle.pbx_meaning.specs.Meaning.{is_default}
 
@@ -29,7 +30,7 @@ has_good_keys (Map key) = is_key_kind key
 -- Each number is 1 to 536,870,911 and stands once, and keys of maps are of kinds that keys may have
 -- (Protocol Buffers "Language Guide (proto 3)": Assigning Field Numbers, Maps).
 pub record AreProper (fs : List FieldShape) : Type 0 where
-  pub numbered : IsTrue (list_all (λ f. is_number f.number) fs)
+  pub numbered : IsTrue (list_all (λ f. is_record_number f.number) fs)
   pub distinct : IsDistinct (λ m n. m == n) (map (λ f. f.number) fs)
   pub keyed : IsTrue (list_all (λ f. has_good_keys f.cardinality) fs)
 

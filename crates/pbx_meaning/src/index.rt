@@ -3,7 +3,7 @@ ghost use Rattle.std.specs.Option.{MatchOption};
 ghost use Rattle.std.specs.Int.{w32};
 ghost use Rattle.std.specs.Int.RustNames.{FitsSigned};
 ghost use Rattle.pbx_meaning.specs.Shape.{declared_at, first_of, enum_values_at, field_of as field_of_type, by_number, is_key_kind as is_key_kind_of};
-ghost use Rattle.pbx_meaning.specs.Index.{numbered, ascend, are_good, IsIndexOf, AreIndexed};
+ghost use Rattle.pbx_meaning.specs.Index.{numbered, ascend, are_good as are_good_of, IsIndexOf, AreIndexed};
 ghost use Rattle.pbx_meaning.specs.Sound.{AreProper};
 
 use crate::shape::{Cardinality, EnumShape, FieldShape, Kind, MessageShape};
@@ -21,8 +21,8 @@ fn is_key_kind(kind: Kind) -> bool
 }
 
 /// Whether each number and key kind is one that may be.
-fn are_fit(fields: &[FieldShape]) -> bool
-    ensures { result ≡ are_good fields.now }
+fn are_good(fields: &[FieldShape]) -> bool
+    ensures { result ≡ are_good_of fields.now }
 {
     for field in fields {
         if field.number == 0 || field.number > 536870911 {
@@ -67,7 +67,7 @@ fn entries_of(alloc: Global, fields: &[FieldShape]) -> Result<Option<Vec<(u32, u
     ensures { IfOk result (λ found. MatchOption found (¬ (AreProper fields.now))
         (λ entries. AreProper fields.now × IsIndexOf fields.now entries.items)) }
 {
-    if !are_fit(fields) {
+    if !are_good(fields) {
         return Ok(None);
     }
     let mut entries = entries_in_order(alloc, fields)?;

@@ -1,7 +1,11 @@
-ghost use Rattle.pbx_meaning.specs.Laws.{EncodingDecodes, EncodingDecodesWithin, EncodingDecodesParts, MeaningIsSound, PartsMeaningIsSound, DecodesToOne, DecodesToSame, SameIsWrittenAlike, SameIsReflexive, SameIsSymmetric, SameIsTransitive, SortedAlike, OntoEmpty, OntoIsFollowing, OntoJudgesTheNew, MergedIsSound, MeansOrFaulty, FaultyMeansNothing, PartsMeanOrFaulty, FaultyPartsMeanNothing};
+ghost use Rattle.pbx_meaning.specs.Laws.{EncodingDecodes, EncodingDecodesWithin, EncodingDecodesParts, MeaningIsSound, PartsMeaningIsSound, DecodesToOne};
+ghost use Rattle.pbx_meaning.specs.Laws.{DecodesToSame, SameIsWrittenAlike, SameIsReflexive, SameIsSymmetric, SameIsTransitive, SortedAlike, OntoEmpty};
+ghost use Rattle.pbx_meaning.specs.Laws.{OntoIsFollowing, OntoJudgesTheNew, MergedIsSound, MeansOrFaulty, FaultyMeansNothing, PartsMeanOrFaulty};
+ghost use Rattle.pbx_meaning.specs.Laws.{FaultyPartsMeanNothing};
 ghost use Rattle.pbx_meaning.specs.Laws.{MessageFaultsAreWith, MeansOrFaultyWith, FaultyMeansNothingWith, FirstIsWith, FaultsBehind, FirstBehind};
-ghost use Rattle.pbx_meaning.specs.Laws.{FirstAtFront, FirstByKey, FirstOfRecord, FirstAsField, FirstInPayload, RecMeansNothing, NumbersGoOn, NumbersStop, SpelledNext, OntoAppends, OntoMeansAlone, FirstIsMerged};
-ghost use Rattle.pbx_meaning.specs.Laws.{EmptyIsSettled, OntoIsSettled, SoundIsSettled, OntoNothing, OntoKeepsOne, OntoReadsOne};
+ghost use Rattle.pbx_meaning.specs.Laws.{FirstAtFront, FirstByKey, FirstOfRecord, FirstAsField, FirstInPayload, RecMeansNothing, NumbersGoOn, NumbersStop};
+ghost use Rattle.pbx_meaning.specs.Laws.{SpelledNext, OntoAppends, OntoMeansAlone, FirstIsMerged};
+ghost use Rattle.pbx_meaning.specs.Laws.{EmptyIsStable, OntoIsStable, SoundIsStable, OntoNothing, OntoKeepsOne, OntoReadsOne};
 
 /// What is written for a content decodes to it, where it nests no deeper than is read and its text has a length
 /// that memory can have.
@@ -100,9 +104,9 @@ pub fn records_one_by_one()
 
 /// What one record changes of a content that records mean.
 pub fn one_record()
-    ensures empty { EmptyIsSettled }
-    ensures settled { OntoIsSettled }
-    ensures sound { SoundIsSettled }
+    ensures empty { EmptyIsStable }
+    ensures stable { OntoIsStable }
+    ensures sound { SoundIsStable }
     ensures nothing { OntoNothing }
     ensures kept { OntoKeepsOne }
     ensures read { OntoReadsOne }

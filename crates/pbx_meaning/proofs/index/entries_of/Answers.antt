@@ -5,9 +5,9 @@ use Rattle.pbx_meaning.specs.Index.{ascend, IsIndexOf}
 use Rattle.pbx_meaning.proofs.SchemaIndex.{proper_good, proper_ascends, index_proper}
 use Rattle.pbx_meaning.proofs.index.entries_of.Goals as goal
 
-pub returns-then-not-are_fit : goal.returns-then-not-are_fit
-returns-then-not-are_fit c =
-    λ proper. (let good = proper_good c.args.fields.now proper in let bad : true ≡ false = sym good ∙ sym c.are_fit.ensures ∙ c.if-not-are_fit.true in cc)
+pub returns-then-not-are_good : goal.returns-then-not-are_good
+returns-then-not-are_good c =
+    λ proper. (let good = proper_good c.args.fields.now proper in let bad : true ≡ false = sym good ∙ sym c.are_good.ensures ∙ c.if-not-are_good.true in cc)
 
 pub returns-then-not-are_ascending : goal.returns-then-not-are_ascending
 returns-then-not-are_ascending c = λ proper.
@@ -28,4 +28,4 @@ returns c =
       ascending = ap (ascend 0) (sym c.as_slice.ensures.value) ∙ sym c.are_ascending.ensures ∙ c.if-not-are_ascending.false;
       moved = moved;
     } in
-    (index_proper c.args.fields.now c.sort_unstable_by_key.new.self.items (sym c.are_fit.ensures ∙ c.if-not-are_fit.false) index, index)
+    (index_proper c.args.fields.now c.sort_unstable_by_key.new.self.items (sym c.are_good.ensures ∙ c.if-not-are_good.false) index, index)
