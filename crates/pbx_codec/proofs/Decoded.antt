@@ -1,5 +1,5 @@
 -- What is decoded behind nothing.
-use Rattle.std.proofs.Common.{◌≡◌, ℕ, List, Option, Some, None, refl, sym, ap, ◌∙◌, subst, arith, inl, inr}
+use Rattle.std.proofs.Common.{◌≡◌, ℕ, Bool, List, Option, Some, None, refl, sym, ap, ◌∙◌, subst, arith, inl, inr}
 use Rattle.std.specs.Prelude.{◌⊎◌, option_and_then}
 use Rattle.pbx_wire.specs.declared.rec.Rec.{Rec}
 use Rattle.pbx_wire.specs.declared.error.DecodeError.{DecodeError}
@@ -11,13 +11,14 @@ use Rattle.pbx_meaning.specs.Content.{Content, empty}
 use Rattle.pbx_meaning.specs.Records.{records_in}
 use Rattle.pbx_meaning.specs.Shape.{fields_of}
 use Rattle.pbx_meaning.specs.Meaning.{meaning, meaning_within, parts_meaning_of}
-use Rattle.pbx_meaning.specs.Onto.{meaning_onto}
-use Rattle.pbx_meaning.specs.Faults.{MessageFaults, IsFaultOfParts, IsToldFault}
+use Rattle.pbx_meaning.specs.Onto.{meaning_onto, merged_of}
+use Rattle.pbx_meaning.specs.Faults.{MessageFaults, IsFaultOf, IsFaultOfParts, IsToldFault}
 use Rattle.pbx_meaning.specs.Laws.{meaning_with, IsFirstWith}
 use Rattle.pbx_meaning.proofs.OntoLaw.{onto_empty}
-use Rattle.pbx_meaning.proofs.FaultyFirst.{first_is_with}
-use Rattle.pbx_codec.specs.Merging.{onto_with, IsMeant, IsToldAt}
-use Rattle.pbx_codec.proofs.Meant.{nothing_meant}
+use Rattle.pbx_meaning.proofs.FaultyFirst.{first_is_with, first_is_merged}
+use Rattle.pbx_codec.specs.Merging.{onto_with, IsToldAt}
+use Rattle.pbx_codec.specs.Settling.{IsReady}
+use Rattle.pbx_codec.proofs.Ready.{nothing_ready}
 
 pub with_nothing : (shape : Shape) (groups messages : ℕ) (fs : List FieldShape) (bytes : List ℕ)
     → onto_with shape groups messages fs empty bytes ≡ meaning_with shape groups messages fs bytes
@@ -27,8 +28,8 @@ with_nothing shape groups messages fs bytes = at (records_in groups bytes)
     at None = refl
     at (Some rs) = onto_empty shape messages fs rs
 
-pub start_meant : (shape : Shape) (messages : ℕ) (fs : List FieldShape) (c : Content) → c ≡ empty → IsMeant shape messages fs c
-start_meant shape messages fs c e = subst (IsMeant shape messages fs) (sym e) (nothing_meant shape messages fs)
+pub start_ready : (settled : Bool) (shape : Shape) (messages : ℕ) (fs : List FieldShape) (c : Content) → c ≡ empty → IsReady settled shape messages fs c
+start_ready settled shape messages fs c e = subst (IsReady settled shape messages fs) (sym e) (nothing_ready settled shape messages fs)
 
 pub with_start : (shape : Shape) (groups messages : ℕ) (fs : List FieldShape) (bytes : List ℕ) (c d : Content) → c ≡ empty
     → onto_with shape groups messages fs c bytes ≡ Some d
@@ -62,3 +63,9 @@ told_within shape levels fs bytes e (inr first) = inr ((first_is_with shape leve
 pub told_parts : (shape : Shape) (t : ℕ) (bytes : List ℕ) (e : DecodeError) → (e ≡ errors.NoMemory) ⊎ IsFirstWith shape 100 101 (fields_of shape t) bytes e
     → IsToldFault (parts_meaning_of shape t bytes) (IsFaultOfParts shape t bytes) e
 told_parts shape t bytes e h = h
+
+pub told_merged : (shape : Shape) (t : ℕ) (old : Content) (bytes : List ℕ) (e : DecodeError)
+    → (e ≡ errors.NoMemory) ⊎ IsFirstWith shape 100 100 (fields_of shape t) bytes e → IsToldFault (merged_of shape t old bytes) (IsFaultOf shape t bytes) e
+told_merged shape t old bytes e (inl none) = inl none
+told_merged shape t old bytes e (inr first) =
+    inr ((first_is_merged shape t old bytes e).0 ((first_is_with shape 100 (fields_of shape t) bytes e).1 first))

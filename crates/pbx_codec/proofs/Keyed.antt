@@ -1,5 +1,5 @@
 -- Pairs by ascending key, with one more.
-use Rattle.std.proofs.Common.{◌≡◌, ℕ, zero, suc, ◌+◌, ◌<◌, ◌≤◌, Bool, true, false, if◌then◌else◌, List, [], ◌∷◌, ◌++◌, length, map, take, drop, get_or, Option, Some, None, refl, sym, ap, ◌∙◌, subst, arith}
+use Rattle.std.proofs.Common.{◌≡◌, ℕ, zero, suc, ◌+◌, ◌-◌, ◌<◌, ◌≤◌, Bool, true, false, if◌then◌else◌, List, [], ◌∷◌, ◌++◌, length, map, take, drop, drop-cons, get_or, Option, Some, None, refl, sym, ap, ◌∙◌, subst, arith}
 use Rattle.std.specs.List.{AllByRecursion, insert, remove}
 use Rattle.std.specs.Prelude.{◌==◌, not, Result, Ok, Err, OnOk}
 use Rattle.std.proofs.lemmas.Bool.Decides.{nat_tests}
@@ -26,7 +26,8 @@ use Rattle.pbx_meaning.specs.Onto.{pair_list, pairs_held, InnerOnto, from_empty,
 use Rattle.pbx_meaning.specs.Meaning.{shown, zero_of, key_in, or_else, pair_in}
 use Rattle.pbx_codec.specs.Keyed.{pair_of, AreAfter, AreInOrder, IsPlaceOf, stands_at}
 use Rattle.pbx_codec.specs.declared.contents.Pair.{Pair}
-use Rattle.pbx_meaning.proofs.OntoPairs.{Compared, first, later, same, key_compared, key_follows}
+use Rattle.pbx_meaning.proofs.OntoPairs.{Compared, first, later, same, key_compared, key_follows, by_key-again}
+use Rattle.pbx_codec.proofs.Tree.{list-pairs}
 
 -- ---- order
 
@@ -118,6 +119,22 @@ by_placed (suc i) k v [] o h = absurd h
 by_placed (suc i) k v (p ∷ ps) o h =
     ap (with_pair p.0 p.1) (by_placed i k v ps o.1 h.1) ∙ with_first p.0 p.1 (placed i k v ps) (placed_after p.0 k v i ps h.0 o.0)
 
+-- pairs in order are as they are
+pub by_ordered : (ps : List (Key × Val)) → AreInOrder ps → by_key ps ≡ pairs_of ps
+by_ordered [] h = refl
+by_ordered (p ∷ ps) h = ap (with_pair p.0 p.1) (by_ordered ps h.1) ∙ with_first p.0 p.1 ps h.0
+
+-- pairs that are sorted, with one more
+pub sorted_order : (ps qs : List (Key × Val)) → pairs_of ps ≡ by_key qs → AreInOrder ps
+sorted_order ps qs e = subst AreInOrder (sym (ap pair_list e) ∙ list-pairs ps) (by_key_order qs)
+
+pub sorted_more : (ps qs : List (Key × Val)) (p : Key × Val) (now : Pairs) → pairs_of ps ≡ by_key qs → now ≡ by_key (ps ++ p ∷ [])
+    → now ≡ by_key (qs ++ p ∷ [])
+sorted_more ps qs p now e put = put ∙ ap (λ (x : List (Key × Val)). by_key (x ++ p ∷ [])) (sym (list-pairs ps) ∙ ap pair_list e) ∙ by_key-again qs (p ∷ [])
+
+pub order_more : (k : Key) (v : Val) (p : Key × Val) (ps : List (Key × Val)) → key_before k p.0 ≡ true → AreInOrder (p ∷ ps) → AreInOrder ((k, v) ∷ p ∷ ps)
+order_more k v p ps e h = ((e, after_less k p.0 ps e h.0), h)
+
 -- ---- places
 
 -- those before this place come before the key, and those from that one on do not
@@ -208,6 +225,31 @@ between_none k ps low high le h =
 
 -- ---- in a list of pairs
 
+last_from : (xs : List Pair) (i : ℕ) → length xs ≤ suc i → AreInOrder (map pair_of (drop i xs))
+last_from [] zero le = tt
+last_from [] (suc i) le = tt
+last_from (x ∷ []) zero le = (tt, tt)
+last_from (x ∷ y ∷ ys) zero le = absurd (omega arith)
+last_from (x ∷ xs) (suc i) le = last_from xs i (omega arith)
+
+pub last_order : (xs : List Pair) → AreInOrder (map pair_of (drop (length xs - 1) xs))
+last_order xs = last_from xs (length xs - 1) (omega arith)
+
+pub order_down : (xs : List Pair) (i : ℕ) (a b : Pair) → 1 < i → i ≤ length xs
+    → key_before (pair_of (get_or xs (i - 2) a)).0 (pair_of (get_or xs (i - 1) b)).0 ≡ true → AreInOrder (map pair_of (drop (i - 1) xs))
+    → AreInOrder (map pair_of (drop (i - 1 - 1) xs))
+order_down xs i a b more le e h =
+    let here : i - 1 - 1 ≡ i - 2 = omega arith in
+    let next : suc (i - 2) ≡ i - 1 = omega arith in
+    let one : drop (i - 2) xs ≡ get_or xs (i - 2) a ∷ drop (i - 1) xs =
+    drop-cons xs (i - 2) a (omega arith) ∙ ap (λ (n : ℕ). get_or xs (i - 2) a ∷ drop n xs) next in
+    let two : drop (i - 1) xs ≡ get_or xs (i - 1) b ∷ drop (suc (i - 1)) xs = drop-cons xs (i - 1) b (omega arith) in
+    let tail = map pair_of (drop (suc (i - 1)) xs) in
+    let behind : AreInOrder (pair_of (get_or xs (i - 1) b) ∷ tail) = subst (λ (ys : List Pair). AreInOrder (map pair_of ys)) two h in
+    subst (λ (ys : List Pair). AreInOrder (map pair_of ys))
+    (sym (ap (λ (n : ℕ). drop n xs) here ∙ one ∙ ap (λ (ys : List Pair). get_or xs (i - 2) a ∷ ys) two))
+    (order_more (pair_of (get_or xs (i - 2) a)).0 (pair_of (get_or xs (i - 2) a)).1 (pair_of (get_or xs (i - 1) b)) tail e behind)
+
 map_at : {A B : Type 0} (f : A → B) (xs : List A) (i : ℕ) (d : A) → get_or (map f xs) i (f d) ≡ f (get_or xs i d)
 map_at f [] i d = refl
 map_at f (x ∷ xs) zero d = refl
@@ -245,7 +287,7 @@ stands_within [] i k e = absurd cc
 stands_within (x ∷ xs) zero k e = omega arith
 stands_within (x ∷ xs) (suc i) k e = omega (arith, stands_within xs i k e)
 
-unnot : (a b : Bool) → not a ≡ b → a ≡ not b
+pub unnot : (a b : Bool) → not a ≡ b → a ≡ not b
 unnot true true e = absurd cc
 unnot true false e = refl
 unnot false true e = refl
@@ -329,23 +371,23 @@ pub shown_more : (shape : Shape) (kind : Kind) (ps : List (Key × Val)) (p : Key
 shown_more shape kind [] p = shown_with shape kind p.0 p.1 no_pairs
 shown_more shape kind (q ∷ ps) p = shown_with shape kind q.0 q.1 (by_key (ps ++ p ∷ []))
 
-pub ordered_held : (shape : Shape) (inner : InnerOnto) (f : FieldShape) (key : Kind) (rs : List Rec) (o : Option Val) → is_float f.kind ≡ false
+pub ordered_held : (shape : Shape) (inner : InnerOnto) (f : FieldShape) (key : Kind) (old : Option Val) (rs : List Rec) (o : Option Val) → is_float f.kind ≡ false
     → f.cardinality ≡ Map key
-    → value_onto shape inner f None rs ≡ Some o → AreInOrder (pairs_held o)
-ordered_held shape inner f key rs o float map_is e = at (each (entry_in (from_empty inner) key f.kind) rs) (sym these ∙ e)
+    → value_onto shape inner f old rs ≡ Some o → AreInOrder (pairs_held o)
+ordered_held shape inner f key old rs o float map_is e = at (each (entry_in (from_empty inner) key f.kind) rs) (sym these ∙ e)
   where
-    these : value_onto shape inner f None rs
-        ≡ option_map (λ cs. shown shape false f.kind (Some (keyed (by_key ([] ++ map (pair_in shape key f.kind) cs))))) (each (entry_in
+    these : value_onto shape inner f old rs
+        ≡ option_map (λ cs. shown shape false f.kind (Some (keyed (by_key (pairs_held old ++ map (pair_in shape key f.kind) cs))))) (each (entry_in
         (from_empty inner) key f.kind) rs)
     these = rw (float, map_is) refl
 
-    at : (x : Option (List Content)) → option_map (λ cs. shown shape false f.kind (Some (keyed (by_key ([] ++ map
+    at : (x : Option (List Content)) → option_map (λ cs. shown shape false f.kind (Some (keyed (by_key (pairs_held old ++ map
         (pair_in shape key f.kind) cs))))) x ≡ Some o → AreInOrder (pairs_held o)
     at None e = absurd cc
     at (Some cs) e =
-        let is : shown shape false f.kind (Some (keyed (by_key ([] ++ map (pair_in shape key f.kind) cs)))) ≡ o = cc in
+        let is : shown shape false f.kind (Some (keyed (by_key (pairs_held old ++ map (pair_in shape key f.kind) cs)))) ≡ o = cc in
         subst (λ (x : Option Val). AreInOrder (pairs_held x)) is
-        (subst AreInOrder (sym (pairs-shown shape f.kind (by_key ([] ++ map (pair_in shape key f.kind) cs)))) (by_key_order ([] ++ map
+        (subst AreInOrder (sym (pairs-shown shape f.kind (by_key (pairs_held old ++ map (pair_in shape key f.kind) cs)))) (by_key_order (pairs_held old ++ map
         (pair_in shape key f.kind) cs)))
 
 pub pair_found : (shape : Shape) (m d : ℕ) (key : Kind) (v : FieldView) (old : Option Val) (r : Rec) (b : List ℕ) (entry : Content)

@@ -4,7 +4,7 @@ pub mod Alone
 pub mod Judging
 pub mod Step
 pub mod Likeness
-pub mod Meant
+pub mod Ready
 pub mod Reading
 pub mod Single
 pub mod Rivals
@@ -13,3 +13,5 @@ pub mod Decoded
 pub mod Keyed
 pub mod EncodedOrder
 pub mod EncodedNumbers
+pub mod Changes
+pub mod Settled

@@ -1,10 +1,11 @@
 -- Packed numbers, one after another.
 use Rattle.std.proofs.Common.{◌≡◌, ℕ, zero, suc, ◌<◌, ◌≤◌, nat_lt, Bool, true, false, if◌then◌else◌, List, [], ◌∷◌, ◌++◌, length, map, take, drop, Option, Some, None, Ok, Err, option_map, refl, sym, ap, ◌∙◌, subst, arith, append-nil, append_assoc, length-append}
 use Rattle.std.specs.Prelude.{◌⊎◌, ◌≢◌}
-use Rattle.std.specs.Int.{Width, w32, w64, from_le_bytes}
+use Rattle.std.specs.Int.{Width, w32, w64}
+use Rattle.pbx_wire.specs.Fixed.{fixed}
 use Rattle.std.proofs.Common.{inl, inr}
 use Rattle.std.proofs.lemmas.List.{map-append}
-use Rattle.pbx_wire.specs.Reading.{varint_at, Fails}
+use Rattle.pbx_wire.specs.Reading.{varint_at}
 use Rattle.pbx_wire.specs.declared.error.DecodeError.{DecodeError}
 use Rattle.pbx_wire.specs.declared.error.DecodeError.TheVariants as errors
 use Rattle.pbx_wire.proofs.Laws.{varint_takes, chain_has}
@@ -71,15 +72,8 @@ stops_at k start whole now rest at e form some fails h =
     by (inr p) = inr (p.0, subst (λ (f : Form). EndsInNumber f whole) (sym form) (subst (EndsInNumber as_varint) (sym h.parts) p.1))
 
 pub read_stops : (e : DecodeError) (k : Kind) (start : List Val) (whole : List ℕ) (now : List Val) (rest : List ℕ) (at : ℕ) → form_of k ≡ as_varint → rest ≢ []
-    → HaveRead k start whole now rest → Fails e (varint_at at 9 rest) → (e ≡ errors.NoMemory) ⊎ PackedFails k at whole e
-read_stops (errors.Varint n) k start whole now rest at form some h f = inr (stops_at k start whole now rest at (errors.Varint n) form some f h)
-read_stops (errors.Key n) k start whole now rest at form some h f = inr (stops_at k start whole now rest at (errors.Key n) form some f h)
-read_stops (errors.WireType n) k start whole now rest at form some h f = inr (stops_at k start whole now rest at (errors.WireType n) form some f h)
-read_stops (errors.Underflow n) k start whole now rest at form some h f = inr (stops_at k start whole now rest at (errors.Underflow n) form some f h)
-read_stops (errors.Utf8 n) k start whole now rest at form some h f = inr (stops_at k start whole now rest at (errors.Utf8 n) form some f h)
-read_stops (errors.EndGroup n) k start whole now rest at form some h f = inr (stops_at k start whole now rest at (errors.EndGroup n) form some f h)
-read_stops (errors.TooDeep n) k start whole now rest at form some h f = inr (stops_at k start whole now rest at (errors.TooDeep n) form some f h)
-read_stops errors.NoMemory k start whole now rest at form some h f = inl refl
+    → HaveRead k start whole now rest → varint_at at 9 rest ≡ Err e → (e ≡ errors.NoMemory) ⊎ PackedFails k at whole e
+read_stops e k start whole now rest at form some h f = inr (stops_at k start whole now rest at e form some f h)
 
 -- ---- numbers of so many bytes each
 
@@ -121,7 +115,7 @@ packs_end k w len start whole now rest none p =
     ∙ rw (nothing_more w len p.turns, append-nil) refl
 
 reads_one : (w : Width) (len turns : ℕ) (b : ℕ) (bs : List ℕ) → nat_lt (length (b ∷ bs)) len ≡ false
-    → fixed_in w len (suc turns) (b ∷ bs) ≡ option_map (λ vs. from_le_bytes w (take len (b ∷ bs)) ∷ vs) (fixed_in w len turns (drop len (b ∷ bs)))
+    → fixed_in w len (suc turns) (b ∷ bs) ≡ option_map (λ vs. fixed w (take len (b ∷ bs)) ∷ vs) (fixed_in w len turns (drop len (b ∷ bs)))
 unfolding fixed_in
 reads_one w len turns b bs e = rw e refl
 
@@ -132,12 +126,12 @@ reads_no w len (suc turns) b bs e = rw e refl
 
 pub packs_more : (k : Kind) (w : Width) (len : ℕ) (start : List Val) (whole : List ℕ) (now : List Val) (b : ℕ) (bs : List ℕ) → 0 < len
     → nat_lt (length (b ∷ bs)) len ≡ false
-    → Packs k w len start whole now (b ∷ bs) → Packs k w len start whole (now ++ numeric k (from_le_bytes w (take len (b ∷ bs))) ∷ []) (drop len (b ∷ bs))
+    → Packs k w len start whole now (b ∷ bs) → Packs k w len start whole (now ++ numeric k (fixed w (take len (b ∷ bs))) ∷ []) (drop len (b ∷ bs))
 packs_more k w zero start whole now b bs lt e p = absurd (omega arith)
 packs_more k w (suc len) start whole now b bs lt e p = at p.turns p.enough p.reads
   where
     v : ℕ
-    v = from_le_bytes w (take (suc len) (b ∷ bs))
+    v = fixed w (take (suc len) (b ∷ bs))
 
     joined : (o : Option (List ℕ))
         → option_map (λ ns. now ++ map (numeric k) ns) (option_map (λ vs. v ∷ vs) o) ≡ option_map (λ ns. (now ++ numeric k v ∷ []) ++ map (numeric k) ns) o
@@ -182,17 +176,17 @@ packs_fail k w len form at start whole now b bs is plain other e p =
 -- ---- the number at the front
 
 pub front_there : (w : Width) (len : ℕ) (bytes : List ℕ) (v : ℕ) (after : List ℕ) → Some (v, after) ≡ front_number w len bytes
-    → (nat_lt (length bytes) len ≡ false) × ((v ≡ from_le_bytes w (take len bytes)) × (after ≡ drop len bytes))
+    → (nat_lt (length bytes) len ≡ false) × ((v ≡ fixed w (take len bytes)) × (after ≡ drop len bytes))
 front_there w len bytes v after e = at (nat_lt (length bytes) len) refl e
   where
     at : (b : Bool) → nat_lt (length bytes) len ≡ b → ◌≡◌ {A = Option (ℕ × List ℕ)} (Some (v, after)) (if b then None else Some (
-      from_le_bytes w
+      fixed w
           (take len bytes),
       drop len bytes,
     ))
-        → (nat_lt (length bytes) len ≡ false) × ((v ≡ from_le_bytes w (take len bytes)) × (after ≡ drop len bytes))
+        → (nat_lt (length bytes) len ≡ false) × ((v ≡ fixed w (take len bytes)) × (after ≡ drop len bytes))
     at true d e = absurd cc
-    at false d e = let same : ◌≡◌ {A = ℕ × List ℕ} (v, after) (from_le_bytes w (take len bytes), drop len bytes) = cc in (
+    at false d e = let same : ◌≡◌ {A = ℕ × List ℕ} (v, after) (fixed w (take len bytes), drop len bytes) = cc in (
       d,
       (
         ap (λ x. x.0) same,
@@ -205,7 +199,7 @@ pub front_missing : (w : Width) (len : ℕ) (bytes : List ℕ) → None ≡ fron
 front_missing w len bytes e = at (nat_lt (length bytes) len) refl e
   where
     at : (b : Bool) → nat_lt (length bytes) len ≡ b → ◌≡◌ {A = Option (ℕ × List ℕ)} None (if b then None else Some (
-      from_le_bytes w
+      fixed w
           (take len bytes),
       drop len bytes,
     ))

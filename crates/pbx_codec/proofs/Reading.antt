@@ -1,5 +1,5 @@
 -- Records read one by one, and the first fault among them.
-use Rattle.std.proofs.Common.{◌≡◌, ℕ, zero, suc, ◌+◌, ◌-◌, ◌<◌, ◌≤◌, true, false, List, [], ◌∷◌, ◌++◌, length, Option, Some, None, refl, sym, ap, ◌∙◌, subst, arith, append-nil, append_assoc, length-append, inl, inr}
+use Rattle.std.proofs.Common.{◌≡◌, ℕ, zero, suc, ◌+◌, ◌-◌, ◌<◌, ◌≤◌, Bool, true, false, List, [], ◌∷◌, ◌++◌, length, Option, Some, None, refl, sym, ap, ◌∙◌, subst, arith, append-nil, append_assoc, length-append, inl, inr}
 use Rattle.std.specs.Prelude.{◌⊎◌, ◌↔◌}
 use Rattle.pbx_wire.specs.declared.rec.Rec.{Rec, out-Rec}
 use Rattle.pbx_wire.specs.declared.error.DecodeError.{DecodeError}
@@ -20,47 +20,48 @@ use Rattle.pbx_meaning.proofs.OntoAppends.{onto_appends}
 use Rattle.pbx_meaning.proofs.FaultyLaw.{has_payload, are_records}
 use Rattle.pbx_meaning.proofs.FaultyFirst.{first_behind, first_by_key, first_of_record, first_as_field, first_in_payload}
 use Rattle.pbx_meaning.proofs.FaultyAlone.{spelled_next}
-use Rattle.pbx_codec.specs.Merging.{onto_with, IsMeant, IsToldAt, RecFails, PayloadFits, GoesOn}
-use Rattle.pbx_codec.proofs.Meant.{stays, meant_more}
+use Rattle.pbx_codec.specs.Merging.{onto_with, IsToldAt, RecFails, PayloadFits, GoesOn}
+use Rattle.pbx_codec.specs.Settling.{IsReady}
+use Rattle.pbx_codec.proofs.Ready.{ready_more}
 
 -- ---- the loop
 
 -- the bytes before the rest are read: their records mean the new content behind the old one
-pub record HasGone (shape : Shape) (groups messages : ℕ) (fs : List FieldShape) (old new : Content) (bytes rest : List ℕ) : Type 0 where
+pub record HasGone (settled : Bool) (shape : Shape) (groups messages : ℕ) (fs : List FieldShape) (old new : Content) (bytes rest : List ℕ) : Type 0 where
   pub before : List ℕ
   pub recs : List Rec
   pub spelled : Spells groups before recs
   pub parts : bytes ≡ before ++ rest
   pub means : meaning_onto shape messages fs old recs ≡ Some new
-  pub meant : IsMeant shape messages fs new
+  pub ready : IsReady settled shape messages fs new
 
 spelled_none : (groups : ℕ) → Spells groups [] []
 unfolding SpellsBelow
 spelled_none groups = refl
 
-pub gone_none : (shape : Shape) (groups messages : ℕ) (fs : List FieldShape) (c : Content) (bytes : List ℕ) → IsProper shape → AreFieldsOf shape fs
-    → IsMeant shape messages fs c
-    → HasGone shape groups messages fs c c bytes bytes
-gone_none shape groups messages fs c bytes proper are h =
-    record { before = []; recs = []; spelled = spelled_none groups; parts = refl; means = stays shape messages fs c proper are h; meant = h }
+pub gone_none : (settled : Bool) (shape : Shape) (groups messages : ℕ) (fs : List FieldShape) (c : Content) (bytes : List ℕ) → IsProper shape → AreFieldsOf shape fs
+    → IsReady settled shape messages fs c
+    → HasGone settled shape groups messages fs c c bytes bytes
+gone_none settled shape groups messages fs c bytes proper are h =
+    record { before = []; recs = []; spelled = spelled_none groups; parts = refl; means = h.0; ready = h }
 
-pub gone_more : (shape : Shape) (groups messages : ℕ) (fs : List FieldShape) (old mid new : Content) (bytes rest after : List ℕ) → IsProper shape
+pub gone_more : (settled : Bool) (shape : Shape) (groups messages : ℕ) (fs : List FieldShape) (old mid new : Content) (bytes rest after : List ℕ) → IsProper shape
     → AreFieldsOf shape fs
-    → HasGone shape groups messages fs old mid bytes rest → GoesOn shape groups messages fs mid new rest after
-    → HasGone shape groups messages fs old new bytes after
-gone_more shape groups messages fs old mid new bytes rest after proper are h (first, r, spelled, parts, means) = record {
+    → HasGone settled shape groups messages fs old mid bytes rest → GoesOn shape groups messages fs mid new rest after
+    → HasGone settled shape groups messages fs old new bytes after
+gone_more settled shape groups messages fs old mid new bytes rest after proper are h (first, r, spelled, parts, means) = record {
   before = h.before ++ first;
   recs = h.recs ++ r ∷ [];
   spelled = spelled_next groups h.before first h.recs r h.spelled spelled;
   parts = h.parts ∙ ap (λ (x : List ℕ). h.before ++ x) parts ∙ sym (append_assoc h.before first after);
   means = onto_appends shape messages fs old mid h.recs (r ∷ []) proper are h.means ∙ means;
-  meant = meant_more shape messages fs mid new (r ∷ []) proper are h.meant means;
+  ready = ready_more settled shape messages fs mid new (r ∷ []) proper are h.ready means;
 }
 
-pub gone_all : (shape : Shape) (groups messages : ℕ) (fs : List FieldShape) (old new : Content) (bytes rest : List ℕ) → rest ≡ []
-    → HasGone shape groups messages fs old new bytes rest
+pub gone_all : (settled : Bool) (shape : Shape) (groups messages : ℕ) (fs : List FieldShape) (old new : Content) (bytes rest : List ℕ) → rest ≡ []
+    → HasGone settled shape groups messages fs old new bytes rest
     → onto_with shape groups messages fs old bytes ≡ Some new
-gone_all shape groups messages fs old new bytes rest none h =
+gone_all settled shape groups messages fs old new bytes rest none h =
     let all : bytes ≡ h.before = h.parts ∙ ap (λ (x : List ℕ). h.before ++ x) none ∙ append-nil h.before in
     rw (all, are_records groups h.before h.recs h.spelled) h.means
 
@@ -82,10 +83,10 @@ shifted_twice n k (errors.EndGroup at) = ap errors.EndGroup (omega arith)
 shifted_twice n k (errors.TooDeep at) = ap errors.TooDeep (omega arith)
 shifted_twice n k errors.NoMemory = refl
 
-pub gone_within : (shape : Shape) (groups messages : ℕ) (fs : List FieldShape) (old new : Content) (bytes rest : List ℕ) (end : ℕ)
-    → HasGone shape groups messages fs old new bytes rest
+pub gone_within : (settled : Bool) (shape : Shape) (groups messages : ℕ) (fs : List FieldShape) (old new : Content) (bytes rest : List ℕ) (end : ℕ)
+    → HasGone settled shape groups messages fs old new bytes rest
     → length bytes ≤ end → length rest ≤ end
-gone_within shape groups messages fs old new bytes rest end h le = omega (arith, ap length h.parts, length-append h.before rest)
+gone_within settled shape groups messages fs old new bytes rest end h le = omega (arith, ap length h.parts, length-append h.before rest)
 
 read_with : (shape : Shape) (groups messages : ℕ) (fs : List FieldShape) → IsProper shape → ((groups ≡ 0) ↔ (messages ≡ 0)) → AreFieldsOf shape fs
     → IsReadWith shape groups messages fs
@@ -100,12 +101,12 @@ meant_alone shape messages fs old new rs e = at (meaning shape messages fs rs) r
     at (Some c) d = (c, d)
 
 -- what is told of the rest is told of all
-pub told_behind : (shape : Shape) (groups messages : ℕ) (fs : List FieldShape) (old new : Content) (bytes rest : List ℕ) (end : ℕ) (e : DecodeError)
+pub told_behind : (settled : Bool) (shape : Shape) (groups messages : ℕ) (fs : List FieldShape) (old new : Content) (bytes rest : List ℕ) (end : ℕ) (e : DecodeError)
     → IsProper shape
-    → ((groups ≡ 0) ↔ (messages ≡ 0)) → AreFieldsOf shape fs → length bytes ≤ end → HasGone shape groups messages fs old new bytes rest
+    → ((groups ≡ 0) ↔ (messages ≡ 0)) → AreFieldsOf shape fs → length bytes ≤ end → HasGone settled shape groups messages fs old new bytes rest
     → IsToldAt (end - length rest) (IsFirstWith shape groups messages fs rest) e → IsToldAt (end - length bytes) (IsFirstWith shape groups messages fs bytes) e
-told_behind shape groups messages fs old new bytes rest end e proper left are le h (inl none) = inl none
-told_behind shape groups messages fs old new bytes rest end e proper left are le h (inr (own, first, is)) =
+told_behind settled shape groups messages fs old new bytes rest end e proper left are le h (inl none) = inl none
+told_behind settled shape groups messages fs old new bytes rest end e proper left are le h (inr (own, first, is)) =
     let c = meant_alone shape messages fs old new h.recs h.means in
     let all = first_behind shape groups messages fs h.before rest h.recs c.0 own (read_with shape groups messages fs proper left are) h.spelled c.1 first in
     let place : end - length rest ≡ (end - length bytes) + length h.before = omega (arith, ap length h.parts, length-append h.before rest) in

@@ -22,7 +22,7 @@ use Rattle.pbx_meaning.proofs.OntoLaw.{plain_onto, onto_at}
 use Rattle.pbx_codec.specs.declared.fields.FieldView.{FieldView}
 use Rattle.pbx_codec.specs.Fields.{field_like}
 use Rattle.pbx_codec.specs.Breaks.{AloneFails, SpreadFails}
-use Rattle.pbx_codec.specs.Merging.{onto_with, IsToldAt, ValueFails}
+use Rattle.pbx_codec.specs.Merging.{onto_with, IsToldAt, PayloadFails, ValueFails}
 use Rattle.pbx_codec.proofs.Alone.{no_bytes}
 
 pub each_one : {X Y : Type 0} (f : X → Option Y) (x : X) → each f (x ∷ []) ≡ option_map (λ y. y ∷ []) (f x)
@@ -152,13 +152,6 @@ spread_breaks shape groups m v at end r e list (inr (inr (packs, (b, bytes, inl 
 spread_breaks shape groups m v at end r e list (inr (inr (packs, (b, bytes, inr (is, ends))))) =
     inr (inl (errors.Underflow 0, (refl, rw list packs, (b, bytes, ends)), is ∙ ap errors.Underflow (omega arith)))
 
--- the payload is missing, where messages or map entries are read
-pub no_payload : (shape : Shape) (groups m : ℕ) (v : FieldView) (at end : ℕ) (r : Rec) → ((w : ℕ) → (w == 2) ≡ false
-    → reads v.cardinality v.kind w ≡ false) → None ≡ bytes_of r
-    → (errors.WireType at ≡ errors.NoMemory) ⊎ ValueFails shape groups m (field_like v) at end r (errors.WireType at)
-no_payload shape groups m v at end r wrong none =
-    inr (inl (errors.WireType 0, (refl, wrong (wire_type_of r) (no_bytes r none)), ap errors.WireType (omega arith)))
-
 pub joined_reads : (t : ℕ) (c : Cardinality) (k : Kind) → k ≡ kinds.Message t → c ≡ Singular → (w : ℕ) → (w == 2) ≡ false → reads c k w ≡ false
 joined_reads t c k kind once w e = rw (kind, once) e
 
@@ -173,17 +166,23 @@ pub added_inside : (shape : Shape) (t : ℕ) (c : Cardinality) (k : Kind) → k 
     → payload_fields shape c k ≡ Some (fields_of shape t)
 added_inside shape t c k kind list = rw (kind, list) refl
 
-pub too_deep : (shape : Shape) (groups m : ℕ) (v : FieldView) (at end : ℕ) (r : Rec) (gs : List FieldShape) (b : List ℕ) → ((groups ≡ 0) ↔ (m ≡ 0)) → m ≡ 0
-    → payload_fields shape v.cardinality v.kind ≡ Some gs → bytes_of r ≡ Some b
-    → (errors.TooDeep at ≡ errors.NoMemory) ⊎ ValueFails shape groups m (field_like v) at end r (errors.TooDeep at)
-too_deep shape groups m v at end r gs b left none inside bytes =
-    inr (inl (errors.TooDeep 0, (refl, left.1 none, ap is_some inside, (b, bytes, tt)), ap errors.TooDeep (omega arith)))
+-- what the payload breaks, the record breaks as one of the field
+pub payload_breaks : (shape : Shape) (groups m : ℕ) (v : FieldView) (at end : ℕ) (r : Rec) (gs : List FieldShape) (e : DecodeError)
+    → ((groups ≡ 0) ↔ (m ≡ 0)) → ((w : ℕ) → (w == 2) ≡ false → reads v.cardinality v.kind w ≡ false) → payload_fields shape v.cardinality v.kind ≡ Some gs
+    → (e ≡ errors.NoMemory) ⊎ PayloadFails shape m gs at end r e → (e ≡ errors.NoMemory) ⊎ ValueFails shape groups m (field_like v) at end r e
+payload_breaks shape groups m v at end r gs e left wrong inside (inl none) = inl none
+payload_breaks shape groups m v at end r gs e left wrong inside (inr (inl (is, none))) =
+    inr (inl (errors.WireType 0, (refl, wrong (wire_type_of r) (no_bytes r (sym none))), is ∙ ap errors.WireType (omega arith)))
+payload_breaks shape groups m v at end r gs e left wrong inside (inr (inr (inl (b, is, none, bytes)))) =
+    inr (inl (errors.TooDeep 0, (refl, left.1 none, ap is_some inside, (b, bytes, tt)), is ∙ ap errors.TooDeep (omega arith)))
+payload_breaks shape groups m v at end r gs e left wrong inside (inr (inr (inr (d, b, own, deep, bytes, first, is)))) =
+    inr (inr (d, gs, b, own, deep, inside, bytes, first, is))
 
-pub in_payload : (shape : Shape) (groups m d : ℕ) (v : FieldView) (at end : ℕ) (r : Rec) (gs : List FieldShape) (b : List ℕ) (e : DecodeError) → m ≡ suc d
-    → payload_fields shape v.cardinality v.kind ≡ Some gs → bytes_of r ≡ Some b → IsToldAt (end - length b) (IsFirstWith shape d d gs b) e
-    → (e ≡ errors.NoMemory) ⊎ ValueFails shape groups m (field_like v) at end r e
-in_payload shape groups m d v at end r gs b e deep inside bytes (inl none) = inl none
-in_payload shape groups m d v at end r gs b e deep inside bytes (inr (own, first, is)) = inr (inr (d, gs, b, own, deep, inside, bytes, first, is))
+-- what is told of the payload
+pub payload_told : (shape : Shape) (m d : ℕ) (at end : ℕ) (r : Rec) (gs : List FieldShape) (b : List ℕ) (e : DecodeError) → m ≡ suc d
+    → bytes_of r ≡ Some b → IsToldAt (end - length b) (IsFirstWith shape d d gs b) e → (e ≡ errors.NoMemory) ⊎ PayloadFails shape m gs at end r e
+payload_told shape m d at end r gs b e deep bytes (inl none) = inl none
+payload_told shape m d at end r gs b e deep bytes (inr (own, first, is)) = inr (inr (inr (d, b, own, deep, bytes, first, is)))
 
 -- ---- calls
 

@@ -80,7 +80,7 @@ kept_is c r = rw (content_is c, rolled) refl
 pub val_of_message : (c : Contents) → val_of (held.Message c) ≡ message (content_of c)
 val_of_message c = search (rules, the_lemmas)
 
-list-pairs : (ps : List (Key × Val)) → pair_list (pairs_of ps) ≡ ps
+pub list-pairs : (ps : List (Key × Val)) → pair_list (pairs_of ps) ≡ ps
 list-pairs [] = refl
 list-pairs (p ∷ ps) = ap (λ (t : List (Key × Val)). p ∷ t) (list-pairs ps)
 

@@ -1,6 +1,7 @@
 -- Which rule a record breaks where it is read as a value of a kind, told with the offset of its key.
 use Rattle.std.specs.Prelude.{◌≡◌, ◌⊎◌, ℕ, List, true, false, ◌==◌, nat_lt, length, take, drop, Option, Some, None, if◌then◌else◌}
-use Rattle.std.specs.Int.{Width, from_le_bytes}
+use Rattle.std.specs.Int.{Width}
+use Rattle.pbx_wire.specs.Fixed.{fixed}
 use Rattle.std.specs.Str.{is_utf8}
 use Rattle.pbx_wire.specs.declared.error.DecodeError.{DecodeError}
 use Rattle.pbx_wire.specs.declared.error.DecodeError.TheVariants as errors
@@ -13,7 +14,7 @@ use Rattle.pbx_meaning.specs.Faults.{wire_type, wire_type_of, OwnPayloadIs, HasL
 
 -- so many bytes at the front as a number, the least first, and the bytes behind it
 abbrev pub front_number : Width → ℕ → List ℕ → Option (ℕ × List ℕ)
-front_number w len bytes = if nat_lt (length bytes) len then None else Some (from_le_bytes w (take len bytes), drop len bytes)
+front_number w len bytes = if nat_lt (length bytes) len then None else Some (fixed w (take len bytes), drop len bytes)
 
 -- as one value: another wire type, or a text that is not UTF-8
 abbrev pub AloneFails : Kind → ℕ → Rec → DecodeError → Type 0

@@ -6,3 +6,4 @@ pub mod Fields
 pub mod Breaks
 pub mod Merging
 pub mod Keyed
+pub mod Settling

@@ -4,16 +4,15 @@ use Rattle.pbx_wire.specs.declared.error.DecodeError.{DecodeError}
 use Rattle.pbx_wire.specs.declared.error.DecodeError.TheVariants as errors
 use Rattle.pbx_wire.specs.declared.rec.Rec.{Rec}
 use Rattle.pbx_wire.specs.Faults.{shifted, SpellsOne}
-use Rattle.pbx_meaning.specs.declared.shape.Kind.TheVariants as kinds
 use Rattle.pbx_meaning.specs.declared.shape.Kind.{Kind}
-use Rattle.pbx_meaning.specs.declared.shape.Cardinality.TheVariants.{Singular, Map}
+use Rattle.pbx_meaning.specs.declared.shape.Cardinality.TheVariants.{Map}
 use Rattle.pbx_codec.specs.Keyed.{AreInOrder}
 use Rattle.pbx_meaning.specs.declared.shape.Shape.{Shape}
 use Rattle.pbx_meaning.specs.declared.shape.FieldShape.{FieldShape}
-use Rattle.pbx_meaning.specs.Content.{Content, content, empty, Fields, no_fields, field, Val, with_value}
+use Rattle.pbx_meaning.specs.Content.{Content, content, Fields, no_fields, field, Val, with_value}
 use Rattle.pbx_meaning.specs.Records.{number_of, bytes_of, records_in}
-use Rattle.pbx_meaning.specs.Shape.{fields_of, field_of, is_float, is_other}
-use Rattle.pbx_meaning.specs.Onto.{message_held, pairs_held, meaning_onto}
+use Rattle.pbx_meaning.specs.Shape.{field_of, is_float, is_other}
+use Rattle.pbx_meaning.specs.Onto.{pairs_held, meaning_onto}
 use Rattle.pbx_meaning.specs.Faults.{RecBreaks, payload_fields}
 use Rattle.pbx_meaning.specs.Laws.{IsFirstWith}
 
@@ -44,20 +43,24 @@ kept_more (content fs ks) r = content fs (ks ++ r ∷ [])
 abbrev pub onto_with : Shape → ℕ → ℕ → List FieldShape → Content → List ℕ → Option Content
 onto_with shape groups messages fs old bytes = option_and_then (meaning_onto shape messages fs old) (records_in groups bytes)
 
--- some records mean the content
-abbrev pub IsMeant : Shape → ℕ → List FieldShape → Content → Type 0
-IsMeant shape messages fs c = (rs : List Rec) × (meaning_onto shape messages fs empty rs ≡ Some c)
-
--- so it is of the message that a field of at most one has
-abbrev pub HasMeant : Shape → ℕ → FieldShape → Option Val → Type 0
-HasMeant shape messages f old =
-    (t deeper : ℕ) → f.cardinality ≡ Singular → f.kind ≡ kinds.Message t → messages ≡ suc deeper → IsMeant shape deeper (fields_of shape t) (message_held old)
-
 -- ---- what is told
 
 -- want of memory, or such a fault of the bytes that have so many in front
 abbrev pub IsToldAt : ℕ → (DecodeError → Type 0) → DecodeError → Type 0
 IsToldAt at faults e = (e ≡ errors.NoMemory) ⊎ ((own : DecodeError) × faults own × (e ≡ shifted at own))
+
+-- the record has a payload, which means the new content behind the old one, with a level less
+abbrev pub PayloadMeans : Shape → ℕ → List FieldShape → Content → Rec → Content → Type 0
+PayloadMeans shape messages gs old r new =
+    (deeper : ℕ) × (payload : List ℕ) × (messages ≡ suc deeper) × (bytes_of r ≡ Some payload) × (onto_with shape deeper deeper gs old payload ≡ Some new)
+
+-- the record has no payload, or no level is left for it, or it ends there and has a first fault
+abbrev pub PayloadFails : Shape → ℕ → List FieldShape → ℕ → ℕ → Rec → DecodeError → Type 0
+PayloadFails shape messages gs at end r e =
+    ((e ≡ errors.WireType at) × (bytes_of r ≡ None))
+    ⊎ ((payload : List ℕ) × (e ≡ errors.TooDeep at) × (messages ≡ 0) × (bytes_of r ≡ Some payload))
+    ⊎ ((deeper : ℕ) × (payload : List ℕ) × (own : DecodeError) × (messages ≡ suc deeper) × (bytes_of r ≡ Some payload)
+    × IsFirstWith shape deeper deeper gs payload own × (e ≡ shifted (end - length payload) own))
 
 -- the record breaks the rule as one of the field, or its payload, which ends there, has a first fault
 abbrev pub ValueFails : Shape → ℕ → ℕ → FieldShape → ℕ → ℕ → Rec → DecodeError → Type 0

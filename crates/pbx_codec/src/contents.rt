@@ -77,12 +77,12 @@ impl Contents {
         }
     }
 
-    /// An equal content. The only error is want of memory. The stack is memory too: messages that nest deeper than
-    /// 1,024 are `NoMemory`.
+    /// An equal content. The only error is want of memory. The stack is memory too: where messages nest more than 1,024
+    /// levels below the top, that is `NoMemory`.
     pub fn copy(&self, alloc: Global) -> Result<Contents, NoMemory>
-        ensures { IfOk result (λ copy. content_of copy ≡ content_of self.now) }
+        ensures { IfOk result (λ copy. copy ≡ self.now) }
     {
-        copy_contents(self, alloc, DEEPEST)
+        copy_contents(self, alloc, DEEPEST + 1)
     }
 
     /// The value of a number.

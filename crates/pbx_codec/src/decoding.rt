@@ -2,19 +2,21 @@ ghost use Rattle.std.specs.Prelude.{◌≡◌, ◌⊎◌, ◌↔◌, Some, IfOk,
 ghost use Rattle.pbx_wire.specs.declared.error.DecodeError.TheVariants.{NoMemory as OutOfMemory};
 ghost use Rattle.pbx_meaning.specs.Shape.{fields_of};
 ghost use Rattle.pbx_meaning.specs.Meaning.{meaning_of, meaning_within, parts_meaning_of};
+ghost use Rattle.pbx_meaning.specs.Onto.{merged_of};
+ghost use Rattle.pbx_meaning.specs.Sound.{IsProper};
 ghost use Rattle.pbx_meaning.specs.Faults.{IsFaultOf, IsFaultOfParts, MessageFaults, IsToldFault};
 ghost use Rattle.pbx_meaning.specs.Laws.{meaning_with, IsFirstWith};
 ghost use Rattle.pbx_codec.specs.View.{content_of};
+ghost use Rattle.pbx_codec.specs.Settling.{IsSettledUnless};
 
 use crate::contents::Contents;
 use crate::fields::Owner;
+use crate::levels::DEEPEST;
 use crate::merging::merge_bytes;
+use crate::settling::{is_settled, settle_unless};
 use pbx_meaning::Schema;
-use pbx_wire::DecodeError;
+use pbx_wire::{DecodeError, NoMemory};
 use std::alloc::Global;
-
-/// How many messages may be open at once, whatever the levels: each takes the stack of a few calls.
-const DEEPEST: u32 = 1024;
 
 /// The content of the bytes with so many levels of groups, and so many of messages.
 fn decode_with(
@@ -34,6 +36,7 @@ fn decode_with(
     match merge_bytes(
         alloc,
         schema,
+        true,
         groups,
         messages,
         DEEPEST,
@@ -89,4 +92,58 @@ pub fn decode_parts(
     ensures fault { IfErr result (IsToldFault (parts_meaning_of schema.now type_at bytes.now) (IsFaultOfParts schema.now type_at bytes.now)) }
 {
     decode_with(alloc, schema, 100, 101, type_at, bytes)
+}
+
+/// A copy of the content, settled where it is not.
+fn settled_copy(
+    alloc: Global,
+    schema: &Schema,
+    settled: bool,
+    type_at: usize,
+    old: &Contents,
+) -> Result<Contents, NoMemory>
+    requires { IsProper schema.now }
+    ensures { IfOk result (λ copy. IsSettledUnless settled schema.now (fields_of schema.now type_at) (content_of old.now) (content_of copy)) }
+{
+    let mut copy = old.copy(alloc)?;
+    settle_unless(alloc, schema, settled, type_at, &mut copy)?;
+    Ok(copy)
+}
+
+/// The content that the bytes mean behind an old one, as if their records followed records that mean it. The levels
+/// of the bytes are counted by themselves.
+///
+/// Any content may be the old one. One that was decoded is copied; of another, where numbers do not ascend or values
+/// are not of their fields' kinds, each message is settled where records come to it. As in `Contents::copy`, messages
+/// that nest deeper than 1,024 are `DecodeError::NoMemory`.
+pub fn merge(
+    alloc: Global,
+    schema: &Schema,
+    type_at: usize,
+    old: &Contents,
+    bytes: &[u8],
+) -> Result<Contents, DecodeError>
+    ensures merged { IfOk result (λ contents. merged_of schema.now type_at (content_of old.now) bytes.now ≡ Some (content_of contents)) }
+    ensures fault { IfErr result (IsToldFault (merged_of schema.now type_at (content_of old.now) bytes.now) (IsFaultOf schema.now type_at bytes.now)) }
+{
+    let _proper = schema.shape();
+    let settled = is_settled(schema, type_at, old, 100);
+    let Ok(mut contents) = settled_copy(alloc, schema, settled, type_at, old) else {
+        return Err(DecodeError::NoMemory);
+    };
+    match merge_bytes(
+        alloc,
+        schema,
+        settled,
+        100,
+        100,
+        DEEPEST,
+        Owner::Type(type_at),
+        bytes.len(),
+        &mut contents,
+        bytes,
+    ) {
+        Ok(()) => Ok(contents),
+        Err(fault) => Err(fault),
+    }
 }

@@ -1,16 +1,19 @@
 ghost use Rattle.std.specs.Prelude.{◌≡◌, [], ◌∷◌, ◌++◌, map, Some, IfOk, OnOk};
 ghost use Rattle.pbx_wire.specs.declared.rec.Rec.TheVariants as rec;
 ghost use Rattle.pbx_meaning.specs.Content.{vals_of, pairs_of};
-ghost use Rattle.pbx_meaning.specs.Shape.{fields_of};
+ghost use Rattle.pbx_meaning.specs.Shape.{fields_of, form_of};
 ghost use Rattle.pbx_meaning.specs.Encoding.{encoded, content_recs, fields_recs, field_recs, vals_recs, pairs_recs, val_rec};
-ghost use Rattle.pbx_meaning.specs.Encoding.{key_rec, type_of, keys_of, payload};
+ghost use Rattle.pbx_meaning.specs.Encoding.{key_rec, type_of, keys_of, payload, number_rec, packed_text, numeral as numeral_of};
 ghost use Rattle.pbx_codec.specs.View.{val_of, content_of, entry_of, pair_of, key_of, fields_in};
 
 use crate::contents::{Contents, Field, Held, Pair};
 use crate::key::MapKey;
 use crate::levels::DEEPEST;
-use crate::numeral::{is_packed, number_record, packed_payload, signed_number, unsigned_number};
+use crate::numeral::{
+    is_packed, number_record, numeral, packed_payload, signed_number, unsigned_number,
+};
 use crate::order::with_kept;
+use bytes::Bytes;
 use pbx_meaning::{Cardinality, FieldShape, Kind, Schema};
 use pbx_wire::{Blob, List, NoMemory, Rec, Recs, recs_text};
 use std::alloc::Global;
@@ -61,6 +64,27 @@ fn key_record(alloc: Global, kind: Kind, key: &MapKey) -> Result<Rec, NoMemory>
     }
 }
 
+/// A number or truth value at a number; of another value 0.
+fn scalar_record(held: &Held, alloc: Global, number: u32, kind: Kind) -> Result<Rec, NoMemory>
+    ensures { IfOk result (λ it. it ≡ number_rec number (form_of kind) (numeral_of kind (val_of held.now))) }
+{
+    number_record(alloc, number, kind, numeral(kind, held))
+}
+
+/// Bytes as the payload of a record.
+fn bytes_record(number: u32, bytes: &Bytes) -> Result<Rec, NoMemory>
+    ensures { IfOk result (λ it. it ≡ rec.Bytes number bytes.now) }
+{
+    Ok(Rec::Bytes(number, bytes.clone()?))
+}
+
+/// The records of a message as the payload of a record.
+fn message_record(alloc: Global, number: u32, recs: Recs) -> Result<Rec, NoMemory>
+    ensures { IfOk result (λ it. it ≡ payload number recs) }
+{
+    Rec::from_payload(number, recs_text(alloc, &recs)?)
+}
+
 /// One value of a kind, at a number. A list or a map inside a list or a map, which no message has, is an empty payload.
 #[cycle(encode)]
 fn held_record(
@@ -74,29 +98,31 @@ fn held_record(
     ensures { IfOk result (λ it. it ≡ val_rec schema.now number kind (val_of held.now)) }
 {
     match held {
-        Held::I32(value) => number_record(
-            alloc,
-            number,
-            kind,
-            signed_number(kind, i64::from(*value)),
-        ),
-        Held::I64(value) => number_record(alloc, number, kind, signed_number(kind, *value)),
-        Held::U32(value) => number_record(
-            alloc,
-            number,
-            kind,
-            unsigned_number(kind, u64::from(*value)),
-        ),
-        Held::U64(value) => number_record(alloc, number, kind, unsigned_number(kind, *value)),
-        Held::Bool(value) => number_record(alloc, number, kind, u64::from(*value)),
         Held::Text(text) => text_record(alloc, number, text.as_str()),
-        Held::Bytes(bytes) => Ok(Rec::Bytes(number, bytes.clone()?)),
-        Held::Message(inner) => {
-            let recs = records_of(inner, alloc, schema, message_type(kind), room)?;
-            Rec::from_payload(number, recs_text(alloc, &recs)?)
-        }
+        Held::Bytes(bytes) => bytes_record(number, bytes),
+        Held::Message(inner) => match records_of(inner, alloc, schema, message_type(kind), room) {
+            Ok(recs) => message_record(alloc, number, recs),
+            Err(error) => Err(error),
+        },
         Held::Many(_) | Held::Pairs(_) => Rec::from_payload(number, Blob::new(alloc)),
+        _ => scalar_record(held, alloc, number, kind),
     }
+}
+
+/// An entry of a map with the key and the record of the value.
+fn entry_record(
+    alloc: Global,
+    number: u32,
+    kind: Kind,
+    key: &MapKey,
+    value: Rec,
+) -> Result<Rec, NoMemory>
+    ensures { IfOk result (λ it. it ≡ payload number (key_rec kind (key_of key.now) ∷ value ∷ [])) }
+{
+    let mut entry = Recs::with_capacity(alloc, 2)?;
+    entry.add(key_record(alloc, kind, key)?)?;
+    entry.add(value)?;
+    message_record(alloc, number, entry)
 }
 
 /// A pair of a map: an entry with key and value.
@@ -112,10 +138,10 @@ fn pair_record(
 ) -> Result<Rec, NoMemory>
     ensures { IfOk result (λ it. it ≡ payload number (key_rec key (pair_of pair.now).0 ∷ val_rec schema.now 2 value (pair_of pair.now).1 ∷ [])) }
 {
-    let mut entry = Recs::with_capacity(alloc, 2)?;
-    entry.add(key_record(alloc, key, &pair.key)?)?;
-    entry.add(held_record(&pair.held, alloc, schema, 2, value, room)?)?;
-    Rec::from_payload(number, recs_text(alloc, &entry)?)
+    match held_record(&pair.held, alloc, schema, 2, value, room) {
+        Ok(value) => entry_record(alloc, number, key, &pair.key, value),
+        Err(error) => Err(error),
+    }
 }
 
 /// Adds a record for each value of a list.
@@ -131,7 +157,8 @@ fn add_many(
     ensures { OnOk result (recs.new ≡ recs.old ++ vals_recs schema.now field.now.number field.now.kind (vals_of (map val_of many.now))) }
 {
     for held in many.as_slice() {
-        recs.add(held_record(held, alloc, schema, field.number, field.kind, room)?)?;
+        let record = held_record(held, alloc, schema, field.number, field.kind, room)?;
+        recs.add(record)?;
     }
     Ok(())
 }
@@ -151,9 +178,23 @@ fn add_pairs(
 {
     let key = key_kind(field.cardinality);
     for pair in pairs.as_slice() {
-        recs.add(pair_record(pair, alloc, schema, field.number, key, field.kind, room)?)?;
+        let record = pair_record(pair, alloc, schema, field.number, key, field.kind, room)?;
+        recs.add(record)?;
     }
     Ok(())
+}
+
+/// Adds the one record of a list of numbers.
+fn add_packed(
+    many: &List<Held>,
+    alloc: Global,
+    field: &FieldShape,
+    recs: &mut Recs,
+) -> Result<(), NoMemory>
+    ensures { OnOk result (recs.new ≡ recs.old ++ rec.Bytes field.now.number (packed_text field.now.kind (vals_of (map val_of many.now))) ∷ []) }
+{
+    let payload = packed_payload(alloc, field.kind, many.as_slice())?;
+    recs.add(Rec::from_payload(field.number, payload)?)
 }
 
 /// Adds the records of a field's value.
@@ -171,14 +212,16 @@ fn add_held(
     match held {
         Held::Many(many) => {
             if is_packed(field) {
-                let payload = packed_payload(alloc, field.kind, many.as_slice())?;
-                recs.add(Rec::from_payload(field.number, payload)?)
+                add_packed(many, alloc, field, recs)
             } else {
                 add_many(many, alloc, schema, field, room, recs)
             }
         }
         Held::Pairs(pairs) => add_pairs(pairs, alloc, schema, field, room, recs),
-        _ => recs.add(held_record(held, alloc, schema, field.number, field.kind, room)?),
+        _ => match held_record(held, alloc, schema, field.number, field.kind, room) {
+            Ok(record) => recs.add(record),
+            Err(error) => Err(error),
+        },
     }
 }
 
@@ -221,7 +264,7 @@ fn records_of(
 }
 
 /// The records of the canonical encoding of the content. The only error is want of memory. The stack is memory too:
-/// messages that nest deeper than 1,024 are `NoMemory`.
+/// where messages nest more than 1,024 levels below the top, that is `NoMemory`.
 pub fn content_records(
     alloc: Global,
     schema: &Schema,
@@ -230,7 +273,7 @@ pub fn content_records(
 ) -> Result<Recs, NoMemory>
     ensures { IfOk result (λ recs. recs ≡ content_recs schema.now type_at (content_of contents.now)) }
 {
-    records_of(contents, alloc, schema, type_at, DEEPEST)
+    records_of(contents, alloc, schema, type_at, DEEPEST + 1)
 }
 
 /// The canonical encoding of the content, as `content_records` gives its records.

@@ -3,8 +3,8 @@ ghost use Rattle.std.specs.Prelude.{◌≡◌, IfOk};
 use pbx_wire::{NoMemory, Text};
 use std::alloc::Global;
 
-/// A key of a map. Keys of different variants stand in the order of the variants; of one variant false
-/// stands before true, numbers ascend, and texts go by their bytes.
+/// A key of a map. In order false stands before true, numbers ascend whatever their variants, and texts go by their
+/// bytes; truth values stand before numbers, and numbers before texts.
 #[derive(Drop)]
 pub enum MapKey {
     /// A key of kind `bool`.

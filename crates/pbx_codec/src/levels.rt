@@ -7,7 +7,7 @@ ghost use Rattle.pbx_codec.specs.View.{val_of, content_of, entry_of, pair_of, fi
 use crate::contents::{Contents, Field, Held, Pair};
 use pbx_wire::{List, Rec, Recs};
 
-/// How many messages in one another the stack is given to copy or to write.
+/// How many levels of messages below the top the stack is given, whatever levels a caller allows: each takes that of a few calls.
 pub(crate) const DEEPEST: u32 = 1024;
 
 /// The levels of groups of a record, or 4,294,967,295 where there are more.

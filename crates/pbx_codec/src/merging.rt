@@ -1,34 +1,41 @@
-ghost use Rattle.std.specs.Prelude.{◌≡◌, ◌≢◌, ◌⊎◌, ◌↔◌, ◌<◌, ◌≤◌, ◌-◌, ◌++◌, ◌∷◌, [], List, length, remove, map, false, Some, IfOk, IfErr, OnOk, option_map};
+ghost use Rattle.std.specs.Prelude.{◌≡◌, ◌≢◌, ◌⊎◌, ◌↔◌, ◌<◌, ◌≤◌, ◌-◌, ◌++◌, ◌∷◌, [], List, ℕ, suc, length};
+ghost use Rattle.std.specs.Prelude.{remove, map, true, false, Some, IfOk, IfErr, OnOk, option_map};
 ghost use Rattle.pbx_wire.specs.declared.error.DecodeError.TheVariants.{NoMemory as OutOfMemory};
 ghost use Rattle.pbx_wire.specs.declared.rec.Rec.{Rec};
 ghost use Rattle.pbx_wire.specs.View.{rec_of};
 ghost use Rattle.pbx_wire.specs.Faults.{SpellsOne};
 ghost use Rattle.pbx_meaning.specs.declared.shape.Kind.TheVariants.{Message as MessageKind};
 ghost use Rattle.pbx_meaning.specs.declared.shape.Cardinality.TheVariants.{Singular, Repeated, Map};
-ghost use Rattle.pbx_meaning.specs.Content.{message, many as many_of, vals_of, get, fields as fields_of_content, without, with_fields};
+ghost use Rattle.pbx_meaning.specs.Content.{Content, message, many as many_of, keyed, vals_of, by_key, get, fields as fields_of_content, without, with_fields};
 ghost use Rattle.pbx_meaning.specs.Records.{number_of};
-ghost use Rattle.pbx_meaning.specs.Shape.{field_of, is_float as is_float_of, is_other as is_other_of};
+ghost use Rattle.pbx_meaning.specs.Shape.{fields_of, field_of, is_float as is_float_of, is_other as is_other_of};
 ghost use Rattle.pbx_meaning.specs.Sound.{IsProper};
-ghost use Rattle.pbx_meaning.specs.Onto.{value_onto, meaning_onto, message_held as message_held_of};
+ghost use Rattle.pbx_meaning.specs.Onto.{elements as elements_of, pairs_held as pairs_held_of, value_onto, meaning_onto, message_held as message_held_of};
 ghost use Rattle.pbx_meaning.specs.Laws.{IsFirstWith};
 ghost use Rattle.pbx_meaning.proofs.OntoLaw.{onto_at};
+ghost use Rattle.pbx_meaning.specs.Meaning.{pair_in};
+ghost use Rattle.pbx_codec.specs.Keyed.{AreInOrder};
 ghost use Rattle.pbx_codec.specs.View.{content_of, val_of, fields_in, entry_of};
 ghost use Rattle.pbx_codec.specs.Fields.{fields_at, field_like};
-ghost use Rattle.pbx_codec.specs.Merging.{put_option, is_rival_to, without_rivals, kept_more, onto_with, GoesOn, IsMeant, HasMeant, HasOrdered, IsToldAt, PayloadFits, ValueFails, RecFails};
+ghost use Rattle.pbx_codec.specs.Settling.{HasSettled, IsReady, IsSettledUnless};
+ghost use Rattle.pbx_codec.specs.Merging.{put_option, is_rival_to, without_rivals, kept_more, onto_with, GoesOn, HasOrdered};
+ghost use Rattle.pbx_codec.specs.Merging.{IsToldAt, PayloadFits, PayloadMeans, PayloadFails, ValueFails, RecFails};
 
 use crate::contents::{Contents, Field, Held};
 use crate::fields::{FieldView, Owner, is_float, takes_key, view_in};
 use crate::pairs::{pairs_held, with_entry};
 use crate::scalars::list_held;
-use crate::values::{list_value, payload, single_value};
+use crate::settling::settle_unless;
+use crate::values::{add_values, payload, set_value};
 use pbx_meaning::{Cardinality, Kind, Schema};
 use pbx_wire::{DecodeError, List, NoMemory, RecRef, front_key, read_rec_ref};
 use std::alloc::Global;
 
 /// Adds a record that no field reads.
 #[tactic(auto, using(crate::proofs::Tree::kept_is))]
-fn keep(alloc: Global, into: &mut Contents, rec: RecRef<'_>) -> Result<(), NoMemory>
-    ensures { OnOk result (content_of into.new ≡ kept_more (content_of into.old) (rec_of rec.entry)) }
+fn keep(alloc: Global, into: &mut Contents, rec: RecRef<'_>) -> Result<(), DecodeError>
+    ensures kept { OnOk result (content_of into.new ≡ kept_more (content_of into.old) (rec_of rec.entry)) }
+    ensures fault { IfErr result (λ e. e ≡ OutOfMemory) }
 {
     into.kept.add(rec.into_rec(alloc)?)?;
     Ok(())
@@ -105,50 +112,107 @@ fn take_value(schema: &Schema, owner: Owner, view: FieldView, into: &mut Content
 
 /// Puts the value at the number, if there is one.
 #[tactic(auto, using(crate::proofs::Rivals::unchanged))]
-fn put_value(into: &mut Contents, number: u32, held: Option<Held>) -> Result<(), NoMemory>
-    ensures { OnOk result (content_of into.new ≡ with_fields (content_of into.old) (put_option number (option_map val_of held) (fields_of_content (content_of into.old)))) }
+fn put_value(into: &mut Contents, number: u32, held: Option<Held>) -> Result<(), DecodeError>
+    ensures put { OnOk result (content_of into.new
+        ≡ with_fields (content_of into.old) (put_option number (option_map val_of held) (fields_of_content (content_of into.old)))) }
+    ensures fault { IfErr result (λ e. e ≡ OutOfMemory) }
 {
     match held {
-        Some(held) => into.put(number, held),
+        Some(held) => Ok(into.put(number, held)?),
         None => Ok(()),
     }
 }
 
-/// The message that a field has, or one that holds nothing.
+/// Takes the message that a field has out; where it has none, one that holds nothing.
 #[tactic(auto, using(crate::proofs::Tree::val_of_message))]
-fn message_held(alloc: Global, old: Option<Held>) -> Contents
-    ensures { content_of result ≡ message_held_of (option_map val_of old) }
+fn take_message(alloc: Global, held: &mut Option<Held>) -> Contents
+    ensures { content_of result ≡ message_held_of (option_map val_of held.old) }
 {
-    match old {
+    match held.take() {
         Some(Held::Message(contents)) => contents,
         _ => Contents::new(alloc),
     }
 }
 
-/// A message behind the one that the field has.
-#[cycle(merge)]
-fn joined_message(
+/// Takes the message that a field has out, settled where the tree is not.
+fn take_settled(
     alloc: Global,
     schema: &Schema,
-    groups: usize,
+    settled: bool,
+    type_at: usize,
+    held: &mut Option<Held>,
+) -> Result<Contents, NoMemory>
+    requires { IsProper schema.now }
+    ensures { IfOk result (λ contents.
+        IsSettledUnless settled schema.now (fields_of schema.now type_at) (message_held_of (option_map val_of held.old)) (content_of contents)) }
+{
+    let mut contents = take_message(alloc, held);
+    settle_unless(alloc, schema, settled, type_at, &mut contents)?;
+    Ok(contents)
+}
+
+/// Gives a field the message.
+#[tactic(auto, using(crate::proofs::Tree::val_of_message))]
+fn set_message(held: &mut Option<Held>, contents: Contents)
+    ensures { option_map val_of held.new ≡ Some (message (content_of contents)) }
+{
+    *held = Some(Held::Message(contents));
+}
+
+/// Adds the message to those that a field has.
+fn add_message(
+    alloc: Global,
+    held: &mut Option<Held>,
+    contents: Contents,
+) -> Result<(), DecodeError>
+    ensures added { OnOk result (option_map val_of held.new
+        ≡ Some (many_of (vals_of (elements_of (option_map val_of held.old) ++ message (content_of contents) ∷ [])))) }
+    ensures fault { IfErr result (λ e. e ≡ OutOfMemory) }
+{
+    let mut many = list_held(alloc, held.take());
+    many.add(Held::Message(contents))?;
+    *held = Some(Held::Many(many));
+    Ok(())
+}
+
+/// Adds the pair of an entry to those that a field has.
+fn add_pair(
+    alloc: Global,
+    schema: &Schema,
+    key: Kind,
+    kind: Kind,
+    held: &mut Option<Held>,
+    entry: Contents,
+) -> Result<(), DecodeError>
+    requires { AreInOrder (pairs_held_of (option_map val_of held.old)) }
+    ensures added { OnOk result (option_map val_of held.new
+        ≡ Some (keyed (by_key (pairs_held_of (option_map val_of held.old) ++ pair_in schema.now key kind (content_of entry) ∷ [])))) }
+    ensures fault { IfErr result (λ e. e ≡ OutOfMemory) }
+{
+    let pairs = pairs_held(alloc, held.take());
+    *held = Some(with_entry(alloc, schema, key, kind, pairs, entry)?);
+    Ok(())
+}
+
+/// The record's payload as a message or map entry, behind a content that is ready at one level less.
+#[cycle(merge)]
+fn merge_payload(
+    alloc: Global,
+    schema: &Schema,
+    settled: bool,
     messages: usize,
     room: u32,
-    view: FieldView,
-    type_at: usize,
+    owner: Owner,
     at: usize,
     end: usize,
-    old: Option<Held>,
+    into: &mut Contents,
     rec: &RecRef<'_>,
-) -> Result<Option<Held>, DecodeError>
+) -> Result<(), DecodeError>
     requires proper { IsProper schema.now }
-    requires left { (groups ≡ 0) ↔ (messages ≡ 0) }
-    requires kind { view.kind ≡ MessageKind type_at }
-    requires once { view.cardinality ≡ Singular }
     requires ends { PayloadFits (rec_of rec.now) end }
-    requires meant { HasMeant schema.now messages (field_like view) (option_map val_of old) }
-    ensures found { IfOk result (λ new. value_onto schema.now (onto_at schema.now messages) (field_like view) (option_map val_of old) (rec_of rec.now ∷ [])
-        ≡ Some (option_map val_of new)) }
-    ensures fault { IfErr result (λ e. (e ≡ OutOfMemory) ⊎ ValueFails schema.now groups messages (field_like view) at end (rec_of rec.now) e) }
+    requires ready { (deeper : ℕ) → messages ≡ suc deeper → IsReady settled schema.now deeper (fields_at schema.now owner) (content_of into.old) }
+    ensures found { OnOk result (PayloadMeans schema.now messages (fields_at schema.now owner) (content_of into.old) (rec_of rec.now) (content_of into.new)) }
+    ensures fault { IfErr result (λ e. (e ≡ OutOfMemory) ⊎ PayloadFails schema.now messages (fields_at schema.now owner) at end (rec_of rec.now) e) }
 {
     let Some(bytes) = payload(rec) else {
         return Err(DecodeError::WireType(at));
@@ -159,26 +223,64 @@ fn joined_message(
     if room == 0 {
         return Err(DecodeError::NoMemory);
     }
-    let mut held = message_held(alloc, old);
-    match merge_bytes(
+    merge_bytes(
         alloc,
         schema,
+        settled,
         messages - 1,
         messages - 1,
         room - 1,
-        Owner::Type(type_at),
+        owner,
         end,
-        &mut held,
+        into,
         bytes,
+    )
+}
+
+/// A message behind the one that the field has.
+#[cycle(merge)]
+fn join_message(
+    alloc: Global,
+    schema: &Schema,
+    settled: bool,
+    groups: usize,
+    messages: usize,
+    room: u32,
+    view: FieldView,
+    type_at: usize,
+    at: usize,
+    end: usize,
+    held: &mut Option<Held>,
+    rec: &RecRef<'_>,
+) -> Result<(), DecodeError>
+    requires proper { IsProper schema.now }
+    requires left { (groups ≡ 0) ↔ (messages ≡ 0) }
+    requires kind { view.kind ≡ MessageKind type_at }
+    requires once { view.cardinality ≡ Singular }
+    requires ends { PayloadFits (rec_of rec.now) end }
+    requires settled { HasSettled settled schema.now messages (field_like view) (option_map val_of held.old) }
+    ensures found { OnOk result (value_onto schema.now (onto_at schema.now messages) (field_like view) (option_map val_of held.old) (rec_of rec.now ∷ [])
+        ≡ Some (option_map val_of held.new)) }
+    ensures fault { IfErr result (λ e. (e ≡ OutOfMemory) ⊎ ValueFails schema.now groups messages (field_like view) at end (rec_of rec.now) e) }
+{
+    let Ok(mut inner) = take_settled(alloc, schema, settled, type_at, held) else {
+        return Err(DecodeError::NoMemory);
+    };
+    let owner = Owner::Type(type_at);
+    match merge_payload(
+        alloc, schema, settled, messages, room, owner, at, end, &mut inner, rec,
     ) {
-        Ok(()) => Ok(Some(Held::Message(held))),
+        Ok(()) => {
+            set_message(held, inner);
+            Ok(())
+        }
         Err(fault) => Err(fault),
     }
 }
 
 /// A message behind those that the field has.
 #[cycle(merge)]
-fn added_message(
+fn push_message(
     alloc: Global,
     schema: &Schema,
     groups: usize,
@@ -188,56 +290,31 @@ fn added_message(
     type_at: usize,
     at: usize,
     end: usize,
-    old: Option<Held>,
+    held: &mut Option<Held>,
     rec: &RecRef<'_>,
-) -> Result<Option<Held>, DecodeError>
+) -> Result<(), DecodeError>
     requires proper { IsProper schema.now }
     requires left { (groups ≡ 0) ↔ (messages ≡ 0) }
     requires kind { view.kind ≡ MessageKind type_at }
     requires list { view.cardinality ≡ Repeated }
     requires ends { PayloadFits (rec_of rec.now) end }
-    ensures found { IfOk result (λ new. value_onto schema.now (onto_at schema.now messages) (field_like view) (option_map val_of old) (rec_of rec.now ∷ [])
-        ≡ Some (option_map val_of new)) }
+    ensures found { OnOk result (value_onto schema.now (onto_at schema.now messages) (field_like view) (option_map val_of held.old) (rec_of rec.now ∷ [])
+        ≡ Some (option_map val_of held.new)) }
     ensures fault { IfErr result (λ e. (e ≡ OutOfMemory) ⊎ ValueFails schema.now groups messages (field_like view) at end (rec_of rec.now) e) }
 {
-    let Some(bytes) = payload(rec) else {
-        return Err(DecodeError::WireType(at));
-    };
-    if messages == 0 {
-        return Err(DecodeError::TooDeep(at));
-    }
-    if room == 0 {
-        return Err(DecodeError::NoMemory);
-    }
-    let mut held = Contents::new(alloc);
-    match merge_bytes(
-        alloc,
-        schema,
-        messages - 1,
-        messages - 1,
-        room - 1,
-        Owner::Type(type_at),
-        end,
-        &mut held,
-        bytes,
+    let mut inner = Contents::new(alloc);
+    let owner = Owner::Type(type_at);
+    match merge_payload(
+        alloc, schema, true, messages, room, owner, at, end, &mut inner, rec,
     ) {
-        Ok(()) => Ok(Some(with_message(list_held(alloc, old), held)?)),
+        Ok(()) => add_message(alloc, held, inner),
         Err(fault) => Err(fault),
     }
 }
 
-/// The list with the message behind the others.
-fn with_message(many: List<Held>, held: Contents) -> Result<Held, NoMemory>
-    ensures { IfOk result (λ all. val_of all ≡ many_of (vals_of (map val_of many ++ message (content_of held) ∷ []))) }
-{
-    let mut many = many;
-    many.add(Held::Message(held))?;
-    Ok(Held::Many(many))
-}
-
 /// A pair of a map among those that the field has.
 #[cycle(merge)]
-fn added_pair(
+fn put_entry(
     alloc: Global,
     schema: &Schema,
     groups: usize,
@@ -247,87 +324,69 @@ fn added_pair(
     key: Kind,
     at: usize,
     end: usize,
-    old: Option<Held>,
+    held: &mut Option<Held>,
     rec: &RecRef<'_>,
-) -> Result<Option<Held>, DecodeError>
+) -> Result<(), DecodeError>
     requires proper { IsProper schema.now }
     requires left { (groups ≡ 0) ↔ (messages ≡ 0) }
     requires read { is_float_of view.kind ≡ false }
     requires map { view.cardinality ≡ Map key }
     requires ends { PayloadFits (rec_of rec.now) end }
-    requires ordered { HasOrdered (field_like view) (option_map val_of old) }
-    ensures found { IfOk result (λ new. value_onto schema.now (onto_at schema.now messages) (field_like view) (option_map val_of old) (rec_of rec.now ∷ [])
-        ≡ Some (option_map val_of new)) }
+    requires ordered { HasOrdered (field_like view) (option_map val_of held.old) }
+    ensures found { OnOk result (value_onto schema.now (onto_at schema.now messages) (field_like view) (option_map val_of held.old) (rec_of rec.now ∷ [])
+        ≡ Some (option_map val_of held.new)) }
     ensures fault { IfErr result (λ e. (e ≡ OutOfMemory) ⊎ ValueFails schema.now groups messages (field_like view) at end (rec_of rec.now) e) }
 {
-    let Some(bytes) = payload(rec) else {
-        return Err(DecodeError::WireType(at));
-    };
-    if messages == 0 {
-        return Err(DecodeError::TooDeep(at));
-    }
-    if room == 0 {
-        return Err(DecodeError::NoMemory);
-    }
-    let mut held = Contents::new(alloc);
-    match merge_bytes(
-        alloc,
-        schema,
-        messages - 1,
-        messages - 1,
-        room - 1,
-        Owner::Entry(key, view.kind),
-        end,
-        &mut held,
-        bytes,
+    let mut entry = Contents::new(alloc);
+    let owner = Owner::Entry(key, view.kind);
+    match merge_payload(
+        alloc, schema, true, messages, room, owner, at, end, &mut entry, rec,
     ) {
-        Ok(()) => {
-            let pairs = pairs_held(alloc, old);
-            Ok(Some(with_entry(alloc, schema, key, view.kind, pairs, held)?))
-        }
+        Ok(()) => add_pair(alloc, schema, key, view.kind, held, entry),
         Err(fault) => Err(fault),
     }
 }
 
-/// What a field has with a record.
+/// What a field has with a record more.
 #[cycle(merge)]
-fn merged_value(
+fn merge_value(
     alloc: Global,
     schema: &Schema,
+    settled: bool,
     groups: usize,
     messages: usize,
     room: u32,
     view: FieldView,
     at: usize,
     end: usize,
-    old: Option<Held>,
+    held: &mut Option<Held>,
     rec: &RecRef<'_>,
-) -> Result<Option<Held>, DecodeError>
+) -> Result<(), DecodeError>
     requires proper { IsProper schema.now }
     requires left { (groups ≡ 0) ↔ (messages ≡ 0) }
     requires read { is_float_of view.kind ≡ false }
     requires ends { PayloadFits (rec_of rec.now) end }
-    requires meant { HasMeant schema.now messages (field_like view) (option_map val_of old) }
-    requires ordered { HasOrdered (field_like view) (option_map val_of old) }
-    ensures found { IfOk result (λ new. value_onto schema.now (onto_at schema.now messages) (field_like view) (option_map val_of old) (rec_of rec.now ∷ [])
-        ≡ Some (option_map val_of new)) }
+    requires settled { HasSettled settled schema.now messages (field_like view) (option_map val_of held.old) }
+    requires ordered { HasOrdered (field_like view) (option_map val_of held.old) }
+    ensures found { OnOk result (value_onto schema.now (onto_at schema.now messages) (field_like view) (option_map val_of held.old) (rec_of rec.now ∷ [])
+        ≡ Some (option_map val_of held.new)) }
     ensures fault { IfErr result (λ e. (e ≡ OutOfMemory) ⊎ ValueFails schema.now groups messages (field_like view) at end (rec_of rec.now) e) }
 {
     match view.cardinality {
         Cardinality::Singular => match view.kind {
-            Kind::Message(type_at) => joined_message(
-                alloc, schema, groups, messages, room, view, type_at, at, end, old, rec,
+            Kind::Message(type_at) => join_message(
+                alloc, schema, settled, groups, messages, room, view, type_at, at, end, held, rec,
             ),
-            _ => single_value(alloc, schema, view.presence, view.kind, at, rec),
+            _ => set_value(alloc, schema, view.presence, view.kind, at, held, rec),
         },
         Cardinality::Repeated => match view.kind {
-            Kind::Message(type_at) => added_message(
-                alloc, schema, groups, messages, room, view, type_at, at, end, old, rec,
+            Kind::Message(type_at) => push_message(
+                alloc, schema, groups, messages, room, view, type_at, at, end, held, rec,
             ),
-            _ => list_value(alloc, schema, view.kind, at, old, rec),
+            _ => add_values(alloc, schema, view.kind, at, held, rec),
         },
-        Cardinality::Map(key) => added_pair(
-            alloc, schema, groups, messages, room, view, key, at, end, old, rec,
+        Cardinality::Map(key) => put_entry(
+            alloc, schema, groups, messages, room, view, key, at, end, held, rec,
         ),
     }
 }
@@ -337,6 +396,7 @@ fn merged_value(
 fn merge_rec(
     alloc: Global,
     schema: &Schema,
+    settled: bool,
     groups: usize,
     messages: usize,
     room: u32,
@@ -349,21 +409,22 @@ fn merge_rec(
     requires proper { IsProper schema.now }
     requires left { (groups ≡ 0) ↔ (messages ≡ 0) }
     requires ends { PayloadFits (rec_of rec) end }
-    requires meant { IsMeant schema.now messages (fields_at schema.now owner) (content_of into.old) }
-    ensures found { OnOk result (meaning_onto schema.now messages (fields_at schema.now owner) (content_of into.old) (rec_of rec.entry ∷ []) ≡ Some (content_of into.new)) }
+    requires ready { IsReady settled schema.now messages (fields_at schema.now owner) (content_of into.old) }
+    ensures found { OnOk result (meaning_onto schema.now messages (fields_at schema.now owner) (content_of into.old) (rec_of rec.entry ∷ [])
+        ≡ Some (content_of into.new)) }
     ensures fault { IfErr result (λ e. (e ≡ OutOfMemory) ⊎ RecFails schema.now groups messages (fields_at schema.now owner) at end (rec_of rec.entry) e) }
 {
     let Some(view) = view_in(schema, owner, number(&rec)) else {
-        return Ok(keep(alloc, into, rec)?);
+        return keep(alloc, into, rec);
     };
     if is_float(view.kind) {
-        return Ok(keep(alloc, into, rec)?);
+        return keep(alloc, into, rec);
     }
-    let old = take_value(schema, owner, view, into);
-    match merged_value(
-        alloc, schema, groups, messages, room, view, at, end, old, &rec,
+    let mut held = take_value(schema, owner, view, into);
+    match merge_value(
+        alloc, schema, settled, groups, messages, room, view, at, end, &mut held, &rec,
     ) {
-        Ok(new) => Ok(put_value(into, view.number, new)?),
+        Ok(()) => put_value(into, view.number, held),
         Err(fault) => Err(fault),
     }
 }
@@ -373,6 +434,7 @@ fn merge_rec(
 fn merge_next<'a>(
     alloc: Global,
     schema: &Schema,
+    settled: bool,
     groups: usize,
     messages: usize,
     room: u32,
@@ -384,8 +446,9 @@ fn merge_next<'a>(
     requires proper { IsProper schema.now }
     requires left { (groups ≡ 0) ↔ (messages ≡ 0) }
     requires ends { length bytes.now ≤ end }
-    requires meant { IsMeant schema.now messages (fields_at schema.now owner) (content_of into.old) }
-    ensures found { IfOk result (λ rest. GoesOn schema.now groups messages (fields_at schema.now owner) (content_of into.old) (content_of into.new) bytes.now rest.now) }
+    requires ready { IsReady settled schema.now messages (fields_at schema.now owner) (content_of into.old) }
+    ensures found { IfOk result (λ rest.
+        GoesOn schema.now groups messages (fields_at schema.now owner) (content_of into.old) (content_of into.new) bytes.now rest.now) }
     ensures fault { IfErr result (IsToldAt (end - length bytes.now) (IsFirstWith schema.now groups messages (fields_at schema.now owner) bytes.now)) }
 {
     let at = end - bytes.len();
@@ -396,7 +459,7 @@ fn merge_next<'a>(
         Ok(Some((rec, rest))) => {
             let last = end - rest.len();
             match merge_rec(
-                alloc, schema, groups, messages, room, owner, at, last, into, rec,
+                alloc, schema, settled, groups, messages, room, owner, at, last, into, rec,
             ) {
                 Ok(()) => Ok(rest),
                 Err(fault) => Err(fault),
@@ -407,11 +470,13 @@ fn merge_next<'a>(
     }
 }
 
-/// The records of the bytes, which end at `end`, behind what records mean.
+/// The records of the bytes, which end at `end`, behind a content that stays where no record comes. Of a settled one the
+/// messages inside do so, too.
 #[cycle(merge)]
 pub(crate) fn merge_bytes(
     alloc: Global,
     schema: &Schema,
+    settled: bool,
     groups: usize,
     messages: usize,
     room: u32,
@@ -423,14 +488,15 @@ pub(crate) fn merge_bytes(
     requires proper { IsProper schema.now }
     requires left { (groups ≡ 0) ↔ (messages ≡ 0) }
     requires ends { length bytes.now ≤ end }
-    requires meant { IsMeant schema.now messages (fields_at schema.now owner) (content_of into.old) }
-    ensures found { OnOk result (onto_with schema.now groups messages (fields_at schema.now owner) (content_of into.old) bytes.now ≡ Some (content_of into.new)) }
+    requires ready { IsReady settled schema.now messages (fields_at schema.now owner) (content_of into.old) }
+    ensures found { OnOk result (onto_with schema.now groups messages (fields_at schema.now owner) (content_of into.old) bytes.now
+        ≡ Some (content_of into.new)) }
     ensures fault { IfErr result (IsToldAt (end - length bytes.now) (IsFirstWith schema.now groups messages (fields_at schema.now owner) bytes.now)) }
 {
     let mut rest = bytes;
     while rest.len() > 0 {
         match merge_next(
-            alloc, schema, groups, messages, room, owner, end, into, rest,
+            alloc, schema, settled, groups, messages, room, owner, end, into, rest,
         ) {
             Ok(after) => rest = after,
             Err(fault) => return Err(fault),

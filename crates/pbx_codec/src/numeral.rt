@@ -64,7 +64,7 @@ pub(crate) fn unsigned_number(kind: Kind, value: u64) -> u64
 }
 
 /// The number that a scalar is written as.
-fn numeral(kind: Kind, held: &Held) -> u64
+pub(crate) fn numeral(kind: Kind, held: &Held) -> u64
     ensures { result ≡ numeral_of kind (val_of held.now) }
 {
     match held {

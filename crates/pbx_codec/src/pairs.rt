@@ -1,5 +1,6 @@
-ghost use Rattle.std.specs.Prelude.{◌≡◌, ◌<◌, ◌≤◌, ◌++◌, ◌∷◌, [], length, insert, remove, map, IfOk, OnOk, option_map};
-ghost use Rattle.pbx_meaning.specs.Content.{key_before, bytes_before as bytes_before_of, keyed, pairs_of, by_key, get, fields as fields_of_content};
+ghost use Rattle.std.specs.Prelude.{◌≡◌, ◌<◌, ◌≤◌, ◌++◌, ◌∷◌, [], true, length, insert, remove, map, IfOk, OnOk, option_map};
+ghost use Rattle.pbx_meaning.specs.Content.{key_before, bytes_before as bytes_before_of, keyed, pairs_of, by_key as by_key_of};
+ghost use Rattle.pbx_meaning.specs.Content.{get, fields as fields_of_content};
 ghost use Rattle.pbx_meaning.specs.Meaning.{zero_of, key_in, or_else, pair_in};
 ghost use Rattle.pbx_meaning.specs.Onto.{pairs_held as pairs_held_of};
 ghost use Rattle.pbx_codec.specs.View.{content_of, val_of, key_of};
@@ -86,7 +87,7 @@ fn stands_at(pairs: &[Pair], place: usize, key: &MapKey) -> bool
 /// The pairs with this one at its key, in the place of the one that is there.
 fn put_pair(pairs: &mut List<Pair>, key: MapKey, held: Held) -> Result<(), NoMemory>
     requires { AreInOrder (map pair_of pairs.old) }
-    ensures { OnOk result (pairs_of (map pair_of pairs.new) ≡ by_key (map pair_of pairs.old ++ (key_of key, val_of held) ∷ [])) }
+    ensures { OnOk result (pairs_of (map pair_of pairs.new) ≡ by_key_of (map pair_of pairs.old ++ (key_of key, val_of held) ∷ [])) }
 {
     let place = place_of(pairs.as_slice(), &key);
     if stands_at(pairs.as_slice(), place, &key) {
@@ -110,6 +111,31 @@ fn replace_pair(pairs: &mut List<Pair>, place: usize, pair: Pair) -> Result<(), 
 {
     drop_pair(pairs, place);
     pairs.insert(place, pair)
+}
+
+/// Whether each key comes before the next.
+pub(crate) fn are_in_order(pairs: &[Pair]) -> bool
+    ensures { result ≡ true → AreInOrder (map pair_of pairs.now) }
+{
+    let mut place = pairs.len();
+    while place > 1 {
+        if !is_before(&pairs[place - 2].key, &pairs[place - 1].key) {
+            return false;
+        }
+        place -= 1;
+    }
+    true
+}
+
+/// The pairs by ascending key, of each key the last.
+pub(crate) fn by_key(alloc: Global, pairs: List<Pair>) -> Result<List<Pair>, NoMemory>
+    ensures { IfOk result (λ sorted. pairs_of (map pair_of sorted) ≡ by_key_of (map pair_of pairs)) }
+{
+    let mut sorted = List::new(alloc);
+    for pair in pairs.into_vec() {
+        put_pair(&mut sorted, pair.key, pair.held)?;
+    }
+    Ok(sorted)
 }
 
 /// Drops the pair at the place.
@@ -183,7 +209,7 @@ pub(crate) fn with_entry(
     entry: Contents,
 ) -> Result<Held, NoMemory>
     requires { AreInOrder (map pair_of pairs) }
-    ensures { IfOk result (λ all. val_of all ≡ keyed (by_key (map pair_of pairs ++ pair_in schema.now key kind (content_of entry) ∷ []))) }
+    ensures { IfOk result (λ all. val_of all ≡ keyed (by_key_of (map pair_of pairs ++ pair_in schema.now key kind (content_of entry) ∷ []))) }
 {
     let mut pairs = pairs;
     let mut entry = entry;

@@ -1,6 +1,6 @@
 ghost use Rattle.std.specs.Str.{is_utf8};
 ghost use Rattle.std.specs.Int.{w32, w64};
-ghost use Rattle.std.specs.Prelude.{◌≡◌, ◌⊎◌, ◌++◌, ◌∷◌, [], map, true, false, Some, IfOk, IfErr, option_map, option_and_then};
+ghost use Rattle.std.specs.Prelude.{◌≡◌, ◌⊎◌, ◌++◌, ◌∷◌, [], map, true, false, Some, IfOk, IfErr, OnOk, option_map, option_and_then};
 ghost use Rattle.pbx_wire.specs.declared.error.DecodeError.TheVariants.{NoMemory as OutOfMemory, Utf8 as NotUtf8};
 ghost use Rattle.pbx_wire.specs.View.{rec_of};
 ghost use Rattle.pbx_meaning.specs.declared.shape.Shape.{Shape};
@@ -209,7 +209,8 @@ fn push_alone(
 ) -> Result<List<Held>, DecodeError>
     requires plain { is_plain kind ≡ true }
     requires read { is_float_of kind ≡ false }
-    ensures found { IfOk result (λ new. (shape : Shape) → option_map (λ v. map val_of many ++ v ∷ []) (alone_of shape no_inner kind (rec_of rec.now)) ≡ Some (map val_of new)) }
+    ensures found { IfOk result (λ new. (shape : Shape)
+        → option_map (λ v. map val_of many ++ v ∷ []) (alone_of shape no_inner kind (rec_of rec.now)) ≡ Some (map val_of new)) }
     ensures fault { IfErr result (λ e. (e ≡ OutOfMemory) ⊎ AloneFails kind at (rec_of rec.now) e) }
 {
     let mut many = many;
@@ -232,7 +233,8 @@ fn push_values(
 ) -> Result<List<Held>, DecodeError>
     requires plain { is_plain kind ≡ true }
     requires read { is_float_of kind ≡ false }
-    ensures found { IfOk result (λ new. (shape : Shape) → option_map (λ vs. map val_of many ++ vs) (spread_of shape no_inner kind (rec_of rec.now)) ≡ Some (map val_of new)) }
+    ensures found { IfOk result (λ new. (shape : Shape)
+        → option_map (λ vs. map val_of many ++ vs) (spread_of shape no_inner kind (rec_of rec.now)) ≡ Some (map val_of new)) }
     ensures fault { IfErr result (λ e. (e ≡ OutOfMemory) ⊎ SpreadFails kind at (rec_of rec.now) e) }
 {
     if is_packable(kind) {
@@ -246,43 +248,50 @@ fn push_values(
 }
 
 /// What a field of at most one value has with a record, where its kind is no float and no message.
-pub(crate) fn single_value(
+pub(crate) fn set_value(
     alloc: Global,
     schema: &Schema,
     presence: bool,
     kind: Kind,
     at: usize,
+    held: &mut Option<Held>,
     rec: &RecRef<'_>,
-) -> Result<Option<Held>, DecodeError>
+) -> Result<(), DecodeError>
     requires plain { is_plain kind ≡ true }
     requires read { is_float_of kind ≡ false }
-    ensures found { IfOk result (λ new. option_map (λ v. shown_of schema.now presence kind (Some v)) (alone_of schema.now no_inner kind (rec_of rec.now))
-        ≡ Some (option_map val_of new)) }
+    ensures found { OnOk result (option_map (λ v. shown_of schema.now presence kind (Some v)) (alone_of schema.now no_inner kind (rec_of rec.now))
+        ≡ Some (option_map val_of held.new)) }
     ensures fault { IfErr result (λ e. (e ≡ OutOfMemory) ⊎ AloneFails kind at (rec_of rec.now) e) }
 {
     match alone(alloc, kind, at, rec) {
-        Ok(held) => Ok(shown(schema, presence, kind, held)),
+        Ok(new) => {
+            *held = shown(schema, presence, kind, new);
+            Ok(())
+        }
         Err(fault) => Err(fault),
     }
 }
 
 /// What a repeated field has with a record, where its kind is no float and no message.
-pub(crate) fn list_value(
+pub(crate) fn add_values(
     alloc: Global,
     schema: &Schema,
     kind: Kind,
     at: usize,
-    old: Option<Held>,
+    held: &mut Option<Held>,
     rec: &RecRef<'_>,
-) -> Result<Option<Held>, DecodeError>
+) -> Result<(), DecodeError>
     requires plain { is_plain kind ≡ true }
     requires read { is_float_of kind ≡ false }
-    ensures found { IfOk result (λ new. option_map (λ vs. shown_of schema.now false kind (Some (many_of (vals_of (elements_of (option_map val_of old) ++ vs)))))
-        (spread_of schema.now no_inner kind (rec_of rec.now)) ≡ Some (option_map val_of new)) }
+    ensures found { OnOk result (option_map (λ vs. shown_of schema.now false kind (Some (many_of (vals_of (elements_of (option_map val_of held.old) ++ vs)))))
+        (spread_of schema.now no_inner kind (rec_of rec.now)) ≡ Some (option_map val_of held.new)) }
     ensures fault { IfErr result (λ e. (e ≡ OutOfMemory) ⊎ SpreadFails kind at (rec_of rec.now) e) }
 {
-    match push_values(alloc, kind, at, rec, list_held(alloc, old)) {
-        Ok(many) => Ok(shown(schema, false, kind, Held::Many(many))),
+    match push_values(alloc, kind, at, rec, list_held(alloc, held.take())) {
+        Ok(many) => {
+            *held = shown(schema, false, kind, Held::Many(many));
+            Ok(())
+        }
         Err(fault) => Err(fault),
     }
 }

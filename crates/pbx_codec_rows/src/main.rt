@@ -3,11 +3,14 @@
 //! Of a row that asks `decode`, or `decode-parts`, the third field is a shape, whose first type the message has, and the
 //! fourth the bytes in hexadecimal digits. The answer is what is written for what they mean, in such digits, or the rule that they break with
 //! the offset of the record that breaks it. `pbx_shape_text` says how a shape is written.
+//!
+//! A row that asks `merge` has the bytes of an old message before those that are read behind it; the answer where a rule is broken has
+//! besides what is written for the old message. One that asks `merge-of` has a second shape, of the old message, before its bytes.
 #![tactic(auto)]
 
 mod stop;
 
-use pbx_codec::{Contents, decode, decode_parts, encode};
+use pbx_codec::{Contents, decode, decode_parts, encode, merge};
 use pbx_meaning::Schema;
 use pbx_shape_text::schema;
 use pbx_wire::DecodeError;
@@ -50,8 +53,35 @@ fn written(
     }
 }
 
-/// What the row's word asks for.
-fn answer(alloc: Global, row: &Row) -> Result<String, Stop> {
+/// What is written for the bytes behind the old message; or the fault, and what is written for the old message.
+fn merged(alloc: Global, schema: &Schema, old: &Contents, bytes: &[u8]) -> Result<String, Stop> {
+    match merge(alloc, schema, 0, old, bytes) {
+        Ok(contents) => written(alloc, schema, Ok(contents)),
+        Err(fault) => {
+            let line = fault_line(alloc, fault)?;
+            let kept = encode(alloc, schema, 0, old)?;
+            let kept = hex::encode(alloc, kept.as_slice())?;
+            Ok(format!(in alloc; "{line}, behind {kept}")?)
+        }
+    }
+}
+
+/// The same where the old message is what the bytes mean as one of a shape of its own.
+fn merged_behind(
+    alloc: Global,
+    schema: &Schema,
+    old_schema: &Schema,
+    old: &[u8],
+    bytes: &[u8],
+) -> Result<String, Stop> {
+    match decode(alloc, old_schema, 0, old) {
+        Ok(old) => merged(alloc, schema, &old, bytes),
+        Err(fault) => fault_line(alloc, fault),
+    }
+}
+
+/// What a row asks that begins with one shape and the bytes of one message.
+fn answer_of_one(alloc: Global, row: &Row) -> Result<String, Stop> {
     let schema = schema(alloc, row.text(0))?;
     let bytes = hex::decode(alloc, row.text(1))?;
     match row.asked() {
@@ -61,8 +91,24 @@ fn answer(alloc: Global, row: &Row) -> Result<String, Stop> {
             &schema,
             decode_parts(alloc, &schema, 0, bytes.as_slice()),
         ),
+        "merge" => {
+            let more = hex::decode(alloc, row.text(2))?;
+            merged_behind(alloc, &schema, &schema, bytes.as_slice(), more.as_slice())
+        }
         _ => Err(Stop::NoSuchWord),
     }
+}
+
+/// What the row's word asks for.
+fn answer(alloc: Global, row: &Row) -> Result<String, Stop> {
+    if row.asked() != "merge-of" {
+        return answer_of_one(alloc, row);
+    }
+    let own = schema(alloc, row.text(0))?;
+    let other = schema(alloc, row.text(1))?;
+    let old = hex::decode(alloc, row.text(2))?;
+    let bytes = hex::decode(alloc, row.text(3))?;
+    merged_behind(alloc, &own, &other, old.as_slice(), bytes.as_slice())
 }
 
 /// The line for a row.

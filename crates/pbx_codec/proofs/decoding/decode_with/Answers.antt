@@ -1,12 +1,12 @@
-use Rattle.std.proofs.Common.{arith}
+use Rattle.std.proofs.Common.{true, arith}
 use Rattle.pbx_meaning.specs.Shape.{fields_of}
 use Rattle.pbx_codec.specs.View.{content_of}
-use Rattle.pbx_codec.proofs.Decoded.{start_meant, with_start, told_whole}
+use Rattle.pbx_codec.proofs.Decoded.{start_ready, with_start, told_whole}
 use Rattle.pbx_codec.proofs.decoding.decode_with.Goals as goal
 
-pub merge_bytes-requires-clause-meant : goal.merge_bytes-requires-clause-meant
-merge_bytes-requires-clause-meant c =
-    start_meant c.args.schema.now c.args.messages (fields_of c.args.schema.now c.args.type_at) (content_of c.new-contents.result) c.new-contents.ensures
+pub merge_bytes-requires-clause-ready : goal.merge_bytes-requires-clause-ready
+merge_bytes-requires-clause-ready c =
+    start_ready true c.args.schema.now c.args.messages (fields_of c.args.schema.now c.args.type_at) (content_of c.new-contents.result) c.new-contents.ensures
 
 pub returns-in-Ok-clause-found : goal.returns-in-Ok-clause-found
 returns-in-Ok-clause-found c =

@@ -1,16 +1,19 @@
-use Rattle.std.proofs.Common.{false, map, Option, Some, option_map, sym, ap, ◌∙◌}
+use Rattle.std.proofs.Common.{◌++◌, false, map, Option, Some, option_map, sym, ap, ◌∙◌}
 use Rattle.pbx_wire.specs.View.{rec_of}
-use Rattle.pbx_meaning.specs.Content.{Val}
+use Rattle.pbx_meaning.specs.Content.{Val, many, vals_of}
 use Rattle.pbx_meaning.specs.Meaning.{no_inner, shown, spread}
 use Rattle.pbx_meaning.specs.Onto.{elements}
+use Rattle.pbx_codec.specs.declared.contents.Held.{Held}
 use Rattle.pbx_codec.specs.View.{val_of}
 use Rattle.pbx_codec.proofs.Alone.{shown_list}
 use Rattle.pbx_codec.proofs.Tree.{val_of-Many}
-use Rattle.pbx_codec.proofs.values.list_value.Goals as goal
+use Rattle.pbx_codec.proofs.values.add_values.Goals as goal
 
 pub returns-in-Ok-clause-found : goal.returns-in-Ok-clause-found
 returns-in-Ok-clause-found c =
-    shown_list c.args.schema.now c.args.kind (elements (option_map val_of c.args.old)) (map val_of c.in-Ok.many)
+    ap (λ (o : Option Held). option_map (λ vs. shown c.args.schema.now false c.args.kind (Some (many (vals_of (elements (option_map val_of o) ++ vs)))))
+    (spread c.args.schema.now no_inner c.args.kind (rec_of c.args.rec.now))) (sym c.take.ensures.value)
+    ∙ shown_list c.args.schema.now c.args.kind (elements (option_map val_of c.take.result)) (map val_of c.in-Ok.many)
     (spread c.args.schema.now no_inner c.args.kind (rec_of c.args.rec.now))
     (rw c.list_held.ensures at c.in-Ok.ensures.found c.args.schema.now)
     ∙ ap (λ (x : Option Val). Some x)

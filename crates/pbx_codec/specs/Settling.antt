@@ -1,0 +1,66 @@
+-- Contents as no records leave them: where they are so already, and what is left of the others.
+use Rattle.std.specs.Prelude.{◌≡◌, ℕ, zero, suc, List, [], Bool, true, false, Option, Some, None, if◌then◌else◌}
+use Rattle.pbx_meaning.specs.declared.shape.Kind.TheVariants as kinds
+use Rattle.pbx_meaning.specs.declared.shape.Cardinality.{Cardinality}
+use Rattle.pbx_meaning.specs.declared.shape.Cardinality.TheVariants.{Singular, Repeated, Map}
+use Rattle.pbx_meaning.specs.declared.shape.Shape.{Shape}
+use Rattle.pbx_meaning.specs.declared.shape.FieldShape.{FieldShape}
+use Rattle.pbx_meaning.specs.Content.{Content, fields, get, Fields, no_fields, field, Val, many, keyed, vals_of, by_key}
+use Rattle.pbx_meaning.specs.Shape.{fields_of, field_of, is_float}
+use Rattle.pbx_meaning.specs.Meaning.{shown}
+use Rattle.pbx_meaning.specs.Onto.{elements, pairs_held, message_held, meaning_onto}
+use Rattle.pbx_meaning.specs.Laws.{IsStableIn}
+
+-- ---- contents that stay
+
+-- the content stays where no record comes, and the message in each of its fields of at most one does, to so many levels
+unfoldable pub IsStableTo : Shape → ℕ → List FieldShape → Content → Type 0
+IsStableTo shape zero fs c = IsStableIn shape zero fs c
+IsStableTo shape (suc deeper) fs c =
+    IsStableIn shape (suc deeper) fs c
+    × ((f : FieldShape) (t : ℕ) → field_of f.number fs ≡ Some f → f.cardinality ≡ Singular → f.kind ≡ kinds.Message t
+    → IsStableTo shape deeper (fields_of shape t) (message_held (get f.number (fields c))))
+
+-- so it is of the message in a field of at most one, where the content is settled
+abbrev pub HasSettled : Bool → Shape → ℕ → FieldShape → Option Val → Type 0
+HasSettled settled shape messages f old =
+    (t deeper : ℕ) → f.cardinality ≡ Singular → f.kind ≡ kinds.Message t → messages ≡ suc deeper → settled ≡ true
+    → IsStableTo shape deeper (fields_of shape t) (message_held old)
+
+-- the content stays where no record comes, and where it is settled, the messages inside do
+abbrev pub IsReady : Bool → Shape → ℕ → List FieldShape → Content → Type 0
+IsReady settled shape messages fs c = IsStableIn shape messages fs c × (settled ≡ true → IsStableTo shape messages fs c)
+
+-- ---- what is left
+
+-- of a value of such a field: lists and maps without elements are absent, and pairs ascend by key
+abbrev pub settled_by : Shape → FieldShape → Cardinality → Option Val → Option Val
+settled_by shape f Singular v = v
+settled_by shape f Repeated v = shown shape false f.kind (Some (many (vals_of (elements v))))
+settled_by shape f (Map key) v = shown shape false f.kind (Some (keyed (by_key (pairs_held v))))
+
+-- the same, where floats and numbers of no field have no values
+abbrev pub settled_at : Shape → Option FieldShape → Option Val → Option Val
+settled_at shape None v = None
+settled_at shape (Some f) v = if is_float f.kind then None else settled_by shape f f.cardinality v
+
+-- of a content, at any levels
+abbrev pub IsSettledFrom : Shape → List FieldShape → Content → Content → Type 0
+IsSettledFrom shape fs old new = (levels : ℕ) → meaning_onto shape levels fs old [] ≡ Some new
+
+-- a settled content is the same
+abbrev pub IsSettledUnless : Bool → Shape → List FieldShape → Content → Content → Type 0
+IsSettledUnless true shape fs old new = new ≡ old
+IsSettledUnless false shape fs old new = IsSettledFrom shape fs old new
+
+-- ---- one by one
+
+-- the value of a number is one that stays, and its message to so many levels
+abbrev pub IsStableAt : Shape → ℕ → List FieldShape → ℕ → Val → Type 0
+IsStableAt shape levels fs n v =
+    (f : FieldShape) × (field_of n fs ≡ Some f) × (settled_at shape (Some f) (Some v) ≡ Some v) × HasSettled true shape levels f (Some v)
+
+-- each value is
+abbrev pub AreStableAt : Shape → ℕ → List FieldShape → Fields → Type 0
+AreStableAt shape levels fs no_fields = Unit {0}
+AreStableAt shape levels fs (field n v vs) = IsStableAt shape levels fs n v × AreStableAt shape levels fs vs
