@@ -3,27 +3,39 @@ use Rattle.std.proofs.Common.{◌≡◌, ℕ, suc, ◌<◌, ◌≤◌, Bool, tru
 use Rattle.std.specs.Prelude.{◌==◌}
 use Rattle.std.specs.List.{filter}
 use Rattle.std.proofs.lemmas.Bool.Decides.{nat_tests}
-use Rattle.pbx_wire.specs.Text.{text_of, is_number, is_numbered, numbered_step}
+use Rattle.pbx_wire.specs.Text.{text_of, is_record_number, is_numbered, numbered_step}
+use Rattle.pbx_wire.proofs.Texts.{text_of-append}
 use Rattle.pbx_wire.specs.declared.rec.Rec.{Rec, Varint, Fixed64, Bytes, Group', Fixed32, fold_out-Rec}
+use Rattle.pbx_wire.specs.declared.rec.Rec.TheVariants as rec
 use Rattle.pbx_wire.specs.declared.rec.Rec as declared
-use Rattle.pbx_content.specs.declared.shape.Shape.{Shape}
-use Rattle.pbx_content.specs.declared.shape.FieldShape.{FieldShape}
-use Rattle.pbx_content.specs.Content.{Fields, no_fields, field, Val}
-use Rattle.pbx_content.specs.Encoding.{with_kept, fields_recs, field_recs}
-use Rattle.pbx_content.specs.Placing.{IsLow}
-use Rattle.pbx_content.specs.Records.{number_of, insert, sorted}
-use Rattle.pbx_content.specs.Shape.{field_of}
-use Rattle.pbx_content.specs.Sound.{AreAbove}
-use Rattle.pbx_content.proofs.Law.{HaveNumber, field_recs_number}
-use Rattle.pbx_content.proofs.Lists.{IsSorted, lower, low_insert}
+use Rattle.pbx_meaning.specs.declared.shape.Shape.{Shape}
+use Rattle.pbx_meaning.specs.declared.shape.FieldShape.{FieldShape}
+use Rattle.pbx_meaning.specs.declared.shape.Kind.{Kind}
+use Rattle.pbx_meaning.specs.Content.{Fields, no_fields, field, Val, number, truth, text, octets, message, many, keyed, Vals, no_vals, val, Pairs, no_pairs, pair}
+use Rattle.pbx_meaning.specs.Encoding.{with_kept, fields_recs, field_recs, vals_recs, pairs_recs, val_rec, number_rec, keys_of, is_packed, packed_text}
+use Rattle.pbx_meaning.specs.Records.{number_of, insert, sorted}
+use Rattle.pbx_meaning.specs.Shape.{field_of, Form, as_varint, as_four, as_eight, as_payload, form_of}
+use Rattle.pbx_meaning.proofs.Sorted.{IsLow, IsSorted}
+use Rattle.pbx_meaning.proofs.WrittenOrder.{AreAbove, AreListed}
 use Rattle.pbx_desc.specs.Building.{followed_by}
 use Rattle.pbx_desc.specs.Content.{fields_from}
 use Rattle.pbx_desc.specs.Unknown.{has_one_of, is_writable_beside}
-use Rattle.pbx_desc.proofs.Fields.{AreFound, numbers}
-use Rattle.pbx_desc.proofs.Lengths.{text_of-append}
+use Rattle.pbx_desc.proofs.Fields.{numbers}
 use Rattle.pbx_desc.proofs.Unread.{both}
 
 -- ---- bounds
+
+lower : (m n : ℕ) (ss : List Rec) → m ≤ n → IsLow n ss → IsLow m ss
+lower m n [] le h = tt
+lower m n (s ∷ ss) le h = (omega (arith, h.0), lower m n ss le h.1)
+
+low_insert : (n : ℕ) (r : Rec) (ss : List Rec) → n ≤ number_of r → IsLow n ss → IsLow n (insert r ss)
+low_insert n r [] le h = (le, tt)
+low_insert n r (s ∷ ss) le h = at (nat_lt (number_of s) (number_of r)) (low_insert n r ss le h.1)
+  where
+    at : (b : Bool) → IsLow n (insert r ss) → IsLow n (if b then s ∷ insert r ss else r ∷ s ∷ ss)
+    at true ih = (h.0, ih)
+    at false ih = (le, h)
 
 low_append : (n : ℕ) (xs ys : List Rec) → IsLow n xs → IsLow n ys → IsLow n (xs ++ ys)
 low_append n [] ys h k = k
@@ -107,6 +119,48 @@ front_alone b xs ys h = ap (λ (rs : List Rec). with_kept b rs []) (sym (append-
 
 -- ---- the records of a field
 
+-- all have the number
+abbrev HaveNumber : ℕ → List Rec → Type 0
+HaveNumber n [] = Unit {0}
+HaveNumber n (r ∷ rs) = (number_of r ≡ n) × HaveNumber n rs
+
+number_number : (n : ℕ) (form : Form) (v : ℕ) → number_of (number_rec n form v) ≡ n
+number_number n as_varint v = refl
+number_number n as_four v = refl
+number_number n as_eight v = refl
+number_number n as_payload v = refl
+
+val_number : (shape : Shape) (n : ℕ) (k : Kind) (v : Val) → number_of (val_rec shape n k v) ≡ n
+val_number shape n k (number z) = number_number n (form_of k) _
+val_number shape n k (truth b) = number_number n (form_of k) _
+val_number shape n k (text s) = refl
+val_number shape n k (octets b) = refl
+val_number shape n k (message c) = refl
+val_number shape n k (many ws) = refl
+val_number shape n k (keyed ps) = refl
+
+vals_number : (shape : Shape) (n : ℕ) (k : Kind) (vs : Vals) → HaveNumber n (vals_recs shape n k vs)
+vals_number shape n k no_vals = tt
+vals_number shape n k (val v vs) = (val_number shape n k v, vals_number shape n k vs)
+
+pairs_number : (shape : Shape) (n : ℕ) (key k : Kind) (ps : Pairs) → HaveNumber n (pairs_recs shape n key k ps)
+pairs_number shape n key k no_pairs = tt
+pairs_number shape n key k (pair l v ps) = (refl, pairs_number shape n key k ps)
+
+field_recs_number : (shape : Shape) (f : FieldShape) (v : Val) → HaveNumber f.number (field_recs shape (Some f) v)
+field_recs_number shape f (number z) = (number_number f.number (form_of f.kind) _, tt)
+field_recs_number shape f (truth b) = (number_number f.number (form_of f.kind) _, tt)
+field_recs_number shape f (text s) = (refl, tt)
+field_recs_number shape f (octets b) = (refl, tt)
+field_recs_number shape f (message c) = (refl, tt)
+field_recs_number shape f (many vs) = at (is_packed f) (vals_number shape f.number f.kind vs)
+  where
+    at : (b : Bool) → HaveNumber f.number (vals_recs shape f.number f.kind vs)
+        → HaveNumber f.number (if b then rec.Bytes f.number (packed_text f.kind vs) ∷ [] else vals_recs shape f.number f.kind vs)
+    at true h = (refl, tt)
+    at false h = h
+field_recs_number shape f (keyed ps) = pairs_number shape f.number (keys_of f.cardinality) f.kind ps
+
 low_at : (m n : ℕ) (rs : List Rec) → m ≤ n → HaveNumber n rs → IsLow m rs
 low_at m n [] le h = tt
 low_at m n (r ∷ rs) le h = (omega (arith, h.0), low_at m n rs le h.1)
@@ -135,7 +189,7 @@ abbrev AreBeneath : List FieldShape → List Rec → Type 0
 AreBeneath [] kept = Unit {0}
 AreBeneath (g ∷ gs) kept = IsLow g.number kept × AreBeneath gs kept
 
-in_place : (shape : Shape) (n : ℕ) (all gs : List FieldShape) (vs : List (Option Val)) (kept : List Rec) → AreAbove n gs → AreFound all gs → AreBeneath gs kept → AreInPlace n (fields_recs shape all (fields_from gs vs)) kept
+in_place : (shape : Shape) (n : ℕ) (all gs : List FieldShape) (vs : List (Option Val)) (kept : List Rec) → AreAbove n gs → AreListed all gs → AreBeneath gs kept → AreInPlace n (fields_recs shape all (fields_from gs vs)) kept
 in_place shape n all [] vs kept above found below = record { low = tt; ascend = tt; apart = tt }
 in_place shape n all (g ∷ gs) [] kept above found below = record { low = tt; ascend = tt; apart = tt }
 in_place shape n all (g ∷ gs) (None ∷ vs) kept above found below =
@@ -183,7 +237,7 @@ beneath_more : (gs : List FieldShape) (r : Rec) (rs : List Rec) → AreUnder gs 
 beneath_more [] r rs h k = tt
 beneath_more (g ∷ gs) r rs h k = ((h.0, k.0), beneath_more gs r rs h.1 k.1)
 
-positive : (n : ℕ) → is_number n ≡ true → 0 < n
+positive : (n : ℕ) → is_record_number n ≡ true → 0 < n
 positive n h = grind (arith, nat_tests)
 
 numbered_positive : (r : Rec) → is_numbered r ≡ true → 0 < number_of r
@@ -191,7 +245,7 @@ unfolding declared.out-Rec denote.Hole.Carrier.out
 numbered_positive (Varint n v) h = positive n (sym (fold_out-Rec Bool numbered_step (Varint n v)) ∙ h)
 numbered_positive (Fixed64 n v) h = positive n (sym (fold_out-Rec Bool numbered_step (Fixed64 n v)) ∙ h)
 numbered_positive (Bytes n b) h = positive n (sym (fold_out-Rec Bool numbered_step (Bytes n b)) ∙ h)
-numbered_positive (Group' n s row) h = positive n (both (is_number n) _ (sym (fold_out-Rec Bool numbered_step (Group' n s row)) ∙ h)).0
+numbered_positive (Group' n s row) h = positive n (both (is_record_number n) _ (sym (fold_out-Rec Bool numbered_step (Group' n s row)) ∙ h)).0
 numbered_positive (Fixed32 n v) h = positive n (sym (fold_out-Rec Bool numbered_step (Fixed32 n v)) ∙ h)
 
 beneath_kept : (gs : List FieldShape) (rs : List Rec) → is_run 0 gs ≡ true → AreBeneath gs (filter (is_writable_beside (numbers gs)) rs)
@@ -205,7 +259,7 @@ beneath_kept gs (r ∷ rs) run = at (is_numbered r) (has_one_of (numbers gs) r) 
     at false true e f ih = ih
     at false false e f ih = ih
 
-pub fields_remain : (shape : Shape) (gs : List FieldShape) (vs : List (Option Val)) (unknown : List Rec) → AreAbove 0 gs → AreFound gs gs → is_run 0 gs ≡ true
+pub fields_remain : (shape : Shape) (gs : List FieldShape) (vs : List (Option Val)) (unknown : List Rec) → AreAbove 0 gs → AreListed gs gs → is_run 0 gs ≡ true
     → IsSorted (fields_recs shape gs (fields_from gs vs)) × AreBefore (fields_recs shape gs (fields_from gs vs)) (filter (is_writable_beside (numbers gs)) unknown)
 fields_remain shape gs vs unknown above found run =
     let placed = in_place shape 0 gs gs vs (filter (is_writable_beside (numbers gs)) unknown) above found (beneath_kept gs unknown run) in

@@ -1,26 +1,27 @@
 -- Texts of contents that are made part by part.
-use Rattle.std.proofs.Common.{◌≡◌, ℕ, ◌+◌, ◌*◌, ◌^◌, ◌<◌, ◌≤◌, Bool, true, false, ◌&&◌, if◌then◌else◌, List, [], ◌∷◌, ◌++◌, length, map, take, get_or, Option, Some, None, subst, refl, sym, ap, ◌∙◌, append_assoc, append-nil}
+use Rattle.std.proofs.Common.{◌≡◌, ℕ, ◌+◌, ◌*◌, ◌^◌, ◌<◌, ◌≤◌, Bool, true, false, ◌&&◌, if◌then◌else◌, List, [], ◌∷◌, ◌++◌, length, map, take, get_or, Option, Some, None, subst, refl, sym, ap, ◌∙◌, append_assoc, append-nil, rules}
 use Rattle.std.specs.List.{concat, filter}
-use Rattle.std.proofs.lemmas.List.{map-append, take_all}
+use Rattle.std.proofs.lemmas.List.{map-append, take_all, take_more}
 use Rattle.pbx_wire.specs.Varint.{varint}
 use Rattle.pbx_wire.specs.Text.{text as text_of_rec, text_of, are_fit}
-use Rattle.pbx_wire.specs.declared.rec.Rec.{Rec}
+use Rattle.pbx_wire.proofs.Texts.{text_of-append}
+use Rattle.pbx_wire.specs.declared.rec.Rec.{Rec, the_lemmas as rec_lemmas}
 use Rattle.pbx_wire.specs.declared.rec.Rec.TheVariants as rec
-use Rattle.pbx_content.specs.declared.contents.Field.{Field}
-use Rattle.pbx_content.specs.declared.shape.Cardinality.{Cardinality}
-use Rattle.pbx_content.specs.declared.shape.Cardinality.TheVariants.{Repeated}
-use Rattle.pbx_content.specs.declared.shape.FieldShape.{FieldShape}
-use Rattle.pbx_content.specs.declared.shape.Shape.{Shape}
-use Rattle.pbx_content.specs.declared.shape.Kind.{Kind}
-use Rattle.pbx_content.specs.declared.shape.Kind.TheVariants as kind
-use Rattle.pbx_content.specs.Content.{Content, content, Fields, Val, number, truth, text, message, many, Vals, no_vals, val, vals_of}
-use Rattle.pbx_content.specs.Meaning.{with_field}
-use Rattle.pbx_content.specs.Shape.{fields_of, keeps_order_of, field_of, is_numeric}
-use Rattle.pbx_content.specs.Encoding.{encoded, content_recs, payload, with_kept, fields_recs, field_recs, vals_recs, val_rec, packed_text}
-use Rattle.pbx_content.specs.Laws.{EncodingDecodes}
-use Rattle.pbx_content.specs.Same.{Decodes}
-use Rattle.pbx_content.specs.Sound.{AreAbove, depth}
-use Rattle.pbx_content.proofs.Records.{taken_more}
+use Rattle.pbx_codec.specs.declared.contents.Field.{Field}
+use Rattle.pbx_meaning.specs.declared.shape.Cardinality.{Cardinality}
+use Rattle.pbx_meaning.specs.declared.shape.Cardinality.TheVariants.{Repeated}
+use Rattle.pbx_meaning.specs.declared.shape.FieldShape.{FieldShape}
+use Rattle.pbx_meaning.specs.declared.shape.Shape.{Shape}
+use Rattle.pbx_meaning.specs.declared.shape.Kind.{Kind}
+use Rattle.pbx_meaning.specs.declared.shape.Kind.TheVariants as kind
+use Rattle.pbx_meaning.specs.Content.{Content, content, Fields, Val, number, truth, text, octets, message, many, keyed, vals_of}
+use Rattle.pbx_meaning.specs.Meaning.{with_field}
+use Rattle.pbx_meaning.specs.Shape.{fields_of, keeps_order_of, field_of, is_packable}
+use Rattle.pbx_meaning.specs.Encoding.{encoded, content_recs, payload, with_kept, fields_recs, field_recs, vals_recs, packed_text, keys_of}
+use Rattle.pbx_meaning.specs.Laws.{EncodingDecodes, EncodingDecodesParts}
+use Rattle.pbx_meaning.specs.Same.{Decodes, DecodesParts}
+use Rattle.pbx_meaning.specs.Sound.{depth, PartsFit}
+use Rattle.pbx_meaning.proofs.WrittenOrder.{AreAbove, all_listed, fields_above}
 use Rattle.pbx_desc_shape.specs.Shape.{descriptor_shape, list_field}
 use Rattle.pbx_desc_shape.proofs.Proper.{descriptor_shape_proper}
 use Rattle.pbx_desc.specs.Building.{entries, followed_by, Puts, value_recs, Writes, IsWritten}
@@ -29,10 +30,15 @@ use Rattle.pbx_desc.specs.Sound.{AreOf}
 use Rattle.pbx_desc.specs.Unknown.{is_writable_beside}
 use Rattle.pbx_desc.proofs.Ascending.{Remains, remains_next, front_alone, is_run, fields_remain, fields_recs-followed}
 use Rattle.pbx_desc.proofs.Built.{entries-same, puts_behind}
-use Rattle.pbx_desc.proofs.Fields.{AreValues, are_plain, numbers, found, kept_is, content_sound}
-use Rattle.pbx_desc.proofs.Lengths.{bytes_text, text_of-append}
+use Rattle.pbx_desc.proofs.Fields.{AreValues, are_plain, numbers, kept_is, content_sound}
 
 -- ---- payloads and records
+
+bytes_text : (n : ℕ) (b : List ℕ) → text_of_rec (rec.Bytes n b) ≡ varint (n * 8 + 2) ++ varint (length b) ++ b
+bytes_text n b = search (rules, rec_lemmas)
+
+taken_more : {X : Type 0} (xs : List X) (i : ℕ) (x : X) → i < length xs → x ≡ get_or xs i x → take (i + 1) xs ≡ take i xs ++ x ∷ []
+taken_more xs i x lt is = take_more xs i x lt ∙ ap (λ y. take i xs ++ y ∷ []) (sym is)
 
 pub payload_put : (n : ℕ) (bytes old mid new head : List ℕ) → head ≡ concat (map varint ((n * 8 + 2) ∷ length bytes ∷ [])) → mid ≡ old ++ head → new ≡ mid ++ bytes → new ≡ old ++ text_of_rec (rec.Bytes n bytes)
 payload_put n bytes old mid new head is begun ended =
@@ -68,7 +74,7 @@ sent_here n t u shape c d bytes own old new sent is here same type content_is =
     (is ∙ here ∙ ap (λ (s : Shape). encoded s u c) same ∙ ap (λ (k : ℕ). encoded descriptor_shape k c) type ∙ ap (encoded descriptor_shape t) content_is)
 
 vals_sent : {R : Type 0} (n t : ℕ) (f : R → Content) (rs : List R)
-    → vals_recs descriptor_shape (list_field n [] [] (kind.Message t)) (vals_of (map (λ r. message (f r)) rs)) ≡ map (λ r. payload n (content_recs descriptor_shape t (f r))) rs
+    → vals_recs descriptor_shape n (kind.Message t) (vals_of (map (λ r. message (f r)) rs)) ≡ map (λ r. payload n (content_recs descriptor_shape t (f r))) rs
 vals_sent n t f [] = refl
 vals_sent n t f (r ∷ rs) = ap (λ (xs : List Rec). payload n (content_recs descriptor_shape t (f r)) ∷ xs) (vals_sent n t f rs)
 
@@ -88,34 +94,26 @@ all_sent {R} n t f items rs i old new is le e sound =
 
 -- ---- a field alone
 
-val_alike : (shape : Shape) (f g : FieldShape) (v : Val) → f.number ≡ g.number → f.kind ≡ g.kind → val_rec shape f v ≡ val_rec shape g v
-val_alike shape f g (number z) e k = rw (e, k) refl
-val_alike shape f g (truth b) e k = rw e refl
-val_alike shape f g (text s) e k = rw e refl
-val_alike shape f g (message c) e k = rw (e, k) refl
-val_alike shape f g (many vs) e k = rw e refl
-
-vals_alike : (shape : Shape) (f g : FieldShape) (vs : Vals) → f.number ≡ g.number → f.kind ≡ g.kind → vals_recs shape f vs ≡ vals_recs shape g vs
-vals_alike shape f g no_vals e k = refl
-vals_alike shape f g (val v vs) e k = ap (λ (r : Rec). r ∷ vals_recs shape f vs) (val_alike shape f g v e k) ∙ ap (λ (rs : List Rec). val_rec shape g v ∷ rs) (vals_alike shape f g vs e k)
-
 -- fields that are not packed are told by number and kind
-field_alike : (shape : Shape) (f g : FieldShape) (v : Val) → f.number ≡ g.number → f.kind ≡ g.kind → f.packed ≡ false → g.packed ≡ false → field_recs shape (Some f) v ≡ field_recs shape (Some g) v
-field_alike shape f g (number z) e k p q = rw (e, k) refl
-field_alike shape f g (truth b) e k p q = rw e refl
-field_alike shape f g (text s) e k p q = rw e refl
-field_alike shape f g (message c) e k p q = rw (e, k) refl
-field_alike shape f g (many vs) e k p q = alone f p ∙ vals_alike shape f g vs e k ∙ sym (alone g q)
+field_alike : (shape : Shape) (f g : FieldShape) (v : Val) → f.number ≡ g.number → f.kind ≡ g.kind → keys_of f.cardinality ≡ keys_of g.cardinality → f.packed ≡ false → g.packed ≡ false
+    → field_recs shape (Some f) v ≡ field_recs shape (Some g) v
+field_alike shape f g (number z) e k c p q = rw (e, k) refl
+field_alike shape f g (truth b) e k c p q = rw (e, k) refl
+field_alike shape f g (text s) e k c p q = rw e refl
+field_alike shape f g (octets b) e k c p q = rw e refl
+field_alike shape f g (message d) e k c p q = rw (e, k) refl
+field_alike shape f g (many vs) e k c p q = alone f p ∙ rw (e, k) refl ∙ sym (alone g q)
   where
-    alone : (h : FieldShape) → h.packed ≡ false → field_recs shape (Some h) (many vs) ≡ vals_recs shape h vs
-    alone h not_packed = ap (λ b. if b && is_numeric h.kind then rec.Bytes h.number (packed_text h.kind vs) ∷ [] else vals_recs shape h vs) not_packed
+    alone : (h : FieldShape) → h.packed ≡ false → field_recs shape (Some h) (many vs) ≡ vals_recs shape h.number h.kind vs
+    alone h not_packed = ap (λ b. if b && is_packable h.kind then rec.Bytes h.number (packed_text h.kind vs) ∷ [] else vals_recs shape h.number h.kind vs) not_packed
+field_alike shape f g (keyed ps) e k c p q = rw (e, k, c) refl
 
-with_recs : (all : List FieldShape) (g : FieldShape) (k : Kind) (n : ℕ) (v : Option Val) (fs : Fields) → g.number ≡ n → g.kind ≡ k → g.packed ≡ false → field_of g.number all ≡ Some g
+with_recs : (all : List FieldShape) (g : FieldShape) (k : Kind) (n : ℕ) (v : Option Val) (fs : Fields) → g.number ≡ n → g.kind ≡ k → keys_of g.cardinality ≡ keys_of Repeated → g.packed ≡ false → field_of g.number all ≡ Some g
     → fields_recs descriptor_shape all (with_field g.number v fs) ≡ value_recs n k v ++ fields_recs descriptor_shape all fs
-with_recs all g k n None fs e is packed here = refl
-with_recs all g k n (Some v) fs e is packed here =
+with_recs all g k n None fs e is keys packed here = refl
+with_recs all g k n (Some v) fs e is keys packed here =
     ap (λ (o : Option FieldShape). field_recs descriptor_shape o v ++ fields_recs descriptor_shape all fs) here
-    ∙ ap (λ (rs : List Rec). rs ++ fields_recs descriptor_shape all fs) (field_alike descriptor_shape g (list_field n [] [] k) v e is packed refl)
+    ∙ ap (λ (rs : List Rec). rs ++ fields_recs descriptor_shape all fs) (field_alike descriptor_shape g (list_field n [] [] k) v e is keys packed refl)
 
 -- ---- the whole, part by part
 
@@ -132,8 +130,8 @@ pub begin : (t : ℕ) (all : List FieldShape) (values : List (Option Val)) (unkn
     → IsOpen t all values (filter (is_writable_beside (numbers all)) unknown) (goal_text t all values unknown old) all values [] old
 begin t all values unknown old type run =
     let kept = filter (is_writable_beside (numbers all)) unknown in
-    let above = subst (AreAbove 0) type (descriptor_shape_proper t) in
-    let remain = fields_remain descriptor_shape all values unknown above (found 0 all above) run in
+    let above = subst (AreAbove 0) type (fields_above descriptor_shape t descriptor_shape_proper) in
+    let remain = fields_remain descriptor_shape all values unknown above (all_listed 0 all above) run in
     record {
       left = record {
         whole_is = ap (λ (gs : List FieldShape). old ++ text_of (with_kept (keeps_order_of descriptor_shape t) (fields_recs descriptor_shape gs (fields_from all values)) kept)) type;
@@ -176,14 +174,14 @@ flushed {t} {all} {values} {kept} {whole} {gs} {vs} {old} list shape p none new 
 
 -- a value is written
 pub written : {t : ℕ} {all : List FieldShape} {values : List (Option Val)} {kept : List Rec} {whole : List ℕ} {g : FieldShape} {gs : List FieldShape} {v : Option Val} {vs : List (Option Val)} {old new : List ℕ}
-    {c : Cardinality} {k : Kind} {n : ℕ} → IsOpen t all values kept whole (g ∷ gs) (v ∷ vs) [] old → Writes c k n v old new → g.number ≡ n → g.cardinality ≡ c → g.kind ≡ k → g.packed ≡ false
+    {c : Cardinality} {k : Kind} {n : ℕ} → IsOpen t all values kept whole (g ∷ gs) (v ∷ vs) [] old → Writes c k n v old new → g.number ≡ n → g.cardinality ≡ c → g.kind ≡ k → keys_of g.cardinality ≡ keys_of Repeated → g.packed ≡ false
     → field_of g.number all ≡ Some g → IsOpen t all values kept whole gs vs [] new
-written {t} {all} {values} {kept} {whole} {g} {gs} {v} {vs} {old} {new} {c} {k} {n} state writes e cardinality is packed here =
+written {t} {all} {values} {kept} {whole} {g} {gs} {v} {vs} {old} {new} {c} {k} {n} state writes e cardinality is keys packed here =
     let keeps = keeps_order_of descriptor_shape t in
     let ys = fields_recs descriptor_shape all (fields_from gs vs) in
     record {
       left = remains_next keeps whole (value_recs n k v) ys kept old new
-          (subst (λ (rs : List Rec). Remains keeps whole rs kept old) (with_recs all g k n v (fields_from gs vs) e is packed here) state.left) writes.text;
+          (subst (λ (rs : List Rec). Remains keeps whole rs kept old) (with_recs all g k n v (fields_from gs vs) e is keys packed here) state.left) writes.text;
       each = λ h. state.each (rw (cardinality, is) writes.value, h);
     }
 
@@ -203,13 +201,23 @@ closed {t} {all} {values} {old} unknown first list shape new state type plain sa
           ∙ ap (λ (fs : Fields). old ++ text_of (with_kept keeps (fields_recs descriptor_shape all fs) kept)) (entries-same list)
           ∙ sym state.left.whole_is
           ∙ ap (λ (rs : List Rec). first ++ encoded descriptor_shape t (content (fields_from all values) rs)) (sym kept_are);
-      sound = content_sound descriptor_shape t all values unknown type plain (descriptor_shape_proper t) (state.each tt) (rw kept_are fit);
+      sound = content_sound descriptor_shape t all values unknown type plain (fields_above descriptor_shape t descriptor_shape_proper) (state.each tt) (rw kept_are fit);
     }
 
 -- ---- read back
 
+pub short_of : (t : ℕ) (c : Content) (new : List ℕ) → new ≡ encoded descriptor_shape t c → length new < 2 ^ 64 → length (encoded descriptor_shape t c) < 2 ^ 64
+short_of t c new same short = subst (λ (b : List ℕ). length b < 2 ^ 64) same short
+
+written_is : (t : ℕ) (c : Content) (old new : List ℕ) → IsWritten t c old new → old ≡ [] → new ≡ encoded descriptor_shape t c
+written_is t c old new is none = is.text ∙ ap (λ (b : List ℕ). b ++ encoded descriptor_shape t c) none
+
 pub written_decodes : (t : ℕ) (c : Content) (old new : List ℕ) → EncodingDecodes → IsWritten t c old new → old ≡ [] → length new < 2 ^ 64 → depth c ≤ 100 → Decodes descriptor_shape t new c
 written_decodes t c old new law is none short deep =
-    let same : new ≡ encoded descriptor_shape t c = is.text ∙ ap (λ (b : List ℕ). b ++ encoded descriptor_shape t c) none in
-    subst (λ (b : List ℕ). Decodes descriptor_shape t b c) (sym same)
-    (law descriptor_shape t c descriptor_shape_proper (is.sound (subst (λ (b : List ℕ). length b < 2 ^ 64) same short)) deep)
+    let same = written_is t c old new is none in
+    subst (λ (b : List ℕ). Decodes descriptor_shape t b c) (sym same) (law descriptor_shape t c descriptor_shape_proper is.sound (short_of t c new same short) deep)
+
+pub written_parts : (t : ℕ) (c : Content) (old new : List ℕ) → EncodingDecodesParts → IsWritten t c old new → old ≡ [] → length new < 2 ^ 64 → PartsFit c → DecodesParts descriptor_shape t new c
+written_parts t c old new law is none short fit =
+    let same = written_is t c old new is none in
+    subst (λ (b : List ℕ). DecodesParts descriptor_shape t b c) (sym same) (law descriptor_shape t c descriptor_shape_proper is.sound (short_of t c new same short) fit)

@@ -5,19 +5,20 @@ use Rattle.std.specs.List.{filter}
 use Rattle.std.proofs.lemmas.List.{map-append}
 use Rattle.pbx_wire.specs.Text.{are_fit}
 use Rattle.pbx_wire.specs.declared.rec.Rec.{Rec}
-use Rattle.pbx_content.specs.declared.contents.Contents.{Contents}
-use Rattle.pbx_content.specs.declared.contents.Held.{Held}
-use Rattle.pbx_content.specs.declared.contents.Held as held
-use Rattle.pbx_content.specs.declared.contents.Field.{Field}
-use Rattle.pbx_content.specs.declared.shape.Cardinality.{Cardinality}
-use Rattle.pbx_content.specs.declared.shape.Cardinality.TheVariants.{Singular, Repeated}
-use Rattle.pbx_content.specs.declared.shape.FieldShape.{FieldShape}
-use Rattle.pbx_content.specs.declared.shape.Kind.{Kind}
-use Rattle.pbx_content.specs.Content.{content, Fields, no_fields, field, Val, many, vals_of}
-use Rattle.pbx_content.specs.Meaning.{with_field}
-use Rattle.pbx_content.specs.Shape.{fields_of}
-use Rattle.pbx_content.specs.View.{fields_in, entry_of, content_of, val_of}
+use Rattle.pbx_codec.specs.declared.contents.Contents.{Contents}
+use Rattle.pbx_codec.specs.declared.contents.Held.{Held}
+use Rattle.pbx_codec.specs.declared.contents.Held as held
+use Rattle.pbx_codec.specs.declared.contents.Field.{Field}
+use Rattle.pbx_meaning.specs.declared.shape.Cardinality.{Cardinality}
+use Rattle.pbx_meaning.specs.declared.shape.Cardinality.TheVariants.{Repeated}
+use Rattle.pbx_meaning.specs.declared.shape.FieldShape.{FieldShape}
+use Rattle.pbx_meaning.specs.declared.shape.Kind.{Kind}
+use Rattle.pbx_meaning.specs.Content.{content, Fields, no_fields, field, Val, many, vals_of}
+use Rattle.pbx_meaning.specs.Meaning.{with_field}
+use Rattle.pbx_meaning.specs.Shape.{fields_of}
+use Rattle.pbx_codec.specs.View.{fields_in, entry_of, content_of, val_of}
 use Rattle.pbx_desc_shape.specs.Shape.{descriptor_shape}
+use Rattle.pbx_meaning.proofs.WrittenOrder.{fields_above}
 use Rattle.pbx_desc_shape.proofs.Proper.{descriptor_shape_proper}
 use Rattle.pbx_desc.specs.Building.{entries, followed_by, Puts, Holds}
 use Rattle.pbx_desc.specs.Sound.{AreOf, MayBe}
@@ -59,9 +60,8 @@ put_value c k n h v fs e value = record {
   value = value;
 }
 
-pub put_nothing : (c : Cardinality) (k : Kind) (n : ℕ) (fs : List Field) → Puts c k n None fs fs
-put_nothing Singular k n fs = record { fields = entries-same fs; value = tt }
-put_nothing Repeated k n fs = record { fields = entries-same fs; value = ([], refl, tt) }
+pub put_nothing : (c : Cardinality) (k : Kind) (n : ℕ) (fs : List Field) → MayBe descriptor_shape c k None → Puts c k n None fs fs
+put_nothing c k n fs absent = record { fields = entries-same fs; value = absent }
 
 -- the values of a list, which stands behind the others where it has some
 pub put_list : (k : Kind) (n : ℕ) (hs : List Held) (vs : List Val) (fs : List Field) → map val_of hs ≡ vs → AreOf descriptor_shape k vs → (hs ≡ [] → ⊥) → Puts Repeated k n (listed vs) fs (fs ++ record { number = n; held = held.Many hs } ∷ [])
@@ -109,7 +109,7 @@ made t gs vs list unknown contents type plain left is fit =
     let kept = kept_is gs unknown plain in
     record {
       content = is ∙ ap (λ (fs : Fields). content fs (filter (is_writable_beside (numbers gs)) unknown)) (sym (followed-nil (entries list)) ∙ left.fields) ∙ ap (content (fields_from gs vs)) (sym kept);
-      sound = content_sound descriptor_shape t gs vs unknown type plain (descriptor_shape_proper t) (left.each tt) (rw kept fit);
+      sound = content_sound descriptor_shape t gs vs unknown type plain (fields_above descriptor_shape t descriptor_shape_proper) (left.each tt) (rw kept fit);
     }
 
 pub whole : {E : Type 0} (t : ℕ) (gs : List FieldShape) (vs : List (Option Val)) (list : List Field) (unknown : List Rec) (r : Result Contents E) → fields_of descriptor_shape t ≡ gs → are_plain gs ≡ true

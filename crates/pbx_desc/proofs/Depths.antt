@@ -3,26 +3,26 @@ use Rattle.std.proofs.Common.{◌≡◌, ℕ, suc, ◌+◌, ◌<◌, ◌≤◌, 
 use Rattle.std.specs.Prelude.{ℤ, max, All}
 use Rattle.pbx_wire.specs.Text.{depth_of}
 use Rattle.pbx_wire.specs.declared.rec.Rec.{Rec}
-use Rattle.pbx_content.specs.declared.shape.FieldShape.{FieldShape}
-use Rattle.pbx_content.specs.Content.{Content, Val, message, text, number, vals_of}
-use Rattle.pbx_content.specs.Sound.{depth, fields_depth, val_depth, vals_depth}
+use Rattle.pbx_meaning.specs.declared.shape.FieldShape.{FieldShape}
+use Rattle.pbx_meaning.specs.Content.{Content, Val, message, text, number, vals_of}
+use Rattle.pbx_meaning.specs.Sound.{depth, fields_depth, val_depth, vals_depth}
 use Rattle.pbx_desc_shape.specs.Shape.{set_fields, file_fields, message_fields, field_fields, extension_range_fields, reserved_range_fields, oneof_fields, enum_fields, enum_reserved_range_fields, enum_value_fields, service_fields, method_fields, source_code_info_fields, location_fields}
-use Rattle.pbx_desc.specs.declared.enumeration.EnumDescriptorProto.{EnumDescriptorProto}
-use Rattle.pbx_desc.specs.declared.enumeration.EnumReservedRange.{EnumReservedRange}
-use Rattle.pbx_desc.specs.declared.enumeration.EnumValueDescriptorProto.{EnumValueDescriptorProto}
-use Rattle.pbx_desc.specs.declared.field.FieldDescriptorProto.{FieldDescriptorProto}
-use Rattle.pbx_desc.specs.declared.field.OneofDescriptorProto.{OneofDescriptorProto}
-use Rattle.pbx_desc.specs.declared.file.FileDescriptorProto.{FileDescriptorProto}
-use Rattle.pbx_desc.specs.declared.file.FileDescriptorSet.{FileDescriptorSet}
-use Rattle.pbx_desc.specs.declared.message.DescriptorProto.{DescriptorProto, out-DescriptorProto, roll-DescriptorProto, fold_out-DescriptorProto, fold-roll-DescriptorProto, ind-DescriptorProto}
-use Rattle.pbx_desc.specs.declared.message.DescriptorProto.TheOpen.{DescriptorProto-F}
-use Rattle.pbx_desc.specs.declared.message.ExtensionRange.{ExtensionRange}
-use Rattle.pbx_desc.specs.declared.message.ReservedRange.{ReservedRange}
-use Rattle.pbx_desc.specs.declared.options.Options.{Options}
-use Rattle.pbx_desc.specs.declared.service.MethodDescriptorProto.{MethodDescriptorProto}
-use Rattle.pbx_desc.specs.declared.service.ServiceDescriptorProto.{ServiceDescriptorProto}
-use Rattle.pbx_desc.specs.declared.source.Location.{Location}
-use Rattle.pbx_desc.specs.declared.source.SourceCodeInfo.{SourceCodeInfo}
+use Rattle.pbx_desc_records.specs.declared.enumeration.EnumDescriptorProto.{EnumDescriptorProto}
+use Rattle.pbx_desc_records.specs.declared.enumeration.EnumReservedRange.{EnumReservedRange}
+use Rattle.pbx_desc_records.specs.declared.enumeration.EnumValueDescriptorProto.{EnumValueDescriptorProto}
+use Rattle.pbx_desc_records.specs.declared.field.FieldDescriptorProto.{FieldDescriptorProto}
+use Rattle.pbx_desc_records.specs.declared.field.OneofDescriptorProto.{OneofDescriptorProto}
+use Rattle.pbx_desc_records.specs.declared.file.FileDescriptorProto.{FileDescriptorProto}
+use Rattle.pbx_desc_records.specs.declared.file.FileDescriptorSet.{FileDescriptorSet}
+use Rattle.pbx_desc_records.specs.declared.message.DescriptorProto.{DescriptorProto, out-DescriptorProto, roll-DescriptorProto, fold_out-DescriptorProto, fold-roll-DescriptorProto, ind-DescriptorProto}
+use Rattle.pbx_desc_records.specs.declared.message.DescriptorProto.TheOpen.{DescriptorProto-F}
+use Rattle.pbx_desc_records.specs.declared.message.ExtensionRange.{ExtensionRange}
+use Rattle.pbx_desc_records.specs.declared.message.ReservedRange.{ReservedRange}
+use Rattle.pbx_desc_records.specs.declared.options.Options.{Options}
+use Rattle.pbx_desc_records.specs.declared.service.MethodDescriptorProto.{MethodDescriptorProto}
+use Rattle.pbx_desc_records.specs.declared.service.ServiceDescriptorProto.{ServiceDescriptorProto}
+use Rattle.pbx_desc_records.specs.declared.source.Location.{Location}
+use Rattle.pbx_desc_records.specs.declared.source.SourceCodeInfo.{SourceCodeInfo}
 use Rattle.pbx_desc.specs.Content.{listed, is_writable, writable, fields_from, record_content, of_text, of_number, of_truth, of_texts, of_numbers, of_record, of_records, of_options, options_content, extension_range_values, extension_range_content, reserved_range_values, reserved_range_content, field_values, field_content, oneof_values, oneof_content, enum_reserved_range_values, enum_reserved_range_content, enum_value_values, enum_value_content, enum_values, enum_content, method_values, method_content, service_values, service_content, location_values, location_content, source_code_info_values, source_code_info_content, message_values, message_step, message_content, file_values, file_content, file_set_values, file_set_content, files_content}
 use Rattle.pbx_desc.specs.Levels.{greatest, levels_of, below, below_one, options_levels, extension_range_levels, reserved_range_levels, field_levels, oneof_levels, enum_reserved_range_levels, enum_value_levels, enum_levels, method_levels, service_levels, location_levels, source_code_info_levels, message_levels_step, message_levels, file_levels, file_set_levels}
 use Rattle.pbx_desc.proofs.Messages.{layer_with}

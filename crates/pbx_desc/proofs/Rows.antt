@@ -2,23 +2,23 @@
 use Rattle.std.proofs.Common.{◌≡◌, ℕ, ◌+◌, ◌*◌, List, [], ◌∷◌, ◌++◌, length, Some, None, refl, rules}
 use Rattle.std.specs.Prelude.{pos, codes}
 use Rattle.pbx_wire.specs.Varint.{varint, varint_within}
-use Rattle.pbx_wire.specs.Text.{text, is_number, is_numbered}
+use Rattle.pbx_wire.specs.Text.{text, is_record_number, is_numbered}
 use Rattle.pbx_wire.specs.declared.rec.Rec.{the_lemmas as rec_lemmas}
 use Rattle.pbx_wire.specs.declared.rec.Rec.TheVariants as rec
-use Rattle.pbx_content.specs.Encoding.{encoded}
-use Rattle.pbx_desc.specs.declared.field.FieldDescriptorProto.{FieldDescriptorProto}
-use Rattle.pbx_desc.specs.declared.message.DescriptorProto.{DescriptorProto, roll-DescriptorProto, fold-roll-DescriptorProto}
-use Rattle.pbx_desc.specs.declared.message.DescriptorProto.TheOpen.{DescriptorProto-F}
-use Rattle.pbx_desc.specs.declared.file.FileDescriptorProto.{FileDescriptorProto}
+use Rattle.pbx_meaning.specs.Encoding.{encoded}
+use Rattle.pbx_desc_records.specs.declared.field.FieldDescriptorProto.{FieldDescriptorProto}
+use Rattle.pbx_desc_records.specs.declared.message.DescriptorProto.{DescriptorProto, roll-DescriptorProto, fold-roll-DescriptorProto}
+use Rattle.pbx_desc_records.specs.declared.message.DescriptorProto.TheOpen.{DescriptorProto-F}
+use Rattle.pbx_desc_records.specs.declared.file.FileDescriptorProto.{FileDescriptorProto}
 use Rattle.pbx_desc_shape.specs.Shape.{descriptor_shape}
-use Rattle.pbx_content.specs.Content.{Content}
+use Rattle.pbx_meaning.specs.Content.{Content}
 use Rattle.pbx_desc.specs.Content.{message_step, message_content, file_content}
 use Rattle.pbx_desc.proofs.Messages.{layer_with}
 
 varint_text : (n v : ℕ) → text (rec.Varint n v) ≡ varint (n * 8) ++ varint v
 varint_text n v = search (rules, rec_lemmas)
 
-varint_numbered : (n v : ℕ) → is_numbered (rec.Varint n v) ≡ is_number n
+varint_numbered : (n v : ℕ) → is_numbered (rec.Varint n v) ≡ is_record_number n
 varint_numbered n v = search (rules, rec_lemmas)
 
 bytes_text : (n : ℕ) (b : List ℕ) → text (rec.Bytes n b) ≡ varint (n * 8 + 2) ++ varint (length b) ++ b

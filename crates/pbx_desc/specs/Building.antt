@@ -2,16 +2,17 @@
 use Rattle.std.specs.Prelude.{◌≡◌, ℕ, List, [], ◌++◌, map, Option, Some, None}
 use Rattle.pbx_wire.specs.Text.{text_of}
 use Rattle.pbx_wire.specs.declared.rec.Rec.{Rec}
-use Rattle.pbx_content.specs.declared.contents.Contents.{Contents}
-use Rattle.pbx_content.specs.declared.contents.Field.{Field}
-use Rattle.pbx_content.specs.declared.shape.Cardinality.{Cardinality}
-use Rattle.pbx_content.specs.declared.shape.Kind.{Kind}
-use Rattle.pbx_content.specs.Content.{Content, Fields, no_fields, field, Val}
-use Rattle.pbx_content.specs.Encoding.{encoded, field_recs}
-use Rattle.pbx_content.specs.Meaning.{with_field}
-use Rattle.pbx_content.specs.View.{fields_in, entry_of, content_of}
+use Rattle.pbx_codec.specs.declared.contents.Contents.{Contents}
+use Rattle.pbx_codec.specs.declared.contents.Field.{Field}
+use Rattle.pbx_meaning.specs.declared.shape.Cardinality.{Cardinality}
+use Rattle.pbx_meaning.specs.declared.shape.Kind.{Kind}
+use Rattle.pbx_meaning.specs.Content.{Content, Fields, no_fields, field, Val}
+use Rattle.pbx_meaning.specs.Encoding.{encoded, field_recs}
+use Rattle.pbx_meaning.specs.Meaning.{with_field}
+use Rattle.pbx_codec.specs.View.{fields_in, entry_of, content_of}
 use Rattle.pbx_desc_shape.specs.Shape.{descriptor_shape, list_field}
-use Rattle.pbx_desc.specs.Sound.{IsSoundIfShort, MayBe}
+use Rattle.pbx_meaning.specs.Sound.{IsSound}
+use Rattle.pbx_desc.specs.Sound.{MayBe}
 
 -- the fields that entries of a tree hold
 abbrev pub entries : List Field → Fields
@@ -30,7 +31,7 @@ pub record Puts (c : Cardinality) (k : Kind) (n : ℕ) (v : Option Val) (old new
 -- the tree holds the content, which a message of the type may have
 pub record Holds (t : ℕ) (c : Content) (contents : Contents) : Type 0 where
   pub content : content_of contents ≡ c
-  pub sound : IsSoundIfShort descriptor_shape t c
+  pub sound : IsSound descriptor_shape t c
 
 -- the records of a value, if there is one, at a number; a list is not packed
 abbrev pub value_recs : ℕ → Kind → Option Val → List Rec
@@ -45,4 +46,4 @@ pub record Writes (c : Cardinality) (k : Kind) (n : ℕ) (v : Option Val) (old n
 -- the content, which a message of the type may have, is written behind the text
 pub record IsWritten (t : ℕ) (c : Content) (old new : List ℕ) : Type 0 where
   pub text : new ≡ old ++ encoded descriptor_shape t c
-  pub sound : IsSoundIfShort descriptor_shape t c
+  pub sound : IsSound descriptor_shape t c

@@ -2,27 +2,29 @@
 use Rattle.std.specs.Prelude.{ℕ, ℤ, List, [], ◌∷◌, map, filter, Bool, ◌&&◌, Option, Some, None, option_map}
 use Rattle.pbx_wire.specs.Text.{is_numbered}
 use Rattle.pbx_wire.specs.declared.rec.Rec.{Rec}
-use Rattle.pbx_content.specs.declared.shape.FieldShape.{FieldShape}
-use Rattle.pbx_content.specs.Content.{Content, content, Fields, no_fields, Val, number, truth, text, message, many, vals_of}
-use Rattle.pbx_content.specs.Meaning.{with_field}
-use Rattle.pbx_content.specs.Shape.{is_kept}
-use Rattle.pbx_desc_shape.specs.Shape.{set_fields, file_fields, message_fields, field_fields, extension_range_fields, reserved_range_fields, oneof_fields, enum_fields, enum_reserved_range_fields, enum_value_fields, service_fields, method_fields, source_code_info_fields, location_fields}
-use Rattle.pbx_desc.specs.declared.enumeration.EnumDescriptorProto.{EnumDescriptorProto}
-use Rattle.pbx_desc.specs.declared.enumeration.EnumReservedRange.{EnumReservedRange}
-use Rattle.pbx_desc.specs.declared.enumeration.EnumValueDescriptorProto.{EnumValueDescriptorProto}
-use Rattle.pbx_desc.specs.declared.field.FieldDescriptorProto.{FieldDescriptorProto}
-use Rattle.pbx_desc.specs.declared.field.OneofDescriptorProto.{OneofDescriptorProto}
-use Rattle.pbx_desc.specs.declared.file.FileDescriptorProto.{FileDescriptorProto}
-use Rattle.pbx_desc.specs.declared.file.FileDescriptorSet.{FileDescriptorSet}
-use Rattle.pbx_desc.specs.declared.message.DescriptorProto.{DescriptorProto, fold-DescriptorProto}
-use Rattle.pbx_desc.specs.declared.message.DescriptorProto.TheOpen.{DescriptorProto-F}
-use Rattle.pbx_desc.specs.declared.message.ExtensionRange.{ExtensionRange}
-use Rattle.pbx_desc.specs.declared.message.ReservedRange.{ReservedRange}
-use Rattle.pbx_desc.specs.declared.options.Options.{Options}
-use Rattle.pbx_desc.specs.declared.service.MethodDescriptorProto.{MethodDescriptorProto}
-use Rattle.pbx_desc.specs.declared.service.ServiceDescriptorProto.{ServiceDescriptorProto}
-use Rattle.pbx_desc.specs.declared.source.Location.{Location}
-use Rattle.pbx_desc.specs.declared.source.SourceCodeInfo.{SourceCodeInfo}
+use Rattle.pbx_meaning.specs.declared.shape.FieldShape.{FieldShape}
+use Rattle.pbx_meaning.specs.Content.{Content, content, Fields, no_fields, Val, number, truth, text, message, many, vals_of}
+use Rattle.pbx_meaning.specs.Meaning.{with_field}
+use Rattle.pbx_meaning.specs.Shape.{is_kept}
+use Rattle.pbx_desc_shape.specs.Shape.{set_fields, file_fields, message_fields, field_fields, extension_range_fields, reserved_range_fields, oneof_fields}
+use Rattle.pbx_desc_shape.specs.Shape.{enum_fields, enum_reserved_range_fields, enum_value_fields, service_fields, method_fields}
+use Rattle.pbx_desc_shape.specs.Shape.{source_code_info_fields, location_fields}
+use Rattle.pbx_desc_records.specs.declared.enumeration.EnumDescriptorProto.{EnumDescriptorProto}
+use Rattle.pbx_desc_records.specs.declared.enumeration.EnumReservedRange.{EnumReservedRange}
+use Rattle.pbx_desc_records.specs.declared.enumeration.EnumValueDescriptorProto.{EnumValueDescriptorProto}
+use Rattle.pbx_desc_records.specs.declared.field.FieldDescriptorProto.{FieldDescriptorProto}
+use Rattle.pbx_desc_records.specs.declared.field.OneofDescriptorProto.{OneofDescriptorProto}
+use Rattle.pbx_desc_records.specs.declared.file.FileDescriptorProto.{FileDescriptorProto}
+use Rattle.pbx_desc_records.specs.declared.file.FileDescriptorSet.{FileDescriptorSet}
+use Rattle.pbx_desc_records.specs.declared.message.DescriptorProto.{DescriptorProto, fold-DescriptorProto}
+use Rattle.pbx_desc_records.specs.declared.message.DescriptorProto.TheOpen.{DescriptorProto-F}
+use Rattle.pbx_desc_records.specs.declared.message.ExtensionRange.{ExtensionRange}
+use Rattle.pbx_desc_records.specs.declared.message.ReservedRange.{ReservedRange}
+use Rattle.pbx_desc_records.specs.declared.options.Options.{Options}
+use Rattle.pbx_desc_records.specs.declared.service.MethodDescriptorProto.{MethodDescriptorProto}
+use Rattle.pbx_desc_records.specs.declared.service.ServiceDescriptorProto.{ServiceDescriptorProto}
+use Rattle.pbx_desc_records.specs.declared.source.Location.{Location}
+use Rattle.pbx_desc_records.specs.declared.source.SourceCodeInfo.{SourceCodeInfo}
 
 -- ---- the content of any record
 

@@ -1,9 +1,9 @@
 -- Laws of the definitions, each proved as the contract of a public function.
 use Rattle.std.specs.Prelude.{◌≤◌, List}
-use Rattle.pbx_content.specs.Sound.{depth}
-use Rattle.pbx_desc.specs.declared.file.FileDescriptorProto.{FileDescriptorProto}
-use Rattle.pbx_desc.specs.declared.file.FileDescriptorSet.{FileDescriptorSet}
-use Rattle.pbx_desc.specs.declared.message.DescriptorProto.{DescriptorProto}
+use Rattle.pbx_meaning.specs.Sound.{depth}
+use Rattle.pbx_desc_records.specs.declared.file.FileDescriptorProto.{FileDescriptorProto}
+use Rattle.pbx_desc_records.specs.declared.file.FileDescriptorSet.{FileDescriptorSet}
+use Rattle.pbx_desc_records.specs.declared.message.DescriptorProto.{DescriptorProto}
 use Rattle.pbx_desc.specs.Content.{message_content, file_content, file_set_content, files_content}
 use Rattle.pbx_desc.specs.Levels.{below, message_levels, file_levels, file_set_levels}
 

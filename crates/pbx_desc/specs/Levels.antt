@@ -2,22 +2,22 @@
 use Rattle.std.specs.Prelude.{ℕ, ◌+◌, max, List, [], ◌∷◌, map, Option, Some, None}
 use Rattle.pbx_wire.specs.Text.{depth_of}
 use Rattle.pbx_wire.specs.declared.rec.Rec.{Rec}
-use Rattle.pbx_desc.specs.declared.enumeration.EnumDescriptorProto.{EnumDescriptorProto}
-use Rattle.pbx_desc.specs.declared.enumeration.EnumReservedRange.{EnumReservedRange}
-use Rattle.pbx_desc.specs.declared.enumeration.EnumValueDescriptorProto.{EnumValueDescriptorProto}
-use Rattle.pbx_desc.specs.declared.field.FieldDescriptorProto.{FieldDescriptorProto}
-use Rattle.pbx_desc.specs.declared.field.OneofDescriptorProto.{OneofDescriptorProto}
-use Rattle.pbx_desc.specs.declared.file.FileDescriptorProto.{FileDescriptorProto}
-use Rattle.pbx_desc.specs.declared.file.FileDescriptorSet.{FileDescriptorSet}
-use Rattle.pbx_desc.specs.declared.message.DescriptorProto.{DescriptorProto, fold-DescriptorProto}
-use Rattle.pbx_desc.specs.declared.message.DescriptorProto.TheOpen.{DescriptorProto-F}
-use Rattle.pbx_desc.specs.declared.message.ExtensionRange.{ExtensionRange}
-use Rattle.pbx_desc.specs.declared.message.ReservedRange.{ReservedRange}
-use Rattle.pbx_desc.specs.declared.options.Options.{Options}
-use Rattle.pbx_desc.specs.declared.service.MethodDescriptorProto.{MethodDescriptorProto}
-use Rattle.pbx_desc.specs.declared.service.ServiceDescriptorProto.{ServiceDescriptorProto}
-use Rattle.pbx_desc.specs.declared.source.Location.{Location}
-use Rattle.pbx_desc.specs.declared.source.SourceCodeInfo.{SourceCodeInfo}
+use Rattle.pbx_desc_records.specs.declared.enumeration.EnumDescriptorProto.{EnumDescriptorProto}
+use Rattle.pbx_desc_records.specs.declared.enumeration.EnumReservedRange.{EnumReservedRange}
+use Rattle.pbx_desc_records.specs.declared.enumeration.EnumValueDescriptorProto.{EnumValueDescriptorProto}
+use Rattle.pbx_desc_records.specs.declared.field.FieldDescriptorProto.{FieldDescriptorProto}
+use Rattle.pbx_desc_records.specs.declared.field.OneofDescriptorProto.{OneofDescriptorProto}
+use Rattle.pbx_desc_records.specs.declared.file.FileDescriptorProto.{FileDescriptorProto}
+use Rattle.pbx_desc_records.specs.declared.file.FileDescriptorSet.{FileDescriptorSet}
+use Rattle.pbx_desc_records.specs.declared.message.DescriptorProto.{DescriptorProto, fold-DescriptorProto}
+use Rattle.pbx_desc_records.specs.declared.message.DescriptorProto.TheOpen.{DescriptorProto-F}
+use Rattle.pbx_desc_records.specs.declared.message.ExtensionRange.{ExtensionRange}
+use Rattle.pbx_desc_records.specs.declared.message.ReservedRange.{ReservedRange}
+use Rattle.pbx_desc_records.specs.declared.options.Options.{Options}
+use Rattle.pbx_desc_records.specs.declared.service.MethodDescriptorProto.{MethodDescriptorProto}
+use Rattle.pbx_desc_records.specs.declared.service.ServiceDescriptorProto.{ServiceDescriptorProto}
+use Rattle.pbx_desc_records.specs.declared.source.Location.{Location}
+use Rattle.pbx_desc_records.specs.declared.source.SourceCodeInfo.{SourceCodeInfo}
 
 -- the greatest of the numbers
 abbrev pub greatest : List ℕ → ℕ

@@ -1,7 +1,7 @@
-pub mod Options
 pub mod Unknown
 pub mod Content
 pub mod Sound
 pub mod Building
 pub mod Levels
 pub mod Laws
+pub mod Sets

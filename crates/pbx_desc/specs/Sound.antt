@@ -1,28 +1,23 @@
--- Contents that a message may have. Of lengths below the whole nothing is asked, since the text of the whole holds them.
-use Rattle.std.specs.Prelude.{◌≡◌, ℕ, ◌^◌, ◌<◌, List, [], ◌∷◌, length, true, Option, Some, None}
+-- Values that a field of a descriptor record may have.
+use Rattle.std.specs.Prelude.{◌≡◌, List, [], ◌∷◌, true, Option, Some, None}
 use Rattle.std.specs.Int.{w32}
 use Rattle.std.specs.Int.RustNames.{FitsSigned}
 use Rattle.std.specs.Str.{is_utf8}
-use Rattle.pbx_content.specs.declared.shape.Cardinality.{Cardinality}
-use Rattle.pbx_content.specs.declared.shape.Cardinality.TheVariants.{Singular, Repeated}
-use Rattle.pbx_content.specs.declared.shape.Kind.{Kind}
-use Rattle.pbx_content.specs.declared.shape.Kind.TheVariants as kind
-use Rattle.pbx_content.specs.declared.shape.Shape.{Shape}
-use Rattle.pbx_content.specs.Content.{Content, Val, number, truth, text, message}
-use Rattle.pbx_content.specs.Encoding.{encoded}
-use Rattle.pbx_content.specs.Sound.{IsSound}
+use Rattle.pbx_meaning.specs.declared.shape.Cardinality.{Cardinality}
+use Rattle.pbx_meaning.specs.declared.shape.Cardinality.TheVariants.{Singular, Repeated, Map}
+use Rattle.pbx_meaning.specs.declared.shape.Kind.{Kind}
+use Rattle.pbx_meaning.specs.declared.shape.Kind.TheVariants as kind
+use Rattle.pbx_meaning.specs.declared.shape.Shape.{Shape}
+use Rattle.pbx_meaning.specs.Content.{Val, number, truth, text, message}
+use Rattle.pbx_meaning.specs.Sound.{IsSound}
 use Rattle.pbx_desc.specs.Content.{listed}
 
--- Where the content's text has a length below 2^64, as each text in memory has, a message of the type may have it.
-abbrev pub IsSoundIfShort : Shape → ℕ → Content → Type 0
-IsSoundIfShort shape t c = length (encoded shape t c) < 2 ^ 64 → IsSound shape t c
-
--- a value of the kind, as far as its parts tell
+-- a value of the kind
 abbrev pub IsOf : Shape → Kind → Val → Type 0
 IsOf shape kind.Int32 (number z) = FitsSigned w32 z
 IsOf shape kind.Bool (truth b) = Unit {0}
 IsOf shape kind.String (text s) = is_utf8 s ≡ true
-IsOf shape (kind.Message t) (message c) = IsSoundIfShort shape t c
+IsOf shape (kind.Message t) (message c) = IsSound shape t c
 IsOf shape _ _ = ⊥
 
 -- no value, or one of the kind
@@ -35,7 +30,8 @@ abbrev pub AreOf : Shape → Kind → List Val → Type 0
 AreOf shape k [] = Unit {0}
 AreOf shape k (v ∷ vs) = IsOf shape k v × AreOf shape k vs
 
--- no value, or one that a field of this cardinality and kind may have
+-- no value, or one that a field of this cardinality and kind may have; no field of a descriptor record is a map
 abbrev pub MayBe : Shape → Cardinality → Kind → Option Val → Type 0
 MayBe shape Singular k v = MayBeOf shape k v
 MayBe shape Repeated k v = (vs : List Val) × (v ≡ listed vs) × AreOf shape k vs
+MayBe shape (Map key) k v = ⊥

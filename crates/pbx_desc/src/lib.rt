@@ -1,12 +1,9 @@
-//! Descriptor records: the schema of a file as plain values.
+//! What descriptor records hold as messages, and their wire bytes.
 //!
-//! The records are those of `google/protobuf/descriptor.proto`, fields by ascending number and named as
-//! there, save that the field `type` is called `kind`. An enum is its number, and a message of options
-//! the list of its records.
+//! The records themselves stand in `pbx_desc_records`, and are named here too.
 #![tactic(auto)]
 
 mod contents;
-mod copy;
 mod encoding;
 mod enumeration;
 mod field;
@@ -21,13 +18,13 @@ mod source;
 mod unknown;
 
 pub use encoding::Message;
-pub use enumeration::{EnumDescriptorProto, EnumReservedRange, EnumValueDescriptorProto};
-pub use field::{FieldDescriptorProto, OneofDescriptorProto};
-pub use file::{FileDescriptorProto, FileDescriptorSet};
+pub use file::file_contents;
 pub use laws::levels_bound_depth;
-pub use message::{DescriptorProto, ExtensionRange, ReservedRange};
-pub use options::Options;
+pub use pbx_desc_records::{
+    DescriptorProto, EnumDescriptorProto, EnumReservedRange, EnumValueDescriptorProto,
+    ExtensionRange, FieldDescriptorProto, FileDescriptorProto, FileDescriptorSet, Location,
+    MethodDescriptorProto, OneofDescriptorProto, Options, ReservedRange, ServiceDescriptorProto,
+    SourceCodeInfo,
+};
 pub use pbx_desc_shape::descriptor_shape;
-pub use service::{MethodDescriptorProto, ServiceDescriptorProto};
 pub use set::FileSet;
-pub use source::{Location, SourceCodeInfo};

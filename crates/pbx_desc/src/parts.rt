@@ -1,18 +1,20 @@
 ghost use Rattle.std.specs.Prelude.{◌≡◌, ◌++◌, true, filter, OnOk};
 ghost use Rattle.pbx_wire.specs.Text.{text as text_of_rec, are_fit};
 ghost use Rattle.pbx_wire.specs.declared.rec.Rec.TheVariants as rec;
-ghost use Rattle.pbx_content.specs.declared.shape.Cardinality.TheVariants.{Singular, Repeated};
-ghost use Rattle.pbx_content.specs.declared.shape.Kind.TheVariants as kind;
-ghost use Rattle.pbx_content.specs.Content.{content};
-ghost use Rattle.pbx_content.specs.Encoding.{encoded};
+ghost use Rattle.pbx_meaning.specs.declared.shape.Cardinality.TheVariants.{Singular, Repeated};
+ghost use Rattle.pbx_meaning.specs.declared.shape.Kind.TheVariants as kind;
+ghost use Rattle.pbx_meaning.specs.Content.{content};
+ghost use Rattle.pbx_meaning.specs.Encoding.{encoded};
 ghost use Rattle.pbx_desc_shape.specs.Shape.{descriptor_shape};
 ghost use Rattle.pbx_desc.specs.Building.{entries, Writes};
 ghost use Rattle.pbx_desc.specs.Content.{of_record, of_records, source_code_info_content};
 ghost use Rattle.pbx_desc.specs.Unknown.{is_writable_beside};
 
 use crate::contents::{FieldList, HasContents};
-use crate::source::SourceCodeInfo;
-use pbx_content::{Shape, encode};
+use crate::source::write_source;
+use pbx_codec::encode;
+use pbx_desc_records::SourceCodeInfo;
+use pbx_meaning::Schema;
 use pbx_wire::{List, NoMemory, Recs, varints_text};
 use std::alloc::Global;
 
@@ -35,7 +37,7 @@ fn put_payload(
 /// known number.
 pub(crate) fn put_fields(
     alloc: Global,
-    shape: &Shape,
+    schema: &Schema,
     type_at: usize,
     fields: FieldList,
     unknown: &Recs,
@@ -43,11 +45,11 @@ pub(crate) fn put_fields(
     out: &mut Vec<u8>,
 ) -> Result<(), NoMemory>
     ensures text { OnOk result (out.new.items
-        ≡ out.old.items ++ encoded shape.now type_at (content (entries fields.list) (filter (is_writable_beside known.now) unknown.now))) }
+        ≡ out.old.items ++ encoded schema.now type_at (content (entries fields.list) (filter (is_writable_beside known.now) unknown.now))) }
     ensures fit { OnOk result (are_fit (filter (is_writable_beside known.now) unknown.now) ≡ true) }
 {
     let contents = fields.with_unknown(unknown, known)?;
-    let own = encode(alloc, shape, type_at, &contents)?;
+    let own = encode(alloc, schema, type_at, &contents)?;
     out.extend_from_slice(own.as_slice())?;
     Ok(())
 }
@@ -55,18 +57,18 @@ pub(crate) fn put_fields(
 /// Puts the records behind the text, each as a message under this number. One content at a time is there.
 pub(crate) fn put_records<R: HasContents>(
     alloc: Global,
-    shape: &Shape,
+    schema: &Schema,
     number: u32,
     records: &List<R>,
     out: &mut Vec<u8>,
 ) -> Result<(), NoMemory>
-    requires { shape.now ≡ descriptor_shape }
+    requires { schema.now ≡ descriptor_shape }
     ensures { OnOk result
         (Writes Repeated (kind.Message R.TYPE_AT) number (of_records R.content records.now) out.old.items out.new.items) }
 {
     for record in records.as_slice() {
         let contents = record.to_contents(alloc)?;
-        let own = encode(alloc, shape, R::TYPE_AT, &contents)?;
+        let own = encode(alloc, schema, R::TYPE_AT, &contents)?;
         put_payload(alloc, number, own.as_slice(), out)?;
     }
     Ok(())
@@ -75,18 +77,18 @@ pub(crate) fn put_records<R: HasContents>(
 /// Puts the places behind the text, as a message under this number, if there are any.
 pub(crate) fn put_source(
     alloc: Global,
-    shape: &Shape,
+    schema: &Schema,
     number: u32,
     source: &Option<SourceCodeInfo>,
     out: &mut Vec<u8>,
 ) -> Result<(), NoMemory>
-    requires { shape.now ≡ descriptor_shape }
+    requires { schema.now ≡ descriptor_shape }
     ensures { OnOk result
         (Writes Singular (kind.Message 12) number (of_record source_code_info_content source.now) out.old.items out.new.items) }
 {
     if let Some(source) = source {
         let mut own = Vec::new(alloc);
-        source.write(alloc, shape, &mut own)?;
+        write_source(alloc, schema, source, &mut own)?;
         put_payload(alloc, number, own.as_slice(), out)?;
     }
     Ok(())

@@ -1,15 +1,16 @@
 ghost use Rattle.std.specs.Prelude.{◌≡◌, ◌≤◌, [], ◌∷◌, ◌++◌, map, IfOk, OnOk, OnErr};
-ghost use Rattle.pbx_content.specs.Encoding.{encoded};
-ghost use Rattle.pbx_content.specs.Same.{Decodes};
-ghost use Rattle.pbx_content.specs.Sound.{depth};
-ghost use Rattle.pbx_content.specs.View.{val_of};
+ghost use Rattle.pbx_meaning.specs.Encoding.{encoded};
+ghost use Rattle.pbx_meaning.specs.Same.{Decodes};
+ghost use Rattle.pbx_meaning.specs.Sound.{depth, PartsFit};
+ghost use Rattle.pbx_codec.specs.View.{val_of};
 ghost use Rattle.pbx_desc_shape.specs.Shape.{descriptor_shape};
 ghost use Rattle.pbx_desc.specs.Content.{file_value, set_content};
+ghost use Rattle.pbx_desc.specs.Sets.{DecodesSet};
 
 use crate::contents::{FieldList, HasContents};
 use crate::encoding::to_bytes;
-use crate::file::FileDescriptorProto;
-use pbx_content::Held;
+use pbx_codec::Held;
+use pbx_desc_records::FileDescriptorProto;
 use pbx_desc_shape::place;
 use pbx_wire::{List, NoMemory, Recs};
 use std::alloc::Global;
@@ -24,10 +25,10 @@ pub struct FileSet {
 impl Model for FileSet {
     ghost use Rattle.std.specs.Prelude.{List as ListOf, map};
     ghost use Rattle.std.specs.Coded.{codes};
-    ghost use Rattle.pbx_content.specs.contracts.contents.Held as held;
-    ghost use Rattle.pbx_content.specs.declared.contents.Held.{Held};
-    ghost use Rattle.pbx_content.specs.declared.shape.Kind.TheVariants.{Message};
-    ghost use Rattle.pbx_content.specs.View.{val_of};
+    ghost use Rattle.pbx_codec.specs.contracts.contents.Held as held;
+    ghost use Rattle.pbx_codec.specs.declared.contents.Held.{Held};
+    ghost use Rattle.pbx_meaning.specs.declared.shape.Kind.TheVariants.{Message};
+    ghost use Rattle.pbx_codec.specs.View.{val_of};
     ghost use Rattle.pbx_desc_shape.specs.Shape.{descriptor_shape};
     ghost use Rattle.pbx_desc.specs.Sound.{AreOf};
 
@@ -63,7 +64,9 @@ impl FileSet {
     /// The canonical encoding of the set. The only error is want of memory.
     pub fn encode(self, alloc: Global) -> Result<Vec<u8>, NoMemory>
         ensures bytes { IfOk result (λ v. v.items ≡ encoded descriptor_shape 0 (set_content (map val_of self))) }
-        ensures decodes { IfOk result (λ v. depth (set_content (map val_of self)) ≤ 100 → Decodes descriptor_shape 0 v.items (set_content (map val_of self))) }
+        ensures decodes { IfOk result (λ v. depth (set_content (map val_of self)) ≤ 100
+            → Decodes descriptor_shape 0 v.items (set_content (map val_of self))) }
+        ensures parts { IfOk result (λ v. PartsFit (set_content (map val_of self)) → DecodesSet v.items (set_content (map val_of self))) }
     {
         let mut fields = FieldList::new(alloc);
         fields.list(1, self.files)?;

@@ -1,6 +1,6 @@
 ghost use Rattle.std.specs.Prelude.{◌≡◌, ◌^◌, nat_lt, filter, IsTrue, IfOk};
-ghost use Rattle.pbx_wire.specs.Text.{is_number as is_number_of, is_numbered as is_numbered_of, are_numbered as are_numbered_of, is_fit, are_fit};
-ghost use Rattle.pbx_content.specs.Records.{number_of};
+ghost use Rattle.pbx_wire.specs.Text.{is_record_number as is_number_of, is_numbered as is_numbered_of, are_numbered as are_numbered_of, is_fit, are_fit};
+ghost use Rattle.pbx_meaning.specs.Records.{number_of};
 ghost use Rattle.pbx_desc.specs.Unknown.{has_one_of, is_writable_beside};
 
 use pbx_wire::{NoMemory, Rec, Recs};
@@ -8,7 +8,7 @@ use std::alloc::Global;
 
 /// Whether a record of the wire may have the number. Its value, or length, may be any; that it fits is
 /// known only where it is at hand.
-fn is_number(number: u32, _value: u64) -> bool
+fn is_record_number(number: u32, _value: u64) -> bool
     ensures numbered { result ≡ is_number_of number }
     ensures fit { IsTrue (nat_lt _value (2 ^ 64)) }
 {
@@ -20,7 +20,7 @@ fn is_short_number(number: u32, _value: u32) -> bool
     ensures numbered { result ≡ is_number_of number }
     ensures fit { IsTrue (nat_lt _value (2 ^ 32)) }
 {
-    is_number(number, 0)
+    is_record_number(number, 0)
 }
 
 /// Whether the numbers of the record, and of those in its groups, may be written.
@@ -30,10 +30,12 @@ fn is_numbered(rec: &Rec) -> bool
     ensures fit { IsTrue result → IsTrue (is_fit rec.now) }
 {
     match rec {
-        Rec::Varint(number, value) | Rec::Fixed64(number, value) => is_number(*number, *value),
-        Rec::Bytes(number, bytes) => is_number(*number, bytes.len() as u64),
+        Rec::Varint(number, value) | Rec::Fixed64(number, value) => is_record_number(
+            *number, *value,
+        ),
+        Rec::Bytes(number, bytes) => is_record_number(*number, bytes.len() as u64),
         Rec::Fixed32(number, value) => is_short_number(*number, *value),
-        Rec::Group(number, recs) => is_number(*number, 0) && are_numbered(recs),
+        Rec::Group(number, recs) => is_record_number(*number, 0) && are_numbered(recs),
     }
 }
 

@@ -1,7 +1,7 @@
 -- What rows of the table stand for.
 use Rattle.std.specs.Prelude.{map}
-use Rattle.pbx_content.specs.declared.shape.FieldShape.{FieldShape}
-use Rattle.pbx_content.specs.declared.shape.MessageShape.{MessageShape}
+use Rattle.pbx_meaning.specs.declared.shape.FieldShape.{FieldShape}
+use Rattle.pbx_meaning.specs.declared.shape.MessageShape.{MessageShape}
 use Rattle.pbx_desc_shape.specs.declared.table.Form.{Form}
 use Rattle.pbx_desc_shape.specs.declared.table.Form.TheVariants.{One, Many, Packed}
 use Rattle.pbx_desc_shape.specs.declared.table.FieldRow.{FieldRow}

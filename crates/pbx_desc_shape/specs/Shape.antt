@@ -1,23 +1,56 @@
 -- The shape of the descriptor records: the message types of Protocol Buffers `descriptor.proto` that describe files, with the fields that records have.
 use Rattle.std.specs.Prelude.{ℕ, List, [], ◌∷◌, true, false, None, codes}
-use Rattle.pbx_content.specs.declared.shape.Kind.{Kind}
-use Rattle.pbx_content.specs.declared.shape.Kind.TheVariants as kind
-use Rattle.pbx_content.specs.declared.shape.Cardinality.TheVariants.{Singular, Repeated}
-use Rattle.pbx_content.specs.declared.shape.FieldShape.{FieldShape}
-use Rattle.pbx_content.specs.declared.shape.MessageShape.{MessageShape}
-use Rattle.pbx_content.specs.declared.shape.Shape.{Shape}
+use Rattle.pbx_meaning.specs.declared.shape.Kind.{Kind}
+use Rattle.pbx_meaning.specs.declared.shape.Kind.TheVariants as kind
+use Rattle.pbx_meaning.specs.declared.shape.Cardinality.TheVariants.{Singular, Repeated}
+use Rattle.pbx_meaning.specs.declared.shape.FieldShape.{FieldShape}
+use Rattle.pbx_meaning.specs.declared.shape.MessageShape.{MessageShape}
+use Rattle.pbx_meaning.specs.declared.shape.Shape.{Shape}
 
 -- a field of at most one value, which has presence (Protocol Buffers "Application Note: Field Presence": proto2)
 abbrev pub one_field : ℕ → List ℕ → List ℕ → Kind → FieldShape
-one_field n name json k = record { number = n; name = name; json_name = json; kind = k; cardinality = Singular; presence = true; oneof = None; packed = false; default = None }
+one_field n name json k = record {
+  number = n;
+  name = name;
+  json_name = json;
+  is_extension = false;
+  kind = k;
+  cardinality = Singular;
+  presence = true;
+  oneof = None;
+  packed = false;
+  default = None;
+}
 
 -- a field that is a list
 abbrev pub list_field : ℕ → List ℕ → List ℕ → Kind → FieldShape
-list_field n name json k = record { number = n; name = name; json_name = json; kind = k; cardinality = Repeated; presence = false; oneof = None; packed = false; default = None }
+list_field n name json k = record {
+  number = n;
+  name = name;
+  json_name = json;
+  is_extension = false;
+  kind = k;
+  cardinality = Repeated;
+  presence = false;
+  oneof = None;
+  packed = false;
+  default = None;
+}
 
 -- a list of numbers that is written as one record (Protocol Buffers "Encoding": Packed Repeated Fields)
 abbrev pub packed_field : ℕ → List ℕ → List ℕ → Kind → FieldShape
-packed_field n name json k = record { number = n; name = name; json_name = json; kind = k; cardinality = Repeated; presence = false; oneof = None; packed = true; default = None }
+packed_field n name json k = record {
+  number = n;
+  name = name;
+  json_name = json;
+  is_extension = false;
+  kind = k;
+  cardinality = Repeated;
+  presence = false;
+  oneof = None;
+  packed = true;
+  default = None;
+}
 
 -- the fields of FileDescriptorSet
 abbrev pub set_fields : List FieldShape
@@ -57,7 +90,7 @@ message_fields =
     ∷ list_field 10 (codes "reserved_name") (codes "reservedName") kind.String
     ∷ []
 
--- the fields of FieldDescriptorProto; `label` and `type` are enums, which are written like int32 (Protocol Buffers "Encoding": Bools and Enums)
+-- the fields of FieldDescriptorProto; `label` and `type` are enums, which a record holds as their numbers (Protocol Buffers "Encoding": Bools and Enums)
 abbrev pub field_fields : List FieldShape
 field_fields =
     one_field 1 (codes "name") (codes "name") kind.String
@@ -155,15 +188,19 @@ location_fields =
     ∷ list_field 6 (codes "leading_detached_comments") (codes "leadingDetachedComments") kind.String
     ∷ []
 
--- a type whose kept records are written each at its number
+-- a type of which the order of kept records of different numbers is no part of a content
 abbrev pub message_shape : List ℕ → List FieldShape → MessageShape
 message_shape name fields = record { full_name = name; fields = fields; keeps_order = false }
 
--- a type of options: no field is read, and records are written in order of arrival
+-- a type of options: no field is read, and the order of all records is a part of the content
 abbrev pub options_shape : List ℕ → MessageShape
 options_shape name = record { full_name = name; fields = []; keeps_order = true }
 
--- The types by their places: 0 FileDescriptorSet, 1 FileDescriptorProto, 2 DescriptorProto, 3 FieldDescriptorProto, 4 DescriptorProto.ExtensionRange, 5 DescriptorProto.ReservedRange, 6 OneofDescriptorProto, 7 EnumDescriptorProto, 8 EnumDescriptorProto.EnumReservedRange, 9 EnumValueDescriptorProto, 10 ServiceDescriptorProto, 11 MethodDescriptorProto, 12 SourceCodeInfo, 13 SourceCodeInfo.Location, 14 FileOptions, 15 MessageOptions, 16 FieldOptions, 17 ExtensionRangeOptions, 18 OneofOptions, 19 EnumOptions, 20 EnumValueOptions, 21 ServiceOptions, 22 MethodOptions.
+-- The types by their places: 0 FileDescriptorSet, 1 FileDescriptorProto, 2 DescriptorProto, 3 FieldDescriptorProto, 4 DescriptorProto.ExtensionRange,
+-- 5 DescriptorProto.ReservedRange, 6 OneofDescriptorProto, 7 EnumDescriptorProto, 8 EnumDescriptorProto.EnumReservedRange,
+-- 9 EnumValueDescriptorProto, 10 ServiceDescriptorProto, 11 MethodDescriptorProto, 12 SourceCodeInfo, 13 SourceCodeInfo.Location, 14 FileOptions,
+-- 15 MessageOptions, 16 FieldOptions, 17 ExtensionRangeOptions, 18 OneofOptions, 19 EnumOptions, 20 EnumValueOptions, 21 ServiceOptions,
+-- 22 MethodOptions.
 unfoldable pub descriptor_shape : Shape
 descriptor_shape = record {
   messages =
@@ -191,4 +228,5 @@ descriptor_shape = record {
       ∷ options_shape (codes "google.protobuf.ServiceOptions")
       ∷ options_shape (codes "google.protobuf.MethodOptions")
       ∷ [];
+  enums = [];
 }

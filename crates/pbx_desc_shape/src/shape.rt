@@ -1,10 +1,9 @@
 ghost use Rattle.std.specs.Prelude.{◌≡◌, map, IfOk};
-ghost use Rattle.pbx_content.specs.Sound.{IsProper};
 ghost use Rattle.pbx_desc_shape.specs.Rows.{row_field, row_type};
 ghost use Rattle.pbx_desc_shape.specs.Shape.{descriptor_shape as descriptor_shape_of};
 
 use crate::table::{FieldRow, Form, TYPES, TypeRow};
-use pbx_content::{Cardinality, FieldShape, MessageShape, Shape};
+use pbx_meaning::{Cardinality, FieldShape, MessageShape, Schema, SchemaError, Shape};
 use pbx_wire::{List, NoMemory, Text};
 use std::alloc::Global;
 
@@ -21,6 +20,7 @@ fn field(alloc: Global, row: &FieldRow) -> Result<FieldShape, NoMemory>
         number,
         name: Text::from_str(alloc, name)?,
         json_name: Text::from_str(alloc, json_name)?,
+        is_extension: false,
         kind,
         cardinality,
         presence,
@@ -58,11 +58,16 @@ fn messages(alloc: Global, rows: &[TypeRow]) -> Result<List<MessageShape>, NoMem
 /// The shape of the descriptor records, whose types have the places of the module `place`. The only
 /// error is want of memory.
 #[tactic(auto, unfolding(crate::specs::Shape::descriptor_shape))]
-pub fn descriptor_shape(alloc: Global) -> Result<Shape, NoMemory>
-    ensures shape { IfOk result (λ shape. shape ≡ descriptor_shape_of) }
-    ensures proper { IfOk result IsProper }
+pub fn descriptor_shape(alloc: Global) -> Result<Schema, NoMemory>
+    ensures { IfOk result (λ schema. schema ≡ descriptor_shape_of) }
 {
-    Ok(Shape {
+    let shape = Shape {
         messages: messages(alloc, &TYPES)?,
-    })
+        enums: List::new(alloc),
+    };
+    match Schema::new(alloc, shape) {
+        Ok(schema) => Ok(schema),
+        Err(SchemaError::NoMemory(_)) => Err(NoMemory),
+        Err(SchemaError::Improper(_)) => unreachable!(),
+    }
 }

@@ -1,7 +1,7 @@
 use crate::place;
 use Form::{Many, One, Packed};
-use pbx_content::Kind;
-use pbx_content::Kind::{Bool, Int32, Message, String};
+use pbx_meaning::Kind;
+use pbx_meaning::Kind::{Bool, Int32, Message, String};
 
 /// How many values a field has, and how they are written.
 #[derive(Clone, Copy)]

@@ -3,7 +3,7 @@ use Rattle.std.proofs.Common.{◌≡◌, ℕ, ◌+◌, ◌<◌, ◌≤◌, List,
 use Rattle.std.proofs.lemmas.List.{map-append, take_more, take_all}
 use Rattle.std.specs.List.{flat_map}
 use Rattle.std.proofs.lemmas.Grind.{flat_map-append}
-use Rattle.pbx_desc.specs.declared.source.Location.{Location}
+use Rattle.pbx_desc_records.specs.declared.source.Location.{Location}
 use Rattle.pbx_locations.specs.Locations.{numbered, Adds}
 
 module _ {X : Type 0} (one : ℕ → X → List Location) where

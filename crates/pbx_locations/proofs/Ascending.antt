@@ -3,7 +3,7 @@ use Rattle.std.proofs.Common.{◌≡◌, ℕ, ◌+◌, ◌≤◌, length, refl, 
 use Rattle.std.specs.Prelude.{if◌then◌else◌}
 use Rattle.std.specs.List.{flat_map}
 use Rattle.pbx_token.specs.declared.token.Span.{Span}
-use Rattle.pbx_desc.specs.declared.source.Location.{Location}
+use Rattle.pbx_desc_records.specs.declared.source.Location.{Location}
 use Rattle.pbx_locations.specs.declared.file.Extent.{Extent}
 use Rattle.pbx_tree.specs.Tree.{Settings, Value, Enum, Method, Service, Oneof, Body, end, item, message, Syntax, Import, Top, top_package, File}
 use Rattle.pbx_tree.specs.Conditions.{packages}

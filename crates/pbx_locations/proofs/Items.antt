@@ -17,7 +17,7 @@ use Rattle.pbx_tree.specs.declared.tree.Item.TheVariants.{rolls-Map, rolls-Oneof
 use Rattle.pbx_tree.specs.Tree.{item_map, item_oneof, item_enum, item_extend, Body, end, item, message}
 use Rattle.pbx_tree.specs.Tree as tree
 use Rattle.pbx_tree.specs.View.{head_of, map_of, oneof_of, enum_of, extend_of, BodyItem, plain, nested, add, all_before, item_step, item_of, body_of}
-use Rattle.pbx_desc.specs.declared.source.Location.{Location}
+use Rattle.pbx_desc_records.specs.declared.source.Location.{Location}
 use Rattle.pbx_locations.specs.Locations.{element, of_items, item_enums, item_extensions, item_oneofs, nested_from, message_locations}
 use Rattle.pbx_locations.specs.BodyItems.{of_body_item}
 use Rattle.pbx_locations.specs.declared.block.Block.{Block}

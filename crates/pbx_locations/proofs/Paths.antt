@@ -6,7 +6,7 @@ use Rattle.std.specs.List.Sorted.{IsStrictlySortedBy}
 use Rattle.std.specs.Cmp.Lexicographic.{slice_cmp}
 use Rattle.std.specs.Cmp.{int_cmp_is}
 use Rattle.pbx_token.specs.declared.token.Span.{Span}
-use Rattle.pbx_desc.specs.declared.source.Location.{Location}
+use Rattle.pbx_desc_records.specs.declared.source.Location.{Location}
 use Rattle.pbx_tree.specs.Tree.{Settings}
 use Rattle.pbx_locations.specs.Locations.{place, part, element, numbered, settings_part}
 use Rattle.pbx_locations.specs.Ascends.{Ascends}

@@ -3,7 +3,7 @@
 -- synthetic oneofs have no location.
 use Rattle.std.specs.Prelude.{◌≡◌, ℕ, ◌+◌, ℤ, pos, List, [], ◌∷◌, ◌++◌, length, map, true, false, Option, Some, None, option_map, unwrap_or, ◌==◌, if◌then◌else◌}
 use Rattle.std.specs.List.{flat_map}
-use Rattle.pbx_desc.specs.declared.source.Location.{Location}
+use Rattle.pbx_desc_records.specs.declared.source.Location.{Location}
 use Rattle.pbx_token.specs.declared.token.Span.{Span}
 use Rattle.pbx_token.specs.Tokens.{Token}
 use Rattle.pbx_tree.specs.Tree.{Number, TypeName, Kind, scalar, named_type, Settings, Tail, Field, MapField, Member, empty_member, member, Oneof, Extension, empty_extension, extension, Extend, Value, EnumItem, enum_value, Enum, MethodEnd, method_semicolon, method_block, Method, ServiceItem, service_method, Service, Item, item_field, item_map, item_oneof, item_enum, item_extend, Head, Body, end, item, message, Syntax, Import, Top, top_package, top_import, top_message, top_enum, top_extend, top_service, File}

@@ -8,7 +8,7 @@ ghost use Rattle.pbx_locations.specs.Locations.{value_locations, value_at, item_
 use crate::field::add_settings;
 use crate::place::{add, add_block, add_part, add_token, element, next};
 use crate::tag;
-use pbx_desc::Location;
+use pbx_desc_records::Location;
 use pbx_tree::{Enum, EnumItem, Value};
 use pbx_wire::{List, NoMemory};
 use std::alloc::Global;

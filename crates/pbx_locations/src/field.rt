@@ -7,7 +7,7 @@ ghost use Rattle.pbx_locations.specs.Locations.{first_of_type, last_of_type, set
 
 use crate::place::{add, add_part, add_token, element, next};
 use crate::tag;
-use pbx_desc::Location;
+use pbx_desc_records::Location;
 use pbx_token::Span;
 use pbx_tree::{Extension, Field, Kind, MapField, Member, Settings, Tail, TypeName};
 use pbx_wire::{List, NoMemory};

@@ -17,7 +17,7 @@ use crate::message::add_message;
 use crate::place::{add, add_part, element, next};
 use crate::service::add_service;
 use crate::tag;
-use pbx_desc::Location;
+use pbx_desc_records::Location;
 use pbx_token::{Span, Token};
 use pbx_tree::{File, Syntax, Top};
 use pbx_wire::{List, NoMemory};

@@ -10,7 +10,7 @@ use crate::enumeration::add_enum;
 use crate::field::{add_extensions, add_labelled, add_map, add_members};
 use crate::place::{add_block, element, next};
 use crate::tag;
-use pbx_desc::Location;
+use pbx_desc_records::Location;
 use pbx_tree::Item;
 use pbx_wire::{List, NoMemory};
 use std::alloc::Global;

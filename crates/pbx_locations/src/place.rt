@@ -4,7 +4,7 @@ ghost use Rattle.std.specs.Prelude.{◌≡◌, ◌+◌, ◌++◌, [], ◌∷◌,
 ghost use Rattle.pbx_locations.specs.Locations.{span_of, place, part, element as element_of, block};
 
 use crate::tag::NAME;
-use pbx_desc::Location;
+use pbx_desc_records::Location;
 use pbx_token::Span;
 use pbx_wire::{List, NoMemory};
 use std::alloc::Global;

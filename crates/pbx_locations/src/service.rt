@@ -8,7 +8,7 @@ ghost use Rattle.pbx_locations.specs.Locations.{type_part, last_of_method, metho
 use crate::field::{first_of_type, last_of_type};
 use crate::place::{add, add_block, add_part, add_token, element, next};
 use crate::tag;
-use pbx_desc::Location;
+use pbx_desc_records::Location;
 use pbx_token::Span;
 use pbx_tree::{Method, MethodEnd, Service, ServiceItem, TypeName};
 use pbx_wire::{List, NoMemory};

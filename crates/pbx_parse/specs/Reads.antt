@@ -5,7 +5,7 @@ use Rattle.pbx_token.specs.Pieces.{Lexes}
 use Rattle.pbx_tree.specs.Tree.{File}
 use Rattle.pbx_tree.specs.Grammar.{file_then}
 use Rattle.pbx_tree.specs.Conditions.{Conditions}
-use Rattle.pbx_desc.specs.declared.file.FileDescriptorProto.{FileDescriptorProto}
+use Rattle.pbx_desc_records.specs.declared.file.FileDescriptorProto.{FileDescriptorProto}
 use Rattle.pbx_locations.specs.Locations.{locations_of}
 use Rattle.pbx_translation.specs.Translation.{translate_of}
 

@@ -1,7 +1,7 @@
 //! From source text to a record.
 
 ghost use Rattle.std.specs.Prelude.{◌≡◌, ◌≤◌, ℕ, List, length, IfOk, IfErr};
-ghost use Rattle.pbx_desc.specs.declared.file.FileDescriptorProto.{FileDescriptorProto as Record};
+ghost use Rattle.pbx_desc_records.specs.declared.file.FileDescriptorProto.{FileDescriptorProto as Record};
 ghost use Rattle.pbx_token.specs.View.{tokens_of};
 ghost use Rattle.pbx_tree.specs.View.{file_of};
 ghost use Rattle.pbx_locations.specs.Locations.{extent_of, locations_in};
@@ -11,7 +11,7 @@ ghost use Rattle.pbx_parse.specs.Errors.{Refuses, GivesUnlessMemory};
 
 use crate::error::ParseError;
 use crate::refusal::{of_lexing, of_reading};
-use pbx_desc::FileDescriptorProto;
+use pbx_desc_records::FileDescriptorProto;
 use pbx_locations::{Extent, file_extent, locations};
 use pbx_reader::read_file;
 use pbx_token::{Token, lex};

@@ -1,7 +1,7 @@
 -- What is counted on the way through a list.
 use Rattle.std.proofs.Common.{◌≡◌, ℕ, ◌+◌, ◌<◌, ◌≤◌, List, [], ◌∷◌, ◌++◌, length, map, drop, get_or, refl, sym, ap, ◌∙◌, add-one, drop-cons, if◌then◌else◌, pos}
 use Rattle.std.proofs.Math.ListN.{drop_of_length-le}
-use Rattle.pbx_desc.specs.declared.message.DescriptorProto.{DescriptorProto}
+use Rattle.pbx_desc_records.specs.declared.message.DescriptorProto.{DescriptorProto}
 use Rattle.pbx_tree.specs.declared.tree.Version.{Version}
 use Rattle.pbx_tree.specs.declared.tree.Modifier.{Modifier}
 use Rattle.pbx_tree.specs.Tree.{Import, Body, end}

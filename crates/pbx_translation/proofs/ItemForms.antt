@@ -3,7 +3,7 @@ use Rattle.std.proofs.Common.{◌≡◌, List, [], ◌∷◌, ◌++◌, map, ref
 use Rattle.std.specs.declared.vec.Vec.{Vec}
 use Rattle.std.specs.declared.alloc.Global.{Global}
 use Rattle.pbx_token.specs.declared.token.Span.{Span}
-use Rattle.pbx_desc.specs.declared.message.DescriptorProto.{DescriptorProto}
+use Rattle.pbx_desc_records.specs.declared.message.DescriptorProto.{DescriptorProto}
 use Rattle.pbx_tree.specs.declared.tree.Head as code_head
 use Rattle.pbx_tree.specs.declared.tree.MapField as code_map
 use Rattle.pbx_tree.specs.declared.tree.Extensions as code_extensions

@@ -5,7 +5,7 @@ use Rattle.std.specs.Str.{bytes_eq}
 use Rattle.std.proofs.lemmas.Bool.Decides.{same_from_decides}
 use Rattle.std.proofs.lemmas.List.{flat_map_more, take_more}
 use Rattle.std.proofs.lemmas.Slice.Eq.{bytes_eq-Decides}
-use Rattle.pbx_desc.specs.declared.field.OneofDescriptorProto.{OneofDescriptorProto}
+use Rattle.pbx_desc_records.specs.declared.field.OneofDescriptorProto.{OneofDescriptorProto}
 use Rattle.pbx_translation.specs.Messages.{oneof_record}
 use Rattle.pbx_translation.specs.Synthetic.{is_among, free_name, synthetic_names}
 use Rattle.pbx_translation.proofs.Counted.{rest_seen, none_seen}

@@ -1,14 +1,14 @@
 -- A service and a message by their parts.
 use Rattle.std.proofs.Common.{◌≡◌, ℕ, List, [], ◌++◌, length, map, Option, Some, sym, ap, ◌∙◌}
 use Rattle.std.specs.List.{flat_map, filter_map}
-use Rattle.pbx_desc.specs.declared.enumeration.EnumDescriptorProto.{EnumDescriptorProto}
-use Rattle.pbx_desc.specs.declared.field.FieldDescriptorProto.{FieldDescriptorProto}
-use Rattle.pbx_desc.specs.declared.field.OneofDescriptorProto.{OneofDescriptorProto}
-use Rattle.pbx_desc.specs.declared.message.DescriptorProto.{DescriptorProto, roll-DescriptorProto}
-use Rattle.pbx_desc.specs.declared.message.ExtensionRange.{ExtensionRange}
-use Rattle.pbx_desc.specs.declared.message.ReservedRange.{ReservedRange}
-use Rattle.pbx_desc.specs.declared.options.Options.{Options}
-use Rattle.pbx_desc.specs.declared.service.MethodDescriptorProto.{MethodDescriptorProto}
+use Rattle.pbx_desc_records.specs.declared.enumeration.EnumDescriptorProto.{EnumDescriptorProto}
+use Rattle.pbx_desc_records.specs.declared.field.FieldDescriptorProto.{FieldDescriptorProto}
+use Rattle.pbx_desc_records.specs.declared.field.OneofDescriptorProto.{OneofDescriptorProto}
+use Rattle.pbx_desc_records.specs.declared.message.DescriptorProto.{DescriptorProto, roll-DescriptorProto}
+use Rattle.pbx_desc_records.specs.declared.message.ExtensionRange.{ExtensionRange}
+use Rattle.pbx_desc_records.specs.declared.message.ReservedRange.{ReservedRange}
+use Rattle.pbx_desc_records.specs.declared.options.Options.{Options}
+use Rattle.pbx_desc_records.specs.declared.service.MethodDescriptorProto.{MethodDescriptorProto}
 use Rattle.pbx_wire.specs.declared.rec.Rec.{Rec}
 use Rattle.pbx_tree.specs.declared.tree.Version.{Version}
 use Rattle.pbx_tree.specs.declared.tree.Item as code_item

@@ -2,9 +2,9 @@
 use Rattle.std.specs.Prelude.{ℕ, List, [], ◌∷◌, Bool, true, false, Option, Some, None, option_map, option_and_then, ℤ, pos, if◌then◌else◌, codes}
 use Rattle.std.specs.List.{flat_map}
 use Rattle.pbx_wire.specs.declared.rec.Rec.TheVariants as rec
-use Rattle.pbx_desc.specs.declared.field.FieldDescriptorProto.{FieldDescriptorProto}
-use Rattle.pbx_desc.specs.declared.options.Options.{Options}
-use Rattle.pbx_desc.specs.declared.message.DescriptorProto.{DescriptorProto, roll-DescriptorProto}
+use Rattle.pbx_desc_records.specs.declared.field.FieldDescriptorProto.{FieldDescriptorProto}
+use Rattle.pbx_desc_records.specs.declared.options.Options.{Options}
+use Rattle.pbx_desc_records.specs.declared.message.DescriptorProto.{DescriptorProto, roll-DescriptorProto}
 use Rattle.pbx_token.specs.declared.token.Span.{Span}
 use Rattle.pbx_token.specs.Escapes.{unescaped}
 use Rattle.pbx_tree.specs.declared.tree.Scalar.{Scalar}

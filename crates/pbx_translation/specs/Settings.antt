@@ -4,7 +4,7 @@ use Rattle.std.specs.List.{flat_map, find}
 use Rattle.std.specs.Str.{bytes_eq}
 use Rattle.pbx_wire.specs.declared.rec.Rec.{Rec}
 use Rattle.pbx_wire.specs.declared.rec.Rec.TheVariants as rec
-use Rattle.pbx_desc.specs.declared.options.Options.{Options}
+use Rattle.pbx_desc_records.specs.declared.options.Options.{Options}
 use Rattle.pbx_token.specs.Escapes.{unescaped}
 use Rattle.pbx_tree.specs.declared.options.OptionPlace.{OptionPlace}
 use Rattle.pbx_tree.specs.declared.options.OptionKind.{OptionKind}

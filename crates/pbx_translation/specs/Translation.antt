@@ -1,12 +1,12 @@
 -- The descriptor record of a file's syntax tree: descriptor.proto, as the compiler of the language fills it.
 use Rattle.std.specs.Prelude.{ℕ, List, [], ◌∷◌, Bool, true, false, Option, Some, None, unwrap_or, ℤ, pos, codes, map, ◌+◌, ◌++◌, if◌then◌else◌}
 use Rattle.std.specs.List.{flat_map, filter_map}
-use Rattle.pbx_desc.specs.declared.enumeration.EnumDescriptorProto.{EnumDescriptorProto}
-use Rattle.pbx_desc.specs.declared.field.FieldDescriptorProto.{FieldDescriptorProto}
-use Rattle.pbx_desc.specs.declared.file.FileDescriptorProto.{FileDescriptorProto}
-use Rattle.pbx_desc.specs.declared.message.DescriptorProto.{DescriptorProto}
-use Rattle.pbx_desc.specs.declared.service.ServiceDescriptorProto.{ServiceDescriptorProto}
-use Rattle.pbx_desc.specs.declared.source.Location.{Location}
+use Rattle.pbx_desc_records.specs.declared.enumeration.EnumDescriptorProto.{EnumDescriptorProto}
+use Rattle.pbx_desc_records.specs.declared.field.FieldDescriptorProto.{FieldDescriptorProto}
+use Rattle.pbx_desc_records.specs.declared.file.FileDescriptorProto.{FileDescriptorProto}
+use Rattle.pbx_desc_records.specs.declared.message.DescriptorProto.{DescriptorProto}
+use Rattle.pbx_desc_records.specs.declared.service.ServiceDescriptorProto.{ServiceDescriptorProto}
+use Rattle.pbx_desc_records.specs.declared.source.Location.{Location}
 use Rattle.pbx_token.specs.declared.token.Span.{Span}
 use Rattle.pbx_tree.specs.declared.tree.Modifier.{Modifier}
 use Rattle.pbx_tree.specs.declared.tree.Modifier.TheVariants as modifiers

@@ -12,7 +12,7 @@ ghost use Rattle.pbx_translation.specs.Enums.{last_number as last_number_of, val
 use crate::passes::{Becomes, Gives, add_each, all_given};
 use crate::settings::{listed_options, options};
 use crate::texts::{signed, string_text};
-use pbx_desc::{EnumDescriptorProto, EnumReservedRange, EnumValueDescriptorProto, Options};
+use pbx_desc_records::{EnumDescriptorProto, EnumReservedRange, EnumValueDescriptorProto, Options};
 use pbx_tree::{
     Enum, EnumItem, EnumNumber, Literal, OptionPlace, Range, RangeEnd, Reserved, Value, Version,
     enum_settings,

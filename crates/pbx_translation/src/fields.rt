@@ -10,7 +10,7 @@ ghost use Rattle.pbx_translation.specs.Fields.{label_of, type_number as type_num
 
 use crate::settings::{listed_options, set_to};
 use crate::texts::{entry_name, escaped, number_text, string_text, type_text};
-use pbx_desc::{DescriptorProto, FieldDescriptorProto, Options};
+use pbx_desc_records::{DescriptorProto, FieldDescriptorProto, Options};
 use pbx_token::{Span, unescape};
 use pbx_tree::{
     Constant, Extend, Extension, Field, Kind, Label, Literal, MapField, Member, OptionPlace,

@@ -2,7 +2,7 @@
 
 ghost use Rattle.std.specs.Prelude.{◌≡◌, ◌≢◌, ◌<◌, ℕ, List as ListOf, Some, map, option_map};
 ghost use Rattle.std.specs.List.{All, AllPairs, Contains};
-ghost use Rattle.pbx_desc.specs.declared.message.DescriptorProto.{DescriptorProto};
+ghost use Rattle.pbx_desc_records.specs.declared.message.DescriptorProto.{DescriptorProto};
 ghost use Rattle.pbx_tree.specs.declared.tree.Version.{Version};
 ghost use Rattle.pbx_tree.specs.Tree.{Body};
 ghost use Rattle.pbx_translation.specs.Synthetic.{name_with, fewest_x};

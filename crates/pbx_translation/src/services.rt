@@ -12,7 +12,7 @@ ghost use Rattle.pbx_translation.specs.Services.{streaming as streaming_of, meth
 use crate::passes::{Gives, all_given};
 use crate::settings::options;
 use crate::texts::type_text;
-use pbx_desc::{MethodDescriptorProto, Options, ServiceDescriptorProto};
+use pbx_desc_records::{MethodDescriptorProto, Options, ServiceDescriptorProto};
 use pbx_token::Span;
 use pbx_tree::{
     Method, MethodEnd, OptionPlace, Service, ServiceItem, Setting, Version, method_settings,

@@ -5,7 +5,7 @@ ghost use Rattle.pbx_tree.specs.Conditions.{settings_of as some_settings_of};
 ghost use Rattle.pbx_tree.specs.View.{constant_of, setting_of, settings_of};
 ghost use Rattle.pbx_translation.specs.Settings.{truth as truth_of, constant_records, setting_records, options_of, set_to as set_to_of};
 
-use pbx_desc::Options;
+use pbx_desc_records::Options;
 use pbx_token::unescape;
 use pbx_tree::{
     Constant, KnownOption, OptionKind, OptionPlace, Setting, Settings, known_option, listed,

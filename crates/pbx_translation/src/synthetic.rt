@@ -10,7 +10,7 @@ ghost use Rattle.pbx_translation.specs.Scope.{Holds, AreTaken, BeginsWell};
 
 use crate::fields::is_proto3_optional;
 use crate::scope::{Scope, add_all_names};
-use pbx_desc::OneofDescriptorProto;
+use pbx_desc_records::OneofDescriptorProto;
 use pbx_tree::{Item, Version};
 use pbx_wire::{List, NoMemory, Text};
 use std::alloc::Global;

@@ -1,7 +1,7 @@
 use Rattle.std.proofs.Common.{◌≡◌, map, take}
-use Rattle.pbx_content.specs.declared.shape.Kind.TheVariants as kind
-use Rattle.pbx_content.specs.Content.{message}
-use Rattle.pbx_content.specs.View.{val_of}
+use Rattle.pbx_meaning.specs.declared.shape.Kind.TheVariants as kind
+use Rattle.pbx_meaning.specs.Content.{message}
+use Rattle.pbx_codec.specs.View.{val_of}
 use Rattle.pbx_desc_shape.specs.Shape.{descriptor_shape}
 use Rattle.pbx_desc.specs.Sound.{AreOf}
 use Rattle.pbx_desc.proofs.contents.record_values.Given as goal

@@ -1,7 +1,7 @@
 use Rattle.std.proofs.Common.{ap, ◌∙◌}
-use Rattle.pbx_content.specs.declared.shape.Kind.TheVariants as kind
-use Rattle.pbx_content.specs.declared.contents.Held as held
-use Rattle.pbx_content.specs.Content.{text}
+use Rattle.pbx_meaning.specs.declared.shape.Kind.TheVariants as kind
+use Rattle.pbx_codec.specs.declared.contents.Held as held
+use Rattle.pbx_meaning.specs.Content.{text}
 use Rattle.pbx_desc_shape.specs.Shape.{descriptor_shape}
 use Rattle.pbx_desc.proofs.Told.{val_of-Text, values_more, are_more, same_utf8}
 use Rattle.pbx_desc.proofs.contents.text_values.Goals as goal

@@ -1,8 +1,8 @@
 use Rattle.std.proofs.Common.{◌≡◌, ◌++◌, map, take}
 use Rattle.pbx_wire.specs.Text.{text_of}
-use Rattle.pbx_content.specs.declared.shape.Kind.TheVariants as kind
-use Rattle.pbx_content.specs.Content.{message}
-use Rattle.pbx_content.specs.Encoding.{payload, content_recs}
+use Rattle.pbx_meaning.specs.declared.shape.Kind.TheVariants as kind
+use Rattle.pbx_meaning.specs.Content.{message}
+use Rattle.pbx_meaning.specs.Encoding.{payload, content_recs}
 use Rattle.pbx_desc_shape.specs.Shape.{descriptor_shape}
 use Rattle.pbx_desc.specs.Sound.{AreOf}
 use Rattle.pbx_desc.proofs.parts.put_records.Given as goal

@@ -3,7 +3,7 @@ use Rattle.pbx_token.specs.View.{tokens_of, FailsNot as lexed}
 use Rattle.pbx_tree.specs.View.{file_of}
 use Rattle.pbx_reader.specs.View.{FailsNot as spelled}
 use Rattle.pbx_tree.specs.Tree.{File}
-use Rattle.pbx_desc.specs.declared.file.FileDescriptorProto.{FileDescriptorProto}
+use Rattle.pbx_desc_records.specs.declared.file.FileDescriptorProto.{FileDescriptorProto}
 use Rattle.pbx_locations.specs.declared.file.Extent.{Extent}
 use Rattle.pbx_locations.specs.Locations.{extent_of, locations_in}
 use Rattle.pbx_translation.specs.Translation.{translate_of}

@@ -1,9 +1,9 @@
 use Rattle.std.proofs.Common.{◌≡◌, ◌∙◌, ℕ, [], List, map, Option, Some, ap}
 use Rattle.std.specs.List.{flat_map, filter_map}
-use Rattle.pbx_desc.specs.declared.enumeration.EnumDescriptorProto.{EnumDescriptorProto}
-use Rattle.pbx_desc.specs.declared.enumeration.EnumReservedRange.{EnumReservedRange}
-use Rattle.pbx_desc.specs.declared.enumeration.EnumValueDescriptorProto.{EnumValueDescriptorProto}
-use Rattle.pbx_desc.specs.declared.options.Options.{Options}
+use Rattle.pbx_desc_records.specs.declared.enumeration.EnumDescriptorProto.{EnumDescriptorProto}
+use Rattle.pbx_desc_records.specs.declared.enumeration.EnumReservedRange.{EnumReservedRange}
+use Rattle.pbx_desc_records.specs.declared.enumeration.EnumValueDescriptorProto.{EnumValueDescriptorProto}
+use Rattle.pbx_desc_records.specs.declared.options.Options.{Options}
 use Rattle.pbx_wire.specs.declared.rec.Rec.{Rec}
 use Rattle.pbx_tree.specs.declared.options.OptionPlace.TheVariants as places
 use Rattle.pbx_tree.specs.Conditions.{enum_setting}

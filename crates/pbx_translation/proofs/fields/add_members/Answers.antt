@@ -1,5 +1,5 @@
 use Rattle.std.proofs.Common.{◌∙◌, ◌++◌, ℕ, List, ap}
-use Rattle.pbx_desc.specs.declared.field.FieldDescriptorProto.{FieldDescriptorProto}
+use Rattle.pbx_desc_records.specs.declared.field.FieldDescriptorProto.{FieldDescriptorProto}
 use Rattle.pbx_tree.specs.declared.tree.Member.{Member}
 use Rattle.pbx_tree.specs.View.{member_of}
 use Rattle.pbx_translation.specs.Fields.{member_records}

@@ -1,5 +1,5 @@
 use Rattle.std.proofs.Common.{◌≡◌, ◌++◌, List, OnOk, subst, sym, ap, ◌∙◌}
-use Rattle.pbx_desc.specs.declared.message.ReservedRange.{ReservedRange}
+use Rattle.pbx_desc_records.specs.declared.message.ReservedRange.{ReservedRange}
 use Rattle.pbx_tree.specs.declared.tree.RangeNumber.{RangeNumber}
 use Rattle.pbx_tree.specs.declared.tree.Reserved.{Reserved}
 use Rattle.pbx_tree.specs.View.{range_of, range_number_of, reserved_of}

@@ -1,6 +1,6 @@
-use Rattle.std.proofs.Common.{map, refl}
-use Rattle.pbx_content.specs.declared.shape.Cardinality.TheVariants.{Repeated}
-use Rattle.pbx_content.specs.View.{val_of}
+use Rattle.std.proofs.Common.{[], map, refl}
+use Rattle.pbx_meaning.specs.declared.shape.Cardinality.TheVariants.{Repeated}
+use Rattle.pbx_codec.specs.View.{val_of}
 use Rattle.pbx_desc.proofs.Built.{put_list, put_nothing}
 use Rattle.pbx_desc.proofs.contents.FieldList.list.Goals as goal
 
@@ -10,4 +10,4 @@ returns-in_ok-add c k all =
     (put_list k c.args.number c.args.values (map val_of c.args.values) c.args.self.now.list refl all (λ e. let h = c.if-not-is_empty.ensures.1 e in absurd cc))
 
 pub returns-else-not-is_empty : goal.returns-else-not-is_empty
-returns-else-not-is_empty c k all = rw (c.if-not-is_empty.ensures.0 refl) (put_nothing Repeated k c.args.number c.args.self.now.list)
+returns-else-not-is_empty c k all = rw (c.if-not-is_empty.ensures.0 refl) (put_nothing Repeated k c.args.number c.args.self.now.list ([], refl, tt))

@@ -1,9 +1,9 @@
 use Rattle.std.proofs.Common.{◌≡◌, ap, ◌∙◌, to_z, of_z, rules, subst}
 use Rattle.std.specs.Int.{w32}
 use Rattle.std.specs.Int.RustNames.{FitsSigned}
-use Rattle.pbx_content.specs.declared.shape.Cardinality.TheVariants.{Singular}
-use Rattle.pbx_content.specs.declared.shape.Kind.TheVariants as kind
-use Rattle.pbx_content.specs.Content.{number}
+use Rattle.pbx_meaning.specs.declared.shape.Cardinality.TheVariants.{Singular}
+use Rattle.pbx_meaning.specs.declared.shape.Kind.TheVariants as kind
+use Rattle.pbx_meaning.specs.Content.{number}
 use Rattle.pbx_desc.proofs.Built.{put_value, put_nothing}
 use Rattle.pbx_desc.proofs.contents.FieldList.number.Goals as goal
 
@@ -14,4 +14,4 @@ returns-in_ok-add c =
     (put_value Singular kind.Int32 c.args.number c.number_value.result (number c.in-Some.value) c.args.self.now.list (c.number_value.ensures.value ∙ ap number same) (subst (FitsSigned w32) same c.number_value.ensures.fits))
 
 pub returns-in_default : goal.returns-in_default
-returns-in_default c = rw c.in_default.is (put_nothing Singular kind.Int32 c.args.number c.args.self.now.list)
+returns-in_default c = rw c.in_default.is (put_nothing Singular kind.Int32 c.args.number c.args.self.now.list tt)

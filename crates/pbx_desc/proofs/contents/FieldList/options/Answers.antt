@@ -1,8 +1,8 @@
 use Rattle.std.proofs.Common.{[], refl, ap, ◌∙◌}
-use Rattle.pbx_content.specs.declared.contents.Held as held
-use Rattle.pbx_content.specs.declared.shape.Cardinality.TheVariants.{Singular}
-use Rattle.pbx_content.specs.declared.shape.Kind.TheVariants as kind
-use Rattle.pbx_content.specs.Content.{message}
+use Rattle.pbx_codec.specs.declared.contents.Held as held
+use Rattle.pbx_meaning.specs.declared.shape.Cardinality.TheVariants.{Singular}
+use Rattle.pbx_meaning.specs.declared.shape.Kind.TheVariants as kind
+use Rattle.pbx_meaning.specs.Content.{message}
 use Rattle.pbx_desc.specs.Content.{options_content}
 use Rattle.pbx_desc.proofs.Built.{put_value, put_nothing, start, made}
 use Rattle.pbx_desc.proofs.Told.{val_of-Message}
@@ -17,4 +17,4 @@ returns-in_ok-add c t type =
     (put_value Singular (kind.Message t) c.args.number (held.Message contents) (message (options_content options)) c.args.self.now.list (val_of-Message contents ∙ ap message holds.content) holds.sound)
 
 pub returns-in_default : goal.returns-in_default
-returns-in_default c t type = rw c.in_default.is (put_nothing Singular (kind.Message t) c.args.number c.args.self.now.list)
+returns-in_default c t type = rw c.in_default.is (put_nothing Singular (kind.Message t) c.args.number c.args.self.now.list tt)

@@ -1,8 +1,8 @@
-use Rattle.pbx_content.specs.declared.shape.Cardinality.TheVariants.{Singular}
-use Rattle.pbx_content.specs.declared.shape.Kind.TheVariants as kind
-use Rattle.pbx_content.specs.declared.contents.Held as held
+use Rattle.pbx_meaning.specs.declared.shape.Cardinality.TheVariants.{Singular}
+use Rattle.pbx_meaning.specs.declared.shape.Kind.TheVariants as kind
+use Rattle.pbx_codec.specs.declared.contents.Held as held
 use Rattle.std.proofs.Common.{ap, ◌∙◌}
-use Rattle.pbx_content.specs.Content.{message}
+use Rattle.pbx_meaning.specs.Content.{message}
 use Rattle.pbx_desc.proofs.Built.{put_value, put_nothing}
 use Rattle.pbx_desc.proofs.Told.{val_of-Message}
 use Rattle.pbx_desc.proofs.contents.FieldList.record.Goals as goal
@@ -14,4 +14,4 @@ returns-in_ok-add g c =
     (put_value Singular (kind.Message _) c.args.number (held.Message contents) (message _) c.args.self.now.list (val_of-Message contents ∙ ap message c.in_ok-contents.ensures.content) c.in_ok-contents.ensures.sound)
 
 pub returns-in_default : goal.returns-in_default
-returns-in_default g c = rw c.in_default.is (put_nothing Singular (kind.Message _) c.args.number c.args.self.now.list)
+returns-in_default g c = rw c.in_default.is (put_nothing Singular (kind.Message _) c.args.number c.args.self.now.list tt)

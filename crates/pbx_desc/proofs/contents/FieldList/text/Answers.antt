@@ -1,8 +1,8 @@
 use Rattle.std.proofs.Common.{ap, ◌∙◌}
-use Rattle.pbx_content.specs.declared.shape.Cardinality.TheVariants.{Singular}
-use Rattle.pbx_content.specs.declared.shape.Kind.TheVariants as kind
-use Rattle.pbx_content.specs.declared.contents.Held as held
-use Rattle.pbx_content.specs.Content.{text}
+use Rattle.pbx_meaning.specs.declared.shape.Cardinality.TheVariants.{Singular}
+use Rattle.pbx_meaning.specs.declared.shape.Kind.TheVariants as kind
+use Rattle.pbx_codec.specs.declared.contents.Held as held
+use Rattle.pbx_meaning.specs.Content.{text}
 use Rattle.pbx_desc.proofs.Built.{put_value, put_nothing}
 use Rattle.pbx_desc.proofs.Told.{val_of-Text, same_utf8}
 use Rattle.pbx_desc.proofs.contents.FieldList.text.Goals as goal
@@ -14,4 +14,4 @@ returns-in_ok-add c =
     (same_utf8 _ _ c.as_str.ensures c.as_str.utf8))
 
 pub returns-in_default : goal.returns-in_default
-returns-in_default c = rw c.in_default.is (put_nothing Singular kind.String c.args.number c.args.self.now.list)
+returns-in_default c = rw c.in_default.is (put_nothing Singular kind.String c.args.number c.args.self.now.list tt)

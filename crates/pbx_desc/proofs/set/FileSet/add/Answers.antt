@@ -1,4 +1,4 @@
-use Rattle.pbx_content.specs.declared.shape.Kind.TheVariants as kind
+use Rattle.pbx_meaning.specs.declared.shape.Kind.TheVariants as kind
 use Rattle.pbx_desc_shape.specs.Shape.{descriptor_shape}
 use Rattle.pbx_desc.specs.Content.{file_content}
 use Rattle.pbx_desc.proofs.Told.{message_pushed, are_pushed_message}

@@ -2,20 +2,20 @@ use Rattle.std.proofs.Common.{◌≡◌, ◌≤◌, true, List, [], ◌∷◌, m
 use Rattle.std.specs.List.{filter}
 use Rattle.pbx_wire.specs.Text.{are_fit}
 use Rattle.pbx_wire.specs.declared.rec.Rec.{Rec}
-use Rattle.pbx_content.specs.declared.contents.Contents.{Contents}
-use Rattle.pbx_content.specs.declared.contents.Field.{Field}
-use Rattle.pbx_content.specs.declared.contents.Held.{Held}
-use Rattle.pbx_content.specs.declared.shape.Cardinality.TheVariants.{Repeated}
-use Rattle.pbx_content.specs.declared.shape.Kind.{Kind}
-use Rattle.pbx_content.specs.declared.shape.Kind.TheVariants as kind
-use Rattle.pbx_content.specs.Content.{content}
-use Rattle.pbx_content.specs.Same.{Decodes}
-use Rattle.pbx_content.specs.Sound.{depth}
-use Rattle.pbx_content.specs.View.{content_of, val_of}
+use Rattle.pbx_codec.specs.declared.contents.Contents.{Contents}
+use Rattle.pbx_codec.specs.declared.contents.Field.{Field}
+use Rattle.pbx_codec.specs.declared.contents.Held.{Held}
+use Rattle.pbx_meaning.specs.declared.shape.Cardinality.TheVariants.{Repeated}
+use Rattle.pbx_meaning.specs.declared.shape.Kind.{Kind}
+use Rattle.pbx_meaning.specs.declared.shape.Kind.TheVariants as kind
+use Rattle.pbx_meaning.specs.Content.{content}
+use Rattle.pbx_meaning.specs.Same.{Decodes, DecodesParts}
+use Rattle.pbx_meaning.specs.Sound.{IsSound, depth, PartsFit}
+use Rattle.pbx_codec.specs.View.{content_of, val_of}
 use Rattle.pbx_desc_shape.specs.Shape.{descriptor_shape, set_fields}
 use Rattle.pbx_desc.specs.Building.{entries, Puts, Holds}
 use Rattle.pbx_desc.specs.Content.{listed, record_content, set_content}
-use Rattle.pbx_desc.specs.Sound.{IsSoundIfShort, AreOf}
+use Rattle.pbx_desc.specs.Sound.{AreOf}
 use Rattle.pbx_desc.specs.Unknown.{is_writable_beside}
 use Rattle.pbx_desc.proofs.Built.{start, next, made}
 use Rattle.pbx_desc.proofs.Told.{if_ok}
@@ -43,5 +43,14 @@ returns-clause-decodes c =
     let holds = set_made c.self.inside.files c.new-fields.result.list c.list.new.self.list c.new.result c.in_ok-contents.contents c.new-fields.ensures c.new.ensures c.self.invariant c.in_ok-list.ensures c.in_ok-contents.ensures.content
     c.in_ok-contents.ensures.fit in
     rw (← c.self.view_is)
-    (if_ok (λ v. IsSoundIfShort descriptor_shape 0 set → depth set ≤ 100 → Decodes descriptor_shape 0 v.items set) (λ v. depth set ≤ 100 → Decodes descriptor_shape 0 v.items set) c.to_bytes.result (λ v h. h holds.sound)
+    (if_ok (λ v. IsSound descriptor_shape 0 set → depth set ≤ 100 → Decodes descriptor_shape 0 v.items set) (λ v. depth set ≤ 100 → Decodes descriptor_shape 0 v.items set) c.to_bytes.result (λ v h. h holds.sound)
     (rw holds.content at c.to_bytes.ensures.decodes))
+
+pub returns-clause-parts : goal.returns-clause-parts
+returns-clause-parts c =
+    let set = set_content (map val_of c.self.inside.files) in
+    let holds = set_made c.self.inside.files c.new-fields.result.list c.list.new.self.list c.new.result c.in_ok-contents.contents c.new-fields.ensures c.new.ensures c.self.invariant c.in_ok-list.ensures c.in_ok-contents.ensures.content
+    c.in_ok-contents.ensures.fit in
+    rw (← c.self.view_is)
+    (if_ok (λ v. IsSound descriptor_shape 0 set → PartsFit set → DecodesParts descriptor_shape 0 v.items set) (λ v. PartsFit set → DecodesParts descriptor_shape 0 v.items set) c.to_bytes.result (λ v h. h holds.sound)
+    (rw holds.content at c.to_bytes.ensures.parts))

@@ -1,5 +1,5 @@
 use Rattle.std.proofs.Common.{◌≡◌, ◌++◌, List, OnOk, subst}
-use Rattle.pbx_desc.specs.declared.message.ExtensionRange.{ExtensionRange}
+use Rattle.pbx_desc_records.specs.declared.message.ExtensionRange.{ExtensionRange}
 use Rattle.pbx_translation.proofs.ItemForms.{extension_ranges_seen}
 use Rattle.pbx_translation.proofs.messages.ItemGivesExtensionRange.give.Goals as goal
 

@@ -4,12 +4,12 @@ use Rattle.pbx_desc.specs.Content.{source_code_info_values}
 use Rattle.pbx_desc.proofs.Behind.{begin, anew, written, closed}
 use Rattle.pbx_desc.proofs.Told.{on_both}
 use Rattle.pbx_desc.proofs.Types.{source_code_info_type}
-use Rattle.pbx_desc.proofs.source.SourceCodeInfo.write.Goals as goal
+use Rattle.pbx_desc.proofs.source.write_source.Goals as goal
 
 pub returns : goal.returns
 returns c =
-    let r = c.args.self.now in
+    let r = c.args.source.now in
     let first = c.args.out.now.items in
     let start = begin 12 source_code_info_fields (source_code_info_values r) r.unknown first source_code_info_type refl in
-    let location = anew c.new-none.result.list (written start c.in_ok-put_records.ensures refl refl refl refl refl) c.new-none.ensures in
-    on_both c.put_fields.result (closed r.unknown first c.new-none.result.list c.args.shape.now c.put_fields.new.out.items location source_code_info_type refl c.requires) c.put_fields.ensures.text c.put_fields.ensures.fit
+    let location = anew c.new-none.result.list (written start c.in_ok-put_records.ensures refl refl refl refl refl refl) c.new-none.ensures in
+    on_both c.put_fields.result (closed r.unknown first c.new-none.result.list c.args.schema.now c.put_fields.new.out.items location source_code_info_type refl c.requires) c.put_fields.ensures.text c.put_fields.ensures.fit

@@ -1,9 +1,8 @@
 -- What records of options say.
 use Rattle.std.specs.Prelude.{ℕ, List, Bool, not, ◌==◌, Option, Some, None, if◌then◌else◌}
-use Rattle.std.specs.List.{filter_map}
+use Rattle.std.specs.List.{filter_map, last_or}
 use Rattle.pbx_wire.specs.declared.rec.Rec.{Rec}
 use Rattle.pbx_wire.specs.declared.rec.Rec.{Varint, Fixed64, Bytes, Group', Fixed32}
-use Rattle.pbx_content.specs.Records.{last_of}
 
 -- a varint record of the number as a truth value: any number but 0 is true (Protocol Buffers "Language Guide (proto 3)": Updating A Message Type)
 abbrev pub truth_at : ℕ → Rec → Option Bool
@@ -15,4 +14,4 @@ truth_at n (Fixed32 m v) = None
 
 -- the last varint record of the number as a truth value (Protocol Buffers "Encoding": Last One Wins)
 abbrev pub bool_of : ℕ → List Rec → Option Bool
-bool_of n rs = last_of (filter_map (truth_at n) rs)
+bool_of n rs = last_or None (filter_map (truth_at n) rs)

@@ -1,0 +1,20 @@
+-- Sets of files, which are read file by file: each file has 100 levels of its own.
+use Rattle.std.specs.Prelude.{ℕ, List, Option}
+use Rattle.pbx_wire.specs.declared.error.DecodeError.{DecodeError}
+use Rattle.pbx_meaning.specs.Content.{Content}
+use Rattle.pbx_meaning.specs.Meaning.{parts_meaning_of}
+use Rattle.pbx_meaning.specs.Same.{DecodesParts}
+use Rattle.pbx_meaning.specs.Faults.{IsFaultOfParts}
+use Rattle.pbx_desc_shape.specs.Shape.{descriptor_shape}
+
+-- what bytes mean as a FileDescriptorSet
+abbrev pub set_meaning_of : List ℕ → Option Content
+set_meaning_of bytes = parts_meaning_of descriptor_shape 0 bytes
+
+-- the bytes decode to the content of a FileDescriptorSet
+abbrev pub DecodesSet : List ℕ → Content → Type 0
+DecodesSet bytes c = DecodesParts descriptor_shape 0 bytes c
+
+-- the rule that the bytes break as a FileDescriptorSet, and the offset of the key of the innermost record that breaks it
+abbrev pub IsSetFault : List ℕ → DecodeError → Type 0
+IsSetFault bytes e = IsFaultOfParts descriptor_shape 0 bytes e
