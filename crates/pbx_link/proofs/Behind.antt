@@ -1,9 +1,10 @@
 -- What the rules on names and imports give of a file of a pool.
 use Rattle.std.proofs.Common.{◌≡◌, ◌∙◌, ℕ, ◌+◌, ◌&&◌, not, List, [], ◌∷◌, ◌++◌, Bool, true, false, Option, Some, None, if◌then◌else◌, append_assoc, append-nil, pos, refl, ap, sym}
 use Rattle.std.specs.List.{list_all, cons_option}
-use Rattle.pbx_desc.specs.declared.file.FileDescriptorProto.{FileDescriptorProto}
+use Rattle.pbx_desc_records.specs.declared.file.FileDescriptorProto.{FileDescriptorProto}
 use Rattle.pbx_link.specs.Linked.{linked}
-use Rattle.pbx_link.specs.Rules.{Place, has_file, file_twice, missing_imports, bad_file_name, bad_names, is_none, keeps_rules}
+use Rattle.pbx_link.specs.Definitions.{Place}
+use Rattle.pbx_link.specs.Rules.{has_file, file_twice, missing_imports, bad_file_name, bad_names, is_none, keeps_rules}
 use Rattle.pbx_link.specs.Pool.{ArePooled}
 use Rattle.pbx_link.specs.Laws.{StandsBehind}
 use Rattle.pbx_link.proofs.Searched.{places_from}

@@ -3,7 +3,10 @@ pub mod Searched
 pub mod Seen
 pub mod Pooled
 pub mod LookedUp
-pub mod Inserted
+mod Rows
+mod MapRow
+pub mod Around
+pub mod Flat
 pub mod Proper
 pub mod Behind
 pub mod Shallow

@@ -1,15 +1,17 @@
 -- A pool with one more record: linking changes nothing that a rule looks at.
-use Rattle.std.proofs.Common.{◌≡◌, ◌∙◌, ℕ, ◌+◌, ◌&&◌, ◌||◌, ◌==◌, not, List, [], ◌∷◌, ◌++◌, map, take, Bool, true, false, append_assoc, append-nil, refl, ap, sym, if◌then◌else◌, pos, codes}
+use Rattle.std.proofs.Common.{◌≡◌, ◌∙◌, ℕ, ◌+◌, ◌&&◌, ◌||◌, ◌==◌, not, List, [], ◌∷◌, ◌++◌, map, take, Bool, true, false, append_assoc, append-nil, refl, ap, sym, if◌then◌else◌, pos}
 use Rattle.std.specs.List.{list_any, list_all, flat_map, enumerate_from}
 use Rattle.std.proofs.lemmas.List.Folds.{list_all-append}
-use Rattle.pbx_desc.specs.declared.field.FieldDescriptorProto.{FieldDescriptorProto}
-use Rattle.pbx_desc.specs.declared.message.DescriptorProto.{DescriptorProto, out-DescriptorProto, roll-DescriptorProto, out-roll-DescriptorProto}
-use Rattle.pbx_desc.specs.declared.message.DescriptorProto.TheOpen.{DescriptorProto-F}
-use Rattle.pbx_desc.specs.declared.file.FileDescriptorProto.{FileDescriptorProto}
-use Rattle.pbx_link.specs.Shapes.{text_or_empty, own_name, own_fields, number_or_zero}
+use Rattle.pbx_desc_records.specs.declared.field.FieldDescriptorProto.{FieldDescriptorProto}
+use Rattle.pbx_desc_records.specs.declared.message.DescriptorProto.{DescriptorProto, out-DescriptorProto, roll-DescriptorProto, out-roll-DescriptorProto}
+use Rattle.pbx_desc_records.specs.declared.message.DescriptorProto.TheOpen.{DescriptorProto-F}
+use Rattle.pbx_desc_records.specs.declared.file.FileDescriptorProto.{FileDescriptorProto}
+use Rattle.pbx_link.specs.Names.{text_or_empty}
+use Rattle.pbx_link.specs.Says.{own_name, own_fields, number_or_zero, is_proto3}
 use Rattle.pbx_link.specs.Linked.{linked, linked_field, linked_message}
-use Rattle.pbx_link.specs.Built.{has_only_fields, is_plain_field, is_plain_message, is_plain, is_plain_source, has_only_messages, is_built_message, is_built}
-use Rattle.pbx_link.specs.Rules.{Place, is_named, among, is_ident, is_field_number, field_names, field_numbers, message_names, pool_names, places_where, in_messages, file_twice, missing_imports, bad_file_name, bad_names_in, bad_names, names_twice_in, names_twice, bad_numbers_in, bad_numbers, is_none, keeps_rules}
+use Rattle.pbx_link.specs.Built.{has_only_fields, is_plain_field, is_plain_message, is_plain, is_plain_source, has_only_messages, is_simple_field, is_simple_message, is_simple, is_built_field, is_built_message, is_built}
+use Rattle.pbx_link.specs.Definitions.{Place}
+use Rattle.pbx_link.specs.Rules.{among, is_ident, is_field_number, field_names, field_numbers, message_names, pool_names, places_where, in_messages, file_twice, missing_imports, bad_file_name, bad_names_in, bad_names, names_twice_in, names_twice, bad_numbers_in, bad_numbers, is_none, keeps_rules}
 use Rattle.pbx_link.specs.Pool.{is_linkable, ArePooled, IsPool}
 
 -- ---- the parts of a linked message
@@ -135,7 +137,35 @@ plain_linked : (f : FileDescriptorProto) → is_plain (linked f) ≡ is_plain f
 plain_linked f = ap (λ b. has_only_messages f && is_plain_source f.source_code_info && b) (plain_messages f.message_type)
 
 built_is_plain : (f : FileDescriptorProto) → is_built f ≡ true → is_plain f ≡ true
-built_is_plain f h = second (is_named f.syntax (codes "proto3")) (is_plain f) (first _ (list_all is_built_message f.message_type) h)
+built_is_plain f h = second (is_proto3 f) (is_plain f) (first _ (list_all is_built_message f.message_type) h)
+
+-- ---- a built record is simple, and so is the linked one
+
+simple_fields : (fs : List FieldDescriptorProto) → list_all is_simple_field (map linked_field fs) ≡ list_all is_simple_field fs
+simple_fields [] = refl
+simple_fields (f ∷ fs) = ap (λ b. is_simple_field f && b) (simple_fields fs)
+
+simple_message : (m : DescriptorProto) → is_simple_message (linked_message m) ≡ is_simple_message m
+simple_message m = ap (list_all is_simple_field) (linked_fields_of m) ∙ simple_fields (own_fields m)
+
+simple_messages : (ms : List DescriptorProto) → list_all is_simple_message (map linked_message ms) ≡ list_all is_simple_message ms
+simple_messages [] = refl
+simple_messages (m ∷ ms) = ap (λ b. b && list_all is_simple_message (map linked_message ms)) (simple_message m) ∙ ap (λ b. is_simple_message m && b) (simple_messages ms)
+
+simple_linked : (f : FileDescriptorProto) → is_simple (linked f) ≡ is_simple f
+simple_linked f = ap (λ b. is_proto3 f && b) (simple_messages f.message_type)
+
+built_fields : (fs : List FieldDescriptorProto) → list_all is_built_field fs ≡ true → list_all is_simple_field fs ≡ true
+built_fields [] h = refl
+built_fields (f ∷ fs) h = also (is_simple_field f) _ (first (is_simple_field f) _ (first (is_built_field f) _ h)) (built_fields fs (second (is_built_field f) _ h))
+
+built_messages : (ms : List DescriptorProto) → list_all is_built_message ms ≡ true → list_all is_simple_message ms ≡ true
+built_messages [] h = refl
+built_messages (m ∷ ms) h = also (is_simple_message m) _ (built_fields (own_fields m) (first (is_built_message m) _ h)) (built_messages ms (second (is_built_message m) _ h))
+
+built_is_simple : (f : FileDescriptorProto) → is_built f ≡ true → is_simple f ≡ true
+built_is_simple f h =
+    also (is_proto3 f) _ (first (is_proto3 f) (is_plain f) (first _ (list_all is_built_message f.message_type) h)) (built_messages f.message_type (second (is_proto3 f && is_plain f) _ h))
 
 -- ---- pools
 
@@ -150,10 +180,11 @@ pooled_push before (g ∷ fs) f h k l =
     (h.0, h.1, pooled_push (before ++ g ∷ []) fs f h.2 (ap (λ all. keeps_rules all f) (append_assoc before (g ∷ []) fs) ∙ k) l)
 
 pub pool_none : IsPool []
-pool_none = record { pooled = pooled_none []; plain = refl }
+pool_none = record { pooled = pooled_none []; plain = refl; simple = refl }
 
 pub pool_more : (files : List FileDescriptorProto) (f : FileDescriptorProto) → IsPool files → is_linkable files f ≡ true → IsPool (files ++ linked f ∷ [])
 pool_more files f h k = record {
   pooled = pooled_push [] files (linked f) h.pooled (same_rules files f ∙ second (is_built f) _ k) (linked_again f);
   plain = list_all-append is_plain files (linked f ∷ []) ∙ also _ (is_plain (linked f) && true) h.plain (also (is_plain (linked f)) true (plain_linked f ∙ built_is_plain f (first (is_built f) _ k)) refl);
+  simple = list_all-append is_simple files (linked f ∷ []) ∙ also _ (is_simple (linked f) && true) h.simple (also (is_simple (linked f)) true (simple_linked f ∙ built_is_simple f (first (is_built f) _ k)) refl);
 }

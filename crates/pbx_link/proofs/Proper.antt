@@ -1,64 +1,31 @@
--- What the rule on numbers gives of the shape of a pool: the fields of each type ascend by number.
-use Rattle.std.proofs.Common.{◌≡◌, ◌∙◌, ℕ, zero, suc, ◌+◌, ◌<◌, ◌≤◌, ◌==◌, nat_lt, nat_le, ◌&&◌, ◌||◌, not, List, [], ◌∷◌, ◌++◌, map, take, length, Bool, true, false, Some, None, append_assoc, if◌then◌else◌, refl, ap, sym, arith}
-use Rattle.std.specs.List.{list_any, fold, flat_map, cons_option}
+-- What the rule on numbers gives of the shape of a pool: it is proper.
+use Rattle.std.proofs.Common.{◌≡◌, ◌∙◌, ℕ, zero, suc, ◌+◌, ◌==◌, ◌&&◌, ◌||◌, not, List, [], ◌∷◌, ◌++◌, map, take, length, Bool, true, false, Some, None, append_assoc, if◌then◌else◌, refl, ap, sym, subst, arith}
+use Rattle.std.specs.List.{AllByRecursion, IsDistinct, list_any, list_all, flat_map, cons_option}
 use Rattle.std.proofs.lemmas.Bool.Decides.{nat_tests}
 use Rattle.std.proofs.lemmas.List.{length-append}
 use Rattle.std.proofs.lemmas.List.Folds.{list_any-append}
-use Rattle.pbx_wire.specs.Text.{is_number}
-use Rattle.pbx_content.specs.Shape.{fields_at}
-use Rattle.pbx_content.specs.Sound.{AreAbove, IsProper}
-use Rattle.pbx_content.specs.declared.shape.FieldShape.{FieldShape}
-use Rattle.pbx_desc.specs.declared.field.FieldDescriptorProto.{FieldDescriptorProto}
-use Rattle.pbx_desc.specs.declared.message.DescriptorProto.{DescriptorProto}
-use Rattle.pbx_desc.specs.declared.file.FileDescriptorProto.{FileDescriptorProto}
-use Rattle.pbx_link.specs.Shapes.{own_fields, number_or_zero, field_shape, has_up_to, inserted, message_shape, shape_of}
-use Rattle.pbx_link.specs.Rules.{Place, is_field_number, field_numbers, file_twice, missing_imports, bad_names, names_twice, bad_numbers_in, bad_numbers, is_none, keeps_rules}
+use Rattle.pbx_wire.specs.Text.{is_record_number}
+use Rattle.pbx_meaning.specs.Shape.{declared_at}
+use Rattle.pbx_meaning.specs.Sound.{has_good_keys, IsProper, IsRefused}
+use Rattle.pbx_meaning.specs.declared.shape.FieldShape.{FieldShape}
+use Rattle.pbx_meaning.specs.declared.shape.Shape.{Shape}
+use Rattle.pbx_meaning.specs.declared.shape.SchemaError.{SchemaError}
+use Rattle.pbx_meaning.specs.declared.shape.SchemaError.TheVariants.{Improper}
+use Rattle.pbx_meaning.proofs.SchemaTypes.{HasProperFields, proper_at, no_enums}
+use Rattle.pbx_desc_records.specs.declared.field.FieldDescriptorProto.{FieldDescriptorProto}
+use Rattle.pbx_desc_records.specs.declared.message.DescriptorProto.{DescriptorProto}
+use Rattle.pbx_desc_records.specs.declared.file.FileDescriptorProto.{FileDescriptorProto}
+use Rattle.pbx_link.specs.Says.{own_fields, number_or_zero}
+use Rattle.pbx_link.specs.Own.{has_no_extension}
+use Rattle.pbx_link.specs.Flat.{flat_field, flat_message, flat_shape}
+use Rattle.pbx_link.specs.Definitions.{Place}
+use Rattle.pbx_link.specs.Rules.{is_field_number, field_numbers, file_twice, missing_imports, bad_names, names_twice, bad_numbers_in, bad_numbers, is_none, keeps_rules}
 use Rattle.pbx_link.specs.Pool.{ArePooled}
 use Rattle.pbx_link.proofs.Searched.{places_from, messages_from}
 
 both : (a b : Bool) → (a && b) ≡ true → (a ≡ true) × (b ≡ true)
 both true b h = (refl, h)
 both false b h = absurd (cc)
-
--- ---- a new number goes in at its place
-
-abbrev has_number : ℕ → List FieldShape → Bool
-has_number n fs = list_any (λ g. g.number == n) fs
-
-above_test : (m k : ℕ) (gs : List FieldShape) → AreAbove m gs → has_up_to k gs ≡ true → m < k
-above_test m k [] a h = absurd (cc)
-above_test m k (g ∷ gs) a h = at (nat_le g.number k) refl h (above_test g.number k gs a.2)
-  where
-    at : (b : Bool) → nat_le g.number k ≡ b → (b || has_up_to k gs) ≡ true → (has_up_to k gs ≡ true → g.number < k) → m < k
-    at true q r ih = let le : g.number ≤ k = grind (arith, nat_tests, q) in omega (arith, a.0, le)
-    at false q r ih = let later : g.number < k = ih r in omega (arith, a.0, later)
-
-above_inserted : (n : ℕ) (f : FieldShape) (gs : List FieldShape) → AreAbove n gs → n < f.number → is_number f.number ≡ true → has_number f.number gs ≡ false → AreAbove n (inserted f gs)
-above_inserted n f [] a lt num new = (lt, num, tt)
-above_inserted n f (g ∷ gs) a lt num new = at (nat_le g.number f.number) refl (has_up_to f.number gs) refl (g.number == f.number) refl new (above_inserted g.number f gs a.2)
-  where
-    at : (b : Bool) → nat_le g.number f.number ≡ b → (c : Bool) → has_up_to f.number gs ≡ c → (e : Bool) → (g.number == f.number) ≡ e → (e || has_number f.number gs) ≡ false
-        → (g.number < f.number → is_number f.number ≡ true → has_number f.number gs ≡ false → AreAbove g.number (inserted f gs))
-        → AreAbove n (if b || c then g ∷ inserted f gs else f ∷ g ∷ gs)
-    at b p c q true r k ih = absurd (cc)
-    at true p c q false r k ih = (a.0, a.1, ih (grind (arith, nat_tests, p, r)) num k)
-    at false p true q false r k ih = (a.0, a.1, ih (above_test g.number f.number gs a.2 q) num k)
-    at false p false q false r k ih = (lt, num, (grind (arith, nat_tests, p), a.1, a.2))
-
-swap : (a b c : Bool) → (a || (b || c)) ≡ (b || (a || c))
-swap true true c = refl
-swap true false c = refl
-swap false true c = refl
-swap false false c = refl
-
-has_inserted : (n : ℕ) (f : FieldShape) (gs : List FieldShape) → has_number n (inserted f gs) ≡ ((f.number == n) || has_number n gs)
-has_inserted n f [] = refl
-has_inserted n f (g ∷ gs) = at (has_up_to f.number (g ∷ gs)) (has_inserted n f gs)
-  where
-    at : (b : Bool) → has_number n (inserted f gs) ≡ ((f.number == n) || has_number n gs)
-        → has_number n (if b then g ∷ inserted f gs else f ∷ g ∷ gs) ≡ ((f.number == n) || ((g.number == n) || has_number n gs))
-    at true ih = ap (λ c. (g.number == n) || c) ih ∙ swap (g.number == n) (f.number == n) (has_number n gs)
-    at false ih = refl
 
 -- ---- numbers that keep the rule
 
@@ -95,27 +62,60 @@ new_from front (n ∷ ns) place h =
 abbrev number_of : FieldDescriptorProto → ℕ
 number_of f = number_or_zero f.number
 
-turn : (a b : Bool) → (a || b) ≡ (b || (a || false))
-turn true true = refl
-turn true false = refl
-turn false true = refl
-turn false false = refl
+has_last : (front : List ℕ) (n : ℕ) → list_any (λ other. other == n) (front ++ n ∷ []) ≡ true
+has_last [] n = let same : (n == n) ≡ true = grind (arith, nat_tests) in rw same refl
+has_last (m ∷ front) n = at (m == n) (has_last front n)
+  where
+    at : (b : Bool) → list_any (λ other. other == n) (front ++ n ∷ []) ≡ true → (b || list_any (λ other. other == n) (front ++ n ∷ [])) ≡ true
+    at true ih = refl
+    at false ih = ih
 
-sorted_above : (front : List ℕ) (fs : List FieldDescriptorProto) (done : List FieldShape) → AreAbove 0 done → ((n : ℕ) → has_number n done ≡ list_any (λ other. other == n) front)
-    → AreNew front (map number_of fs) → AreAbove 0 (fold (λ sorted f. inserted f sorted) done (map field_shape fs))
+has_still : (front : List ℕ) (m n : ℕ) → list_any (λ other. other == n) front ≡ true → list_any (λ other. other == n) (front ++ m ∷ []) ≡ true
+has_still front m n h = list_any-append (λ other. other == n) front (m ∷ []) ∙ ap (λ b. b || ((m == n) || false)) h
+
+apart : (m n : ℕ) (front : List ℕ) → list_any (λ other. other == m) front ≡ true → list_any (λ other. other == n) front ≡ false → (m == n) ≡ false
+apart m n front h k = at (m == n) refl
+  where
+    at : (b : Bool) → (m == n) ≡ b → b ≡ false
+    at false e = refl
+    at true e =
+        let same : m ≡ n = grind (arith, nat_tests, e) in
+        let there : list_any (λ other. other == n) front ≡ true = subst (λ k. list_any (λ other. other == k) front ≡ true) same h in
+        absurd (cc)
+
+apart_from_later : (n : ℕ) (front ns : List ℕ) → list_any (λ other. other == n) front ≡ true → AreNew front ns → AllByRecursion (λ m. (n == m) ≡ false) ns
 unfolding AreNew
-sorted_above front [] done a same new = a
-sorted_above front (f ∷ fs) done a same new =
-    let number = both (nat_lt 0 (number_of f) && nat_lt (number_of f) 536870912) _ new.0 in
-    let positive = both (nat_lt 0 (number_of f)) _ number.0 in
-    let lt : 0 < number_of f = grind (arith, nat_tests, positive.0) in
-    sorted_above (front ++ number_of f ∷ []) fs (inserted (field_shape f) done)
-    (above_inserted 0 (field_shape f) done a lt number.0 (same (number_of f) ∙ new.1))
-    (λ n. has_inserted n (field_shape f) done ∙ ap (λ b. (number_of f == n) || b) (same n) ∙ turn (number_of f == n) (list_any (λ other. other == n) front) ∙ sym (list_any-append (λ other. other == n) front (number_of f ∷ [])))
-    new.2
+apart_from_later n front [] h new = tt
+apart_from_later n front (m ∷ ns) h new = (apart n m front h new.1, apart_from_later n (front ++ m ∷ []) ns (has_still front m n h) new.2)
 
-message_above : (i : ℕ) (m : DescriptorProto) → bad_numbers_in i m ≡ [] → AreAbove 0 (message_shape m).fields
-message_above i m h = sorted_above [] (own_fields m) [] tt (λ n. refl) (new_from [] (field_numbers m) _ h)
+distinct_if_new : (front ns : List ℕ) → AreNew front ns → IsDistinct (λ m n. m == n) ns
+unfolding AreNew IsDistinct
+distinct_if_new front [] new = tt
+distinct_if_new front (n ∷ ns) new = (apart_from_later n (front ++ n ∷ []) ns (has_last front n) new.2, distinct_if_new (front ++ n ∷ []) ns new.2)
+
+numbered_if_new : (front : List ℕ) (fs : List FieldDescriptorProto) → AreNew front (map number_of fs) → list_all (λ (f : FieldShape). is_record_number f.number) (map flat_field fs) ≡ true
+unfolding AreNew
+numbered_if_new front [] new = refl
+numbered_if_new front (f ∷ fs) new =
+    let number = both (is_record_number (number_of f)) _ new.0 in
+    rw number.0 (numbered_if_new (front ++ number_of f ∷ []) fs new.2)
+
+same_numbers : (fs : List FieldDescriptorProto) → map (λ (f : FieldShape). f.number) (map flat_field fs) ≡ map number_of fs
+same_numbers [] = refl
+same_numbers (f ∷ fs) = ap (λ ns. number_of f ∷ ns) (same_numbers fs)
+
+all_good_keys : (fs : List FieldDescriptorProto) → list_all (λ (f : FieldShape). has_good_keys f.cardinality) (map flat_field fs) ≡ true
+all_good_keys [] = refl
+all_good_keys (f ∷ fs) = all_good_keys fs
+
+message_proper : (i : ℕ) (m : DescriptorProto) → bad_numbers_in i m ≡ [] → HasProperFields (flat_message m)
+message_proper i m h =
+    let new : AreNew [] (field_numbers m) = new_from [] (field_numbers m) _ h in
+    record {
+      numbered = numbered_if_new [] (own_fields m) new;
+      distinct = subst (IsDistinct (λ m n. m == n)) (sym (same_numbers (own_fields m))) (distinct_if_new [] (field_numbers m) new);
+      keyed = all_good_keys (own_fields m);
+    }
 
 -- ---- the messages of all files
 
@@ -123,11 +123,12 @@ none_left : (ps qs : List Place) → ps ++ qs ≡ [] → (ps ≡ []) × (qs ≡ 
 none_left [] qs h = (refl, h)
 none_left (p ∷ ps) qs h = absurd (cc)
 
-file_above : (ms rest : List DescriptorProto) (n : ℕ) → messages_from bad_numbers_in n ms ≡ [] → ((t : ℕ) → AreAbove 0 (fields_at (map message_shape rest) t))
-    → (t : ℕ) → AreAbove 0 (fields_at (map message_shape (ms ++ rest)) t)
-file_above [] rest n h k t = k t
-file_above (m ∷ ms) rest n h k zero = message_above n m (none_left (bad_numbers_in n m) _ h).0
-file_above (m ∷ ms) rest n h k (suc t) = file_above ms rest (n + 1) (none_left (bad_numbers_in n m) _ h).1 k t
+file_proper : (ms rest : List DescriptorProto) (n : ℕ) → messages_from bad_numbers_in n ms ≡ [] → AllByRecursion HasProperFields (map flat_message rest)
+    → AllByRecursion HasProperFields (map flat_message (ms ++ rest))
+file_proper [] rest n h k = k
+file_proper (m ∷ ms) rest n h k =
+    let parts = none_left (bad_numbers_in n m) _ h in
+    (message_proper n m parts.0, file_proper ms rest (n + 1) parts.1 k)
 
 is_nil : (ps : List Place) → is_none ps ≡ true → ps ≡ []
 is_nil [] h = refl
@@ -141,10 +142,25 @@ numbers_kept files f h =
     let six = both (is_none (names_twice files f)) _ five.1 in
     is_nil (bad_numbers f) (both (is_none (bad_numbers f)) true six.1).0
 
-all_above : (before files : List FileDescriptorProto) → ArePooled before files → (t : ℕ) → AreAbove 0 (fields_at (map message_shape (flat_map (λ f. f.message_type) files)) t)
+all_proper : (before files : List FileDescriptorProto) → ArePooled before files → AllByRecursion HasProperFields (map flat_message (flat_map (λ f. f.message_type) files))
 unfolding ArePooled
-all_above before [] h t = tt
-all_above before (f ∷ fs) h t = file_above f.message_type (flat_map (λ g. g.message_type) fs) 0 (numbers_kept before f h.0) (all_above (before ++ f ∷ []) fs h.2) t
+all_proper before [] h = tt
+all_proper before (f ∷ fs) h = file_proper f.message_type (flat_map (λ g. g.message_type) fs) 0 (numbers_kept before f h.0) (all_proper (before ++ f ∷ []) fs h.2)
 
-pub pooled_is_proper : (files : List FileDescriptorProto) → ArePooled [] files → IsProper (shape_of files)
-pooled_is_proper files h t = all_above [] files h t
+pub pooled_is_proper : (files : List FileDescriptorProto) → ArePooled [] files → IsProper (flat_shape files)
+pooled_is_proper files h = record { types = proper_at (flat_shape files).messages (all_proper [] files h); enums = no_enums }
+
+-- so no schema of it is refused as improper
+pub not_refused : (files : List FileDescriptorProto) (shape back : Shape) (e : SchemaError) → shape ≡ flat_shape files → ArePooled [] files → IsRefused shape e → e ≡ Improper back → ⊥
+not_refused files shape back e is pooled h improper = (subst (IsRefused shape) improper h).1 (subst IsProper (sym is) (pooled_is_proper files pooled))
+
+-- ---- no field is an extension
+
+own_fields_alone : (fs : List FieldDescriptorProto) → has_no_extension (map flat_field fs) ≡ true
+own_fields_alone [] = refl
+own_fields_alone (f ∷ fs) = own_fields_alone fs
+
+pub no_extensions : (ms : List DescriptorProto) (t : ℕ) → has_no_extension (declared_at (map flat_message ms) t) ≡ true
+no_extensions [] t = refl
+no_extensions (m ∷ ms) zero = own_fields_alone (own_fields m)
+no_extensions (m ∷ ms) (suc t) = no_extensions ms t

@@ -6,10 +6,11 @@ use Rattle.std.specs.Str.{bytes_eq}
 use Rattle.std.proofs.lemmas.Bool.Decides.{nat_tests}
 use Rattle.std.proofs.lemmas.List.Elements.{Contains-append_left, Contains-append_right}
 use Rattle.std.proofs.lemmas.List.Folds.{list_any-append}
-use Rattle.pbx_desc.specs.declared.message.DescriptorProto.{DescriptorProto}
-use Rattle.pbx_desc.specs.declared.file.FileDescriptorProto.{FileDescriptorProto}
-use Rattle.pbx_link.specs.Rules.{Place, among, message_names, pool_names}
-use Rattle.pbx_link.specs.Shapes.{own_name}
+use Rattle.pbx_desc_records.specs.declared.message.DescriptorProto.{DescriptorProto}
+use Rattle.pbx_desc_records.specs.declared.file.FileDescriptorProto.{FileDescriptorProto}
+use Rattle.pbx_link.specs.Definitions.{Place}
+use Rattle.pbx_link.specs.Rules.{among, message_names, pool_names}
+use Rattle.pbx_link.specs.Says.{own_name}
 use Rattle.pbx_link.specs.Found.{IsIndex}
 
 -- the places among the items that are left

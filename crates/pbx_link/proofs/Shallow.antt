@@ -1,17 +1,20 @@
 -- Plain files have few levels: a set holds files, which hold messages or source info, which hold fields or locations.
-use Rattle.std.proofs.Common.{◌≡◌, ◌∙◌, ℕ, ◌+◌, ◌≤◌, ◌&&◌, List, [], ◌∷◌, map, Bool, true, false, Option, Some, None, refl, subst, sym, arith}
+use Rattle.std.proofs.Common.{◌≡◌, ℕ, ◌+◌, ◌≤◌, ◌&&◌, List, [], ◌∷◌, map, Bool, true, false, Option, Some, None, refl, arith}
 use Rattle.std.specs.Prelude.{is_none}
 use Rattle.std.specs.List.{list_all}
 use Rattle.pbx_wire.specs.Text.{depth_of}
 use Rattle.pbx_wire.specs.declared.rec.Rec.{Rec}
-use Rattle.pbx_desc.specs.declared.field.FieldDescriptorProto.{FieldDescriptorProto}
-use Rattle.pbx_desc.specs.declared.message.DescriptorProto.{DescriptorProto, out-DescriptorProto, fold_out-DescriptorProto}
-use Rattle.pbx_desc.specs.declared.file.FileDescriptorProto.{FileDescriptorProto}
-use Rattle.pbx_desc.specs.declared.options.Options.{Options}
-use Rattle.pbx_desc.specs.declared.source.Location.{Location}
-use Rattle.pbx_desc.specs.declared.source.SourceCodeInfo.{SourceCodeInfo}
+use Rattle.pbx_meaning.specs.Content.{Content, content}
+use Rattle.pbx_meaning.specs.Sound.{depth, PartsFit}
+use Rattle.pbx_desc_records.specs.declared.field.FieldDescriptorProto.{FieldDescriptorProto}
+use Rattle.pbx_desc_records.specs.declared.message.DescriptorProto.{DescriptorProto, out-DescriptorProto, fold_out-DescriptorProto}
+use Rattle.pbx_desc_records.specs.declared.file.FileDescriptorProto.{FileDescriptorProto}
+use Rattle.pbx_desc_records.specs.declared.options.Options.{Options}
+use Rattle.pbx_desc_records.specs.declared.source.Location.{Location}
+use Rattle.pbx_desc_records.specs.declared.source.SourceCodeInfo.{SourceCodeInfo}
+use Rattle.pbx_desc.specs.Content.{files_content}
 use Rattle.pbx_desc.specs.Levels.{below, below_one, options_levels, enum_levels, service_levels, extension_range_levels, oneof_levels, reserved_range_levels, field_levels, location_levels, source_code_info_levels, message_levels_step, message_levels, file_levels}
-use Rattle.pbx_link.specs.Shapes.{own_fields}
+use Rattle.pbx_link.specs.Says.{own_fields}
 use Rattle.pbx_link.specs.Built.{is_empty, has_only_fields, is_plain_field, is_plain_message, is_plain_location, is_plain_source, has_only_messages, is_plain}
 
 both : (a b : Bool) → (a && b) ≡ true → (a ≡ true) × (b ≡ true)
@@ -111,3 +114,12 @@ file_few f h =
 
 pub few_levels : (files : List FileDescriptorProto) → list_all is_plain files ≡ true → below file_levels files ≤ 3
 few_levels files h = all_below is_plain file_levels 2 file_few files h
+
+-- ---- so the files of a set are read with the levels that they have
+
+parts_fit : (c : Content) → depth c ≤ 100 → PartsFit c
+parts_fit (content fs kept) h = (omega (arith, h), omega (arith, h))
+
+pub files_fit : (files : List FileDescriptorProto) → list_all is_plain files ≡ true → ((fs : List FileDescriptorProto) → depth (files_content fs) ≤ below file_levels fs)
+    → PartsFit (files_content files)
+files_fit files h bound = parts_fit (files_content files) (omega (arith, few_levels files h, bound files))

@@ -3,12 +3,12 @@ use Rattle.std.specs.Prelude.{ℕ, List, [], refl, map, drop, find, Option, None
 use Rattle.std.specs.List.{flat_map}
 use Rattle.std.specs.Str.{bytes_eq}
 use Rattle.std.specs.Coded.{Coded, code_by, coded×, coded_list}
-use Rattle.pbx_desc.specs.contracts.message.DescriptorProto as message_proto
-use Rattle.pbx_desc.specs.contracts.file.FileDescriptorProto as file_proto
-use Rattle.pbx_desc.specs.declared.message.DescriptorProto.{DescriptorProto, roll-DescriptorProto}
-use Rattle.pbx_desc.specs.declared.file.FileDescriptorProto.{FileDescriptorProto}
-use Rattle.pbx_link.specs.Rules.{is_named}
-use Rattle.pbx_link.specs.Shapes.{own_name}
+use Rattle.pbx_desc_records.specs.contracts.message.DescriptorProto as message_proto
+use Rattle.pbx_desc_records.specs.contracts.file.FileDescriptorProto as file_proto
+use Rattle.pbx_desc_records.specs.declared.message.DescriptorProto.{DescriptorProto, roll-DescriptorProto}
+use Rattle.pbx_desc_records.specs.declared.file.FileDescriptorProto.{FileDescriptorProto}
+use Rattle.pbx_link.specs.Names.{is_named}
+use Rattle.pbx_link.specs.Says.{own_name}
 
 -- a file of a pool
 pub record FileDescribed : Type 0 where
@@ -21,9 +21,11 @@ pub record MessageDescribed : Type 0 where
   pub file : FileDescriptorProto
   pub message : DescriptorProto
 
+-- a file beside its pool
 abbrev pub described_file : List FileDescriptorProto → FileDescriptorProto → FileDescribed
 described_file pool f = record { pool = pool; file = f }
 
+-- a message beside its file and pool
 abbrev pub described_message : List FileDescriptorProto → FileDescriptorProto → DescriptorProto → MessageDescribed
 described_message pool f m = record { pool = pool; file = f; message = m }
 
@@ -78,7 +80,9 @@ file_code =
     code_by (List FileDescriptorProto × FileDescriptorProto) (coded× (coded_list file_proto.the_row.coded) file_proto.the_row.coded)
     (λ d. (d.pool, d.file)) (λ p. record { pool = p.0; file = p.1 }) (λ _. refl)
 
+-- the same of messages
 abbrev pub message_code : Coded MessageDescribed
 message_code =
-    code_by (List FileDescriptorProto × (FileDescriptorProto × DescriptorProto)) (coded× (coded_list file_proto.the_row.coded) (coded× file_proto.the_row.coded message_proto.the_row.coded))
+    code_by (List FileDescriptorProto × (FileDescriptorProto × DescriptorProto))
+    (coded× (coded_list file_proto.the_row.coded) (coded× file_proto.the_row.coded message_proto.the_row.coded))
     (λ d. (d.pool, (d.file, d.message))) (λ p. record { pool = p.0; file = p.1.0; message = p.1.1 }) (λ _. refl)

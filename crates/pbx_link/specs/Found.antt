@@ -1,8 +1,9 @@
 -- What a search for breaches of a rule answers.
 use Rattle.std.specs.Prelude.{◌≡◌, ℕ, List, [], Bool, true, Option, Some, None, Contains}
-use Rattle.pbx_desc.specs.declared.file.FileDescriptorProto.{FileDescriptorProto}
+use Rattle.pbx_desc_records.specs.declared.file.FileDescriptorProto.{FileDescriptorProto}
 use Rattle.pbx_link.specs.declared.rules.Breach.{Breach}
-use Rattle.pbx_link.specs.Rules.{Place, places_where, keeps_rules}
+use Rattle.pbx_link.specs.Definitions.{Place}
+use Rattle.pbx_link.specs.Rules.{places_where, keeps_rules}
 use Rattle.pbx_link.specs.Pool.{BreaksFirst}
 
 -- one of the places, or none where there is none

@@ -1,4 +1,9 @@
+pub mod Names
+pub mod Says
+pub mod Definitions
+pub mod Described
 pub mod Shapes
+pub mod Flat
 pub mod Linked
 pub mod Rules
 pub mod Built
@@ -6,3 +11,4 @@ pub mod Pool
 pub mod Found
 pub mod Descriptors
 pub mod Laws
+pub mod Own

@@ -1,10 +1,11 @@
 -- The record that linking makes of a file's record (`descriptor.proto`: FieldDescriptorProto.json_name is set by the compiler).
 use Rattle.std.specs.Prelude.{ℕ, ◌==◌, List, [], ◌∷◌, map, Bool, true, false, Option, Some, None, if◌then◌else◌}
 use Rattle.std.specs.Char.{to_ascii_uppercase}
-use Rattle.pbx_desc.specs.declared.field.FieldDescriptorProto.{FieldDescriptorProto}
-use Rattle.pbx_desc.specs.declared.message.DescriptorProto.{DescriptorProto, out-DescriptorProto, roll-DescriptorProto}
-use Rattle.pbx_desc.specs.declared.file.FileDescriptorProto.{FileDescriptorProto}
-use Rattle.pbx_link.specs.Shapes.{text_or_empty, own_fields}
+use Rattle.pbx_desc_records.specs.declared.field.FieldDescriptorProto.{FieldDescriptorProto}
+use Rattle.pbx_desc_records.specs.declared.message.DescriptorProto.{DescriptorProto, out-DescriptorProto, roll-DescriptorProto}
+use Rattle.pbx_desc_records.specs.declared.file.FileDescriptorProto.{FileDescriptorProto}
+use Rattle.pbx_link.specs.Names.{text_or_empty}
+use Rattle.pbx_link.specs.Says.{own_fields}
 
 -- a name without its `_`, what stands behind one in upper case; the flag says whether the next byte stands behind one
 unfoldable pub camel_from : Bool → List ℕ → List ℕ
@@ -20,9 +21,11 @@ abbrev pub json_name_or_default : Option (List ℕ) → List ℕ → List ℕ
 json_name_or_default None name = default_json_name name
 json_name_or_default (Some json_name) name = json_name
 
+-- a field with a JSON name
 abbrev pub linked_field : FieldDescriptorProto → FieldDescriptorProto
 linked_field f = record f { json_name = Some (json_name_or_default f.json_name (text_or_empty f.name)) }
 
+-- a message whose own fields have JSON names
 abbrev pub linked_message : DescriptorProto → DescriptorProto
 linked_message m = roll-DescriptorProto (record (out-DescriptorProto m) { field = map linked_field (own_fields m) })
 

@@ -1,35 +1,33 @@
 -- The rules of linking that are built so far, each as the places of a file's record at which it is broken among the files of a
 -- pool (Protocol Buffers language guide: "Importing Definitions", unique names, "Assigning Field Numbers"). A place is a path of
 -- field numbers of `descriptor.proto` and of indices, as in SourceCodeInfo.Location.path.
-use Rattle.std.specs.Prelude.{ℕ, nat_lt, nat_le, ◌==◌, ◌&&◌, ◌||◌, not, ℤ, pos, List, [], ◌∷◌, ◌++◌, map, take, Bool, true, false, Option, Some, None, if◌then◌else◌}
+use Rattle.std.specs.Prelude.{ℕ, nat_lt, nat_le, ◌==◌, ◌&&◌, ◌||◌, not, pos, List, [], ◌∷◌, ◌++◌, map, take}
+use Rattle.std.specs.Prelude.{Bool, true, false, Option, Some, None, if◌then◌else◌}
 use Rattle.std.specs.List.{list_any, list_all, filter_map, flat_map, enumerate_from}
 use Rattle.std.specs.Str.{bytes_eq}
-use Rattle.pbx_desc.specs.declared.message.DescriptorProto.{DescriptorProto}
-use Rattle.pbx_desc.specs.declared.file.FileDescriptorProto.{FileDescriptorProto}
-use Rattle.pbx_link.specs.Shapes.{text_or_empty, own_name, own_fields, number_or_zero}
-
-abbrev pub Place : Type 0
-Place = List ℤ
+use Rattle.pbx_desc_records.specs.declared.message.DescriptorProto.{DescriptorProto}
+use Rattle.pbx_desc_records.specs.declared.file.FileDescriptorProto.{FileDescriptorProto}
+use Rattle.pbx_link.specs.Names.{text_or_empty, is_named}
+use Rattle.pbx_link.specs.Says.{own_name, own_fields, number_or_zero}
+pub use Rattle.pbx_link.specs.Definitions.{Place}
 
 -- the name is one of these
 abbrev pub among : List (List ℕ) → List ℕ → Bool
 among names name = list_any (λ other. bytes_eq other name) names
 
--- the file has this name
-abbrev pub is_named : Option (List ℕ) → List ℕ → Bool
-is_named None name = false
-is_named (Some other) name = bytes_eq other name
-
 -- one of the files has this name
 abbrev pub has_file : List FileDescriptorProto → List ℕ → Bool
 has_file files name = list_any (λ f. is_named f.name name) files
 
+-- the names of a message's own fields
 abbrev pub field_names : DescriptorProto → List (List ℕ)
 field_names m = map (λ f. text_or_empty f.name) (own_fields m)
 
+-- the numbers of a message's own fields
 abbrev pub field_numbers : DescriptorProto → List ℕ
 field_numbers m = map (λ f. number_or_zero f.number) (own_fields m)
 
+-- the names of the messages of a file
 abbrev pub message_names : FileDescriptorProto → List (List ℕ)
 message_names f = map own_name f.message_type
 
@@ -76,11 +74,13 @@ abbrev pub bad_file_name : Option (List ℕ) → List Place
 bad_file_name None = (pos 1 ∷ []) ∷ []
 bad_file_name (Some name) = []
 
+-- the names in the message of this index
 abbrev pub bad_names_in : ℕ → DescriptorProto → List Place
 bad_names_in i m =
     (if is_ident (own_name m) then [] else (pos 4 ∷ pos i ∷ pos 1 ∷ []) ∷ [])
     ++ places_where (λ j name. not (is_ident name)) (λ j. pos 4 ∷ pos i ∷ pos 2 ∷ pos j ∷ pos 1 ∷ []) (field_names m)
 
+-- the file's own name, and those in its messages
 abbrev pub bad_names : FileDescriptorProto → List Place
 bad_names f = bad_file_name f.name ++ in_messages bad_names_in f
 
@@ -88,6 +88,7 @@ bad_names f = bad_file_name f.name ++ in_messages bad_names_in f
 abbrev pub names_twice_in : ℕ → DescriptorProto → List Place
 names_twice_in i m = places_where (λ j name. among (take j (field_names m)) name) (λ j. pos 4 ∷ pos i ∷ pos 2 ∷ pos j ∷ pos 1 ∷ []) (field_names m)
 
+-- the names of messages, and those in each message
 abbrev pub names_twice : List FileDescriptorProto → FileDescriptorProto → List Place
 names_twice files f =
     places_where (λ i name. among (pool_names files ++ take i (message_names f)) name) (λ i. pos 4 ∷ pos i ∷ pos 1 ∷ []) (message_names f)
@@ -96,16 +97,20 @@ names_twice files f =
 -- rule 6: a field number is absent or none that a field may have, or is that of an earlier field of its message
 abbrev pub bad_numbers_in : ℕ → DescriptorProto → List Place
 bad_numbers_in i m =
-    places_where (λ j n. not (is_field_number n) || list_any (λ other. other == n) (take j (field_numbers m))) (λ j. pos 4 ∷ pos i ∷ pos 2 ∷ pos j ∷ pos 3 ∷ []) (field_numbers m)
+    places_where (λ j n. not (is_field_number n) || list_any (λ other. other == n) (take j (field_numbers m)))
+    (λ j. pos 4 ∷ pos i ∷ pos 2 ∷ pos j ∷ pos 3 ∷ []) (field_numbers m)
 
+-- the numbers in all messages
 abbrev pub bad_numbers : FileDescriptorProto → List Place
 bad_numbers f = in_messages bad_numbers_in f
 
--- the places of the file at which a rule is broken; the rules 3 and 7 to 16 are about what no file has so far
+-- the places of the file at which a rule is broken; no file that is built so far breaks the rules 3 and 7 to 16
 abbrev pub breaches : ℕ → List FileDescriptorProto → FileDescriptorProto → List Place
 breaches rule files f =
-    if rule == 1 then file_twice files f.name else (if rule == 2 then missing_imports files f else (if rule == 4 then bad_names f else (if rule == 5 then names_twice files f else (if rule == 6 then bad_numbers f else []))))
+    if rule == 1 then file_twice files f.name else (if rule == 2 then missing_imports files f else (if rule == 4 then bad_names f
+    else (if rule == 5 then names_twice files f else (if rule == 6 then bad_numbers f else []))))
 
+-- no place
 abbrev pub is_none : List Place → Bool
 is_none [] = true
 is_none (p ∷ ps) = false

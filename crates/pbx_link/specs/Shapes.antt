@@ -1,88 +1,130 @@
--- The shape of the types that a file record declares (Protocol Buffers `descriptor.proto`: FileDescriptorProto, DescriptorProto,
--- FieldDescriptorProto). So far a file has no package, its messages nest none, and a field is as the source language so far has it.
-use Rattle.std.specs.Prelude.{Bool, ℕ, suc, ℤ, pos, negsuc, ◌==◌, List, [], ◌∷◌, map, false, if◌then◌else◌, Option, Some, None, ◌≡◌, ◌≤◌, nat_le, drop, slice_get, position}
-use Rattle.std.specs.List.{fold, list_any, flat_map}
+-- The shape of the types of a pool: what its linked records say of the meaning of bytes and of JSON (Protocol Buffers `descriptor.proto`;
+-- "Encoding"; "Application Note: Field Presence").
+use Rattle.std.specs.Prelude.{ℕ, ◌==◌, ℤ, List, ◌++◌, map, length, position, unwrap_or, true, false, Option, Some, None, if◌then◌else◌}
 use Rattle.std.specs.Str.{bytes_eq}
-use Rattle.pbx_content.specs.declared.shape.Kind.{Kind}
-use Rattle.pbx_content.specs.declared.shape.Kind.TheVariants as kind
-use Rattle.pbx_content.specs.declared.shape.Cardinality.{Cardinality}
-use Rattle.pbx_content.specs.declared.shape.Cardinality.TheVariants.{Singular, Repeated}
-use Rattle.pbx_content.specs.declared.shape.FieldShape.{FieldShape}
-use Rattle.pbx_content.specs.declared.shape.MessageShape.{MessageShape}
-use Rattle.pbx_content.specs.declared.shape.Shape.{Shape}
-use Rattle.pbx_desc.specs.declared.field.FieldDescriptorProto.{FieldDescriptorProto}
-use Rattle.pbx_desc.specs.declared.message.DescriptorProto.{DescriptorProto, out-DescriptorProto}
-use Rattle.pbx_desc.specs.declared.file.FileDescriptorProto.{FileDescriptorProto}
+use Rattle.pbx_meaning.specs.declared.shape.Kind.{Kind}
+use Rattle.pbx_meaning.specs.declared.shape.Kind.TheVariants as kind
+use Rattle.pbx_meaning.specs.declared.shape.Cardinality.{Cardinality}
+use Rattle.pbx_meaning.specs.declared.shape.Cardinality.TheVariants.{Singular, Repeated, Map}
+use Rattle.pbx_meaning.specs.declared.shape.FieldShape.{FieldShape}
+use Rattle.pbx_meaning.specs.declared.shape.MessageShape.{MessageShape}
+use Rattle.pbx_meaning.specs.declared.shape.EnumValueShape.{EnumValueShape}
+use Rattle.pbx_meaning.specs.declared.shape.EnumShape.{EnumShape}
+use Rattle.pbx_meaning.specs.declared.shape.Shape.{Shape}
+use Rattle.pbx_desc_records.specs.declared.enumeration.EnumDescriptorProto.{EnumDescriptorProto}
+use Rattle.pbx_desc_records.specs.declared.enumeration.EnumValueDescriptorProto.{EnumValueDescriptorProto}
+use Rattle.pbx_desc_records.specs.declared.field.FieldDescriptorProto.{FieldDescriptorProto}
+use Rattle.pbx_desc_records.specs.declared.message.DescriptorProto.{DescriptorProto}
+use Rattle.pbx_desc_records.specs.declared.file.FileDescriptorProto.{FileDescriptorProto}
+pub use Rattle.pbx_link.specs.Names.{text_or_empty}
+use Rattle.pbx_link.specs.Says.{number_or_zero, signed_or_zero, is_repeated}
+use Rattle.pbx_link.specs.Definitions.{message_name, enum_name, field_name}
+use Rattle.pbx_link.specs.Described.{Described, number_of_field, every_message, every_enum, fields_of_message, extensions_of_message, extension_json_name}
+use Rattle.pbx_link.specs.Described.{values_of_enum, message_referred, referred, is_map, is_packed, has_presence, extension_has_presence, with_number}
 
--- a text, or the empty one where there is none
-abbrev pub text_or_empty : Option (List ℕ) → List ℕ
-text_or_empty None = []
-text_or_empty (Some text) = text
+-- ---- numbers and places
 
--- the message's own name, or the empty text where it has none
-abbrev pub own_name : DescriptorProto → List ℕ
-own_name m = text_or_empty (out-DescriptorProto m).name
+-- an index, if there is one
+abbrev pub index_if : Option ℤ → Option ℕ
+index_if None = None
+index_if (Some z) = Some (number_or_zero (Some z))
 
--- the message's own fields
-abbrev pub own_fields : DescriptorProto → List FieldDescriptorProto
-own_fields m = (out-DescriptorProto m).field
+-- the place of the message of exactly this full name among the messages of the pool, and that behind the last where there is none
+abbrev pub message_place : List FileDescriptorProto → List ℕ → ℕ
+message_place pool name = unwrap_or (position (λ d. bytes_eq (message_name d.part) name) (every_message pool)) (length (every_message pool))
 
--- a field number; one that is absent or negative is 0, which no field has
-abbrev pub number_or_zero : Option ℤ → ℕ
-number_or_zero None = 0
-number_or_zero (Some (pos n)) = n
-number_or_zero (Some (negsuc n)) = 0
+-- the place of the enum of exactly this full name, likewise
+abbrev pub enum_place : List FileDescriptorProto → List ℕ → ℕ
+enum_place pool name = unwrap_or (position (λ d. bytes_eq (enum_name d.part) name) (every_enum pool)) (length (every_enum pool))
 
--- the kind of a `FieldDescriptorProto.Type`: 5 is int32, 9 string; all others are kept unread so far
-abbrev pub kind_of_number : ℕ → Kind
-kind_of_number n = if n == 5 then kind.Int32 else if n == 9 then kind.String else kind.Float
+-- ---- kinds (`descriptor.proto`: FieldDescriptorProto.Type)
 
-abbrev pub kind_of : Option ℤ → Kind
-kind_of t = kind_of_number (number_or_zero t)
+-- the scalar of a number; 1 to 18 without 10, 11 and 14 are such numbers
+abbrev pub scalar_kind : ℕ → Kind
+scalar_kind n =
+    if n == 1 then kind.Double else (if n == 2 then kind.Float else (if n == 3 then kind.Int64 else (if n == 4 then kind.Uint64
+    else (if n == 5 then kind.Int32 else (if n == 6 then kind.Fixed64 else (if n == 7 then kind.Fixed32 else (if n == 8 then kind.Bool
+    else (if n == 9 then kind.String else (if n == 12 then kind.Bytes else (if n == 13 then kind.Uint32 else (if n == 15 then kind.Sfixed32
+    else (if n == 16 then kind.Sfixed64 else (if n == 17 then kind.Sint32 else kind.Sint64)))))))))))))
 
--- a `FieldDescriptorProto.Label` of 3 is repeated
-abbrev pub cardinality_of : Option ℤ → Cardinality
-cardinality_of label = if number_or_zero label == 3 then Repeated else Singular
+-- the kind of a type number and a type name
+abbrev pub kind_by : List FileDescriptorProto → ℕ → Option (List ℕ) → Kind
+kind_by pool n name =
+    if n == 11 then kind.Message (message_place pool (referred name)) else (if n == 14 then kind.Enum (enum_place pool (referred name)) else scalar_kind n)
 
--- a field of a proto3 file, without presence
-abbrev pub field_shape : FieldDescriptorProto → FieldShape
-field_shape f = record {
-  number = number_or_zero f.number;
-  name = text_or_empty f.name;
-  json_name = text_or_empty f.json_name;
-  kind = kind_of f.kind;
-  cardinality = cardinality_of f.label;
-  presence = false;
-  oneof = None;
-  packed = false;
-  default = None;
+-- the kind of a field; of a map that of the entry
+abbrev pub kind_of : Described FieldDescriptorProto → Kind
+kind_of x = kind_by x.pool (number_or_zero x.part.item.kind) x.part.item.type_name
+
+-- the kind of a field of an entry, if the entry has it
+abbrev pub part_kind : Option (Described FieldDescriptorProto) → Kind
+part_kind None = kind.Float
+part_kind (Some x) = kind_of x
+
+-- the kind of the field of this number of an entry
+abbrev pub entry_kind : ℕ → Option (Described DescriptorProto) → Kind
+entry_kind n None = kind.Float
+entry_kind n (Some m) = part_kind (with_number (fields_of_message m) n)
+
+-- the message type of a field
+abbrev pub type_of_field : Described FieldDescriptorProto → Option (Described DescriptorProto)
+type_of_field x = message_referred x.pool x.part.item.type_name
+
+-- of a map what stands under a key
+abbrev pub value_kind : Described FieldDescriptorProto → Kind
+value_kind x = if is_map x then entry_kind 2 (type_of_field x) else kind_of x
+
+-- one value, a list, or one for each key of this kind
+abbrev pub cardinality_of : Described FieldDescriptorProto → Cardinality
+cardinality_of x = if is_map x then Map (entry_kind 1 (type_of_field x)) else (if is_repeated x.part.item then Repeated else Singular)
+
+-- ---- fields, messages, enums
+
+-- a field of a message
+abbrev pub field_shape : Described FieldDescriptorProto → FieldShape
+field_shape x = record {
+  number = number_of_field x;
+  name = text_or_empty x.part.item.name;
+  json_name = text_or_empty x.part.item.json_name;
+  is_extension = false;
+  kind = value_kind x;
+  cardinality = cardinality_of x;
+  presence = has_presence x;
+  oneof = index_if x.part.item.oneof_index;
+  packed = is_packed x;
+  default = x.part.item.default_value;
 }
 
--- whether one of the fields has no greater number
-abbrev pub has_up_to : ℕ → List FieldShape → Bool
-has_up_to n fs = list_any (λ f. nat_le f.number n) fs
+-- an extension goes by its full name
+abbrev pub extension_shape : Described FieldDescriptorProto → FieldShape
+extension_shape x = record (field_shape x) {
+  name = field_name x.part;
+  json_name = extension_json_name x;
+  is_extension = true;
+  presence = extension_has_presence x;
+  oneof = None;
+}
 
--- the field behind the last of no greater number
-abbrev pub inserted : FieldShape → List FieldShape → List FieldShape
-inserted f [] = f ∷ []
-inserted f (g ∷ gs) = if has_up_to f.number (g ∷ gs) then g ∷ inserted f gs else f ∷ g ∷ gs
+-- the fields in declared order, and behind them the extensions in the order of the pool
+abbrev pub message_shape : Described DescriptorProto → MessageShape
+message_shape d = record {
+  full_name = message_name d.part;
+  fields = map field_shape (fields_of_message d) ++ map extension_shape (extensions_of_message d);
+  keeps_order = false;
+}
 
--- the fields by number, those of one number in their order
-abbrev pub by_number : List FieldShape → List FieldShape
-by_number fs = fold (λ sorted f. inserted f sorted) [] fs
+-- a value of an enum
+abbrev pub value_shape : Described EnumValueDescriptorProto → EnumValueShape
+value_shape v = record { name = text_or_empty v.part.item.name; number = signed_or_zero v.part.item.number }
 
-abbrev pub message_shape : DescriptorProto → MessageShape
-message_shape m = record { full_name = own_name m; fields = by_number (map field_shape (own_fields m)); keeps_order = false }
+-- an enum
+abbrev pub enum_shape : Described EnumDescriptorProto → EnumShape
+enum_shape d = record { full_name = enum_name d.part; values = map value_shape (values_of_enum d) }
 
--- the shape of the types of a pool: the messages of its files, file by file
+-- the shape of the types of a pool: a message or an enum has its place in `every_message` or `every_enum`
 abbrev pub shape_of : List FileDescriptorProto → Shape
-shape_of files = record { messages = map message_shape (flat_map (λ f. f.message_type) files) }
+shape_of pool = record { messages = map message_shape (every_message pool); enums = map enum_shape (every_enum pool) }
 
 -- the place of the message of exactly that full name
 abbrev pub message_named : List ℕ → Shape → Option ℕ
-message_named name shape = position (λ m. bytes_eq m.full_name name) shape.messages
-
--- the place behind the last field of no greater number
-pub record IsPlace (n : ℕ) (fs : List FieldShape) (place : ℕ) : Type 0 where
-  pub above : has_up_to n (drop place fs) ≡ false
-  pub below : (k : ℕ) (f : FieldShape) → suc k ≡ place → slice_get fs k ≡ Some f → f.number ≤ n
+message_named name shape = position (λ (m : MessageShape). bytes_eq m.full_name name) shape.messages

@@ -1,6 +1,7 @@
 // Texts and numbers of a record that may be absent.
 ghost use Rattle.std.specs.Prelude.{◌≡◌};
-ghost use Rattle.pbx_link.specs.Shapes.{text_or_empty as text_or_empty_of, number_or_zero as number_or_zero_of};
+ghost use Rattle.pbx_link.specs.Names.{text_or_empty as text_or_empty_of};
+ghost use Rattle.pbx_link.specs.Says.{number_or_zero as number_or_zero_of};
 
 use pbx_wire::Text;
 

@@ -1,7 +1,7 @@
 // Whether a record may be added to the files of a pool.
 ghost use Rattle.std.specs.Prelude.{◌≡◌, true, IfOk, OnOk, IfErr};
 ghost use Rattle.pbx_link.specs.Pool.{is_linkable, IsRefused};
-ghost use Rattle.pbx_link.specs.Shapes.{text_or_empty as text_or_empty_of};
+ghost use Rattle.pbx_link.specs.Names.{text_or_empty as text_or_empty_of};
 
 use crate::absent::text_or_empty;
 use crate::built::is_built;

@@ -1,6 +1,7 @@
 // Handles of the files and messages of a pool.
 ghost use Rattle.std.specs.Prelude.{◌≡◌, ◌<◌, length, IfOk, Contains};
-ghost use Rattle.pbx_link.specs.Shapes.{text_or_empty as text_or_empty_of, own_name};
+ghost use Rattle.pbx_link.specs.Names.{text_or_empty as text_or_empty_of};
+ghost use Rattle.pbx_link.specs.Says.{own_name};
 ghost use Rattle.pbx_link.specs.Descriptors.{described_file, described_message, message_at};
 
 use crate::absent::text_or_empty;

@@ -19,7 +19,7 @@ mod shapes;
 
 pub use descriptors::{FileDescriptor, MessageDescriptor};
 pub use error::DescriptorError;
-pub use laws::{linked_is_linked, pooled_stand_behind};
+pub use laws::{linked_is_linked, nested_are_told, pooled_stand_behind};
 pub use pool::DescriptorPool;
 pub use pool_files::PoolFiles;
 pub use shapes::{find_message, shape_of};

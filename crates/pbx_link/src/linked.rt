@@ -1,7 +1,8 @@
 // The record of a file in a pool: each field has a JSON name.
 ghost use Rattle.std.specs.Prelude.{◌≡◌, IfOk, map};
-ghost use Rattle.pbx_link.specs.Linked.{default_json_name as default_json_name_of, json_name_or_default as json_name_or_default_of, linked as linked_of, linked_field as linked_field_of, linked_message as linked_message_of};
-ghost use Rattle.pbx_link.specs.Shapes.{text_or_empty as text_or_empty_of};
+ghost use Rattle.pbx_link.specs.Linked.{default_json_name as default_json_name_of, json_name_or_default as json_name_or_default_of};
+ghost use Rattle.pbx_link.specs.Linked.{linked as linked_of, linked_field as linked_field_of, linked_message as linked_message_of};
+ghost use Rattle.pbx_link.specs.Names.{text_or_empty as text_or_empty_of};
 
 use crate::absent::text_or_empty;
 use pbx_desc::{DescriptorProto, FieldDescriptorProto, FileDescriptorProto};

@@ -2,7 +2,7 @@ ghost use Rattle.std.specs.Prelude.{◌≡◌, ◌↔◌, [], ◌∷◌, ◌++�
 ghost use Rattle.std.specs.List.{list_all};
 ghost use Rattle.std.specs.Option.{option_copied};
 ghost use Rattle.pbx_link.specs.Linked.{linked as linked_of};
-ghost use Rattle.pbx_link.specs.Built.{is_plain};
+ghost use Rattle.pbx_link.specs.Built.{is_plain, is_simple};
 ghost use Rattle.pbx_link.specs.Pool.{is_linkable, ArePooled, IsRefused};
 
 use crate::check::check;
@@ -26,8 +26,8 @@ pub struct DescriptorPool {
 
 impl Model for DescriptorPool {
     ghost use Rattle.std.specs.Prelude.{List, []};
-    ghost use Rattle.pbx_desc.specs.declared.file.FileDescriptorProto.{FileDescriptorProto};
-    ghost use Rattle.pbx_desc.specs.contracts.file.FileDescriptorProto as proto;
+    ghost use Rattle.pbx_desc_records.specs.declared.file.FileDescriptorProto.{FileDescriptorProto};
+    ghost use Rattle.pbx_desc_records.specs.contracts.file.FileDescriptorProto as proto;
     ghost use Rattle.std.specs.Coded.{coded_list};
     ghost use Rattle.pbx_link.specs.Pool.{held, IsPool};
 
@@ -70,6 +70,7 @@ impl DescriptorPool {
         ensures records { result.now ≡ self.now }
         ensures pooled { ArePooled [] self.now }
         ensures plain { list_all is_plain self.now ≡ true }
+        ensures simple { list_all is_simple self.now ≡ true }
     {
         match &self.files {
             Some(files) => files.as_ref().as_slice(),

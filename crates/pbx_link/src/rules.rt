@@ -1,9 +1,13 @@
 // The rules of linking, each as a search for a place at which it is broken.
 ghost use Rattle.std.specs.Prelude.{◌≡◌, ◌||◌, ◌==◌, ◌++◌, ℕ, not, List, IfOk, map, position, take};
 ghost use Rattle.std.specs.List.{list_any, list_all};
-ghost use Rattle.pbx_link.specs.Rules.{among, has_file, pool_names, message_names, begins_ident as begins_ident_of, goes_on_ident as goes_on_ident_of, is_ident as is_ident_of, is_field_number as is_field_number_of, file_twice as file_twice_of, missing_imports, bad_names_in, bad_names, in_messages, names_twice_in, names_twice, bad_numbers_in, bad_numbers};
+ghost use Rattle.pbx_link.specs.Rules.{among, has_file, pool_names, message_names, begins_ident as begins_ident_of};
+ghost use Rattle.pbx_link.specs.Rules.{goes_on_ident as goes_on_ident_of, is_ident as is_ident_of, is_field_number as is_field_number_of};
+ghost use Rattle.pbx_link.specs.Rules.{file_twice as file_twice_of, missing_imports, bad_names_in, bad_names, in_messages, names_twice_in};
+ghost use Rattle.pbx_link.specs.Rules.{names_twice, bad_numbers_in, bad_numbers};
 ghost use Rattle.pbx_link.specs.Found.{IsAmong, IsIndex, IsFirst};
-ghost use Rattle.pbx_link.specs.Shapes.{text_or_empty as text_or_empty_of, own_name, number_or_zero as number_or_zero_of};
+ghost use Rattle.pbx_link.specs.Names.{text_or_empty as text_or_empty_of};
+ghost use Rattle.pbx_link.specs.Says.{own_name, number_or_zero as number_or_zero_of};
 
 use crate::absent::{number_or_zero, text_or_empty};
 use crate::built::is_named;
@@ -119,7 +123,9 @@ fn name_again<T: Named>(alloc: Global, items: &[T]) -> Result<Option<usize>, NoM
 
 /// An index of a field that has the number of an earlier one.
 fn number_again(alloc: Global, fields: &[FieldDescriptorProto]) -> Result<Option<usize>, NoMemory>
-    ensures { IfOk result (IsIndex (λ i n. list_any (λ other. other == n) (take i (map (λ f. number_or_zero_of f.number) fields.now))) (map (λ f. number_or_zero_of f.number) fields.now)) }
+    ensures { IfOk result (IsIndex
+        (λ i n. list_any (λ other. other == n) (take i (map (λ f. number_or_zero_of f.number) fields.now)))
+        (map (λ f. number_or_zero_of f.number) fields.now)) }
 {
     let mut seen = BTreeSet::new(alloc);
     for (index, field) in fields.iter().enumerate() {
@@ -141,7 +147,9 @@ fn no_number(fields: &[FieldDescriptorProto]) -> Option<usize>
 
 /// An index of a field whose number is none that a field may have, or is that of an earlier one.
 fn bad_number(alloc: Global, fields: &[FieldDescriptorProto]) -> Result<Option<usize>, NoMemory>
-    ensures { IfOk result (IsIndex (λ i n. not (is_field_number_of n) || list_any (λ other. other == n) (take i (map (λ f. number_or_zero_of f.number) fields.now))) (map (λ f. number_or_zero_of f.number) fields.now)) }
+    ensures { IfOk result (IsIndex
+        (λ i n. not (is_field_number_of n) || list_any (λ other. other == n) (take i (map (λ f. number_or_zero_of f.number) fields.now)))
+        (map (λ f. number_or_zero_of f.number) fields.now)) }
 {
     match no_number(fields) {
         Some(index) => Ok(Some(index)),

@@ -1,12 +1,15 @@
 // The shape of the types of a pool.
-ghost use Rattle.std.specs.Prelude.{◌≡◌, ◌≤◌, ◌++◌, IfOk, OnOk, length, map};
-ghost use Rattle.pbx_content.specs.Sound.{IsProper};
-ghost use Rattle.pbx_link.specs.Shapes.{text_or_empty as text_or_empty_of, kind_of as kind_of_number_of, cardinality_of as cardinality_of_label, field_shape as field_shape_of, inserted, message_shape as message_shape_of, shape_of as shape_of_files, message_named, IsPlace};
+ghost use Rattle.std.specs.Prelude.{◌≡◌, ◌++◌, ℕ, true, IfOk, OnOk, map};
+ghost use Rattle.pbx_meaning.specs.Shape.{declared_of};
+ghost use Rattle.pbx_link.specs.Names.{text_or_empty as text_or_empty_of};
+ghost use Rattle.pbx_link.specs.Shapes.{scalar_kind as scalar_kind_of, shape_of as shape_of_files, message_named};
+ghost use Rattle.pbx_link.specs.Own.{has_no_extension};
+ghost use Rattle.pbx_link.specs.Flat.{flat_field, flat_message};
 
 use crate::absent::{number_or_zero, text_or_empty};
 use crate::pool::DescriptorPool;
-use pbx_content::{Cardinality, FieldShape, Kind, MessageShape, Shape};
 use pbx_desc::{DescriptorProto, FieldDescriptorProto};
+use pbx_meaning::{Cardinality, FieldShape, Kind, MessageShape, Schema, SchemaError, Shape};
 use pbx_wire::{List, NoMemory, Text};
 use std::alloc::Global;
 
@@ -16,35 +19,40 @@ fn text_copy(alloc: Global, text: &Option<Text>) -> Result<Text, NoMemory>
     Text::from_str(alloc, text_or_empty(text))
 }
 
-fn kind_of(number: Option<i32>) -> Kind
-    ensures { result ≡ kind_of_number_of number }
+/// The scalar of a number of `FieldDescriptorProto.Type`; 10, 11 and 14 are no scalars.
+fn scalar_kind(number: u32) -> Kind
+    ensures { result ≡ scalar_kind_of number }
 {
-    match number_or_zero(number) {
+    match number {
+        1 => Kind::Double,
+        2 => Kind::Float,
+        3 => Kind::Int64,
+        4 => Kind::Uint64,
         5 => Kind::Int32,
+        6 => Kind::Fixed64,
+        7 => Kind::Fixed32,
+        8 => Kind::Bool,
         9 => Kind::String,
-        _ => Kind::Float,
+        12 => Kind::Bytes,
+        13 => Kind::Uint32,
+        15 => Kind::Sfixed32,
+        16 => Kind::Sfixed64,
+        17 => Kind::Sint32,
+        _ => Kind::Sint64,
     }
 }
 
-fn cardinality_of(label: Option<i32>) -> Cardinality
-    ensures { result ≡ cardinality_of_label label }
-{
-    if number_or_zero(label) == 3 {
-        Cardinality::Repeated
-    } else {
-        Cardinality::Singular
-    }
-}
-
+/// The shape of an optional scalar of proto3: other fields are not built yet.
 fn field_shape(alloc: Global, field: &FieldDescriptorProto) -> Result<FieldShape, NoMemory>
-    ensures { IfOk result (λ shape. shape ≡ field_shape_of field.now) }
+    ensures { IfOk result (λ shape. shape ≡ flat_field field.now) }
 {
     Ok(FieldShape {
         number: number_or_zero(field.number),
         name: text_copy(alloc, &field.name)?,
         json_name: text_copy(alloc, &field.json_name)?,
-        kind: kind_of(field.kind),
-        cardinality: cardinality_of(field.label),
+        is_extension: false,
+        kind: scalar_kind(number_or_zero(field.kind)),
+        cardinality: Cardinality::Singular,
         presence: false,
         oneof: None,
         packed: false,
@@ -52,34 +60,13 @@ fn field_shape(alloc: Global, field: &FieldDescriptorProto) -> Result<FieldShape
     })
 }
 
-/// The place behind the last field of no greater number, which mostly is the end.
-fn place_of(fields: &[FieldShape], number: u32) -> usize
-    ensures place { IsPlace number fields.now result }
-    ensures within { result ≤ length fields.now }
-{
-    let mut at = fields.len();
-    while at > 0 && number < fields[at - 1].number {
-        at -= 1;
-    }
-    at
-}
-
-/// Puts a field in behind the last of no greater number.
-fn insert(fields: &mut List<FieldShape>, field: FieldShape) -> Result<(), NoMemory>
-    ensures { OnOk result (fields.new ≡ inserted field fields.old) }
-{
-    let at = place_of(fields.as_slice(), field.number);
-    fields.insert(at, field)?;
-    Ok(())
-}
-
 fn message_shape(alloc: Global, message: &DescriptorProto) -> Result<MessageShape, NoMemory>
-    ensures { IfOk result (λ shape. shape ≡ message_shape_of message.now) }
+    ensures { IfOk result (λ shape. shape ≡ flat_message message.now) }
 {
     let full_name = text_copy(alloc, &message.name)?;
     let mut fields = List::new(alloc);
     for field in message.field.as_slice() {
-        insert(&mut fields, field_shape(alloc, field)?)?;
+        fields.add(field_shape(alloc, field)?)?;
     }
     Ok(MessageShape {
         full_name,
@@ -93,7 +80,7 @@ fn add_messages(
     messages: &mut List<MessageShape>,
     more: &[DescriptorProto],
 ) -> Result<(), NoMemory>
-    ensures { OnOk result (messages.new ≡ messages.old ++ map message_shape_of more.now) }
+    ensures { OnOk result (messages.new ≡ messages.old ++ map flat_message more.now) }
 {
     for message in more {
         messages.add(message_shape(alloc, message)?)?;
@@ -102,22 +89,32 @@ fn add_messages(
 }
 
 /// The shape of the types of a pool: its messages, file by file. The only error is want of memory.
-pub fn shape_of(alloc: Global, pool: &DescriptorPool) -> Result<Shape, NoMemory>
-    ensures shape { IfOk result (λ shape. shape ≡ shape_of_files pool.now) }
-    ensures proper { IfOk result IsProper }
+pub fn shape_of(alloc: Global, pool: &DescriptorPool) -> Result<Schema, NoMemory>
+    ensures shape { IfOk result (λ schema. schema ≡ shape_of_files pool.now) }
+    // So far no file has an extension.
+    ensures own { IfOk result (λ schema. (t : ℕ) → has_no_extension (declared_of schema t) ≡ true) }
 {
     let mut messages = List::new(alloc);
     for file in pool.records() {
         add_messages(alloc, &mut messages, file.as_ref().message_type.as_slice())?;
     }
-    Ok(Shape { messages })
+    let shape = Shape {
+        messages,
+        enums: List::new(alloc),
+    };
+    match Schema::new(alloc, shape) {
+        Ok(schema) => Ok(schema),
+        Err(SchemaError::NoMemory(_)) => Err(NoMemory),
+        Err(SchemaError::Improper(_)) => unreachable!(),
+    }
 }
 
 /// The place of the message of exactly that full name, without a leading dot.
-pub fn find_message(shape: &Shape, full_name: &str) -> Option<usize>
-    ensures { result ≡ message_named full_name.now shape.now }
+pub fn find_message(schema: &Schema, full_name: &str) -> Option<usize>
+    ensures { result ≡ message_named full_name.now schema.now }
 {
-    shape
+    schema
+        .shape()
         .messages
         .as_slice()
         .iter()

@@ -1,5 +1,5 @@
 use Rattle.std.proofs.Common.{◌≡◌, map, take}
-use Rattle.pbx_content.specs.View.{val_of}
+use Rattle.pbx_codec.specs.View.{val_of}
 use Rattle.pbx_desc.specs.Content.{file_value}
 use Rattle.pbx_link.proofs.encoding.file_set.Given as goal
 

@@ -1,6 +1,7 @@
 use Rattle.std.proofs.Common.{[], ◌∷◌, pos, sym, subst}
 use Rattle.std.specs.Prelude.{Contains}
-use Rattle.pbx_link.specs.Rules.{Place, bad_numbers_in}
+use Rattle.pbx_link.specs.Definitions.{Place}
+use Rattle.pbx_link.specs.Rules.{bad_numbers_in}
 use Rattle.pbx_link.proofs.rules.bad_number_in.Goals as goal
 
 pub returns-in_ok-place-in-Some : goal.returns-in_ok-place-in-Some

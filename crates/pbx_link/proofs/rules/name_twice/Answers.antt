@@ -3,7 +3,8 @@ use Rattle.std.specs.Prelude.{Contains}
 use Rattle.std.proofs.lemmas.List.Elements.{Contains-append_left}
 use Rattle.std.proofs.lemmas.Result.{IfOk-weaker}
 use Rattle.pbx_link.specs.Found.{IsAmong}
-use Rattle.pbx_link.specs.Rules.{Place, names_twice, names_twice_in, in_messages}
+use Rattle.pbx_link.specs.Definitions.{Place}
+use Rattle.pbx_link.specs.Rules.{names_twice, names_twice_in, in_messages}
 use Rattle.pbx_link.proofs.rules.name_twice.Goals as goal
 
 behind : (ps qs : List Place) (o : Option Place) → ps ≡ [] → IsAmong qs o → IsAmong (ps ++ qs) o

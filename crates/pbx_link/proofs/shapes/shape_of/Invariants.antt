@@ -1,7 +1,7 @@
 use Rattle.std.proofs.Common.{◌≡◌, map, take}
 use Rattle.std.specs.List.{flat_map}
-use Rattle.pbx_link.specs.Shapes.{message_shape}
+use Rattle.pbx_link.specs.Flat.{flat_message}
 use Rattle.pbx_link.proofs.shapes.shape_of.Given as goal
 
 abbrev pub invariant-loop-file : goal.invariant-loop-file
-invariant-loop-file l = l.messages ≡ map message_shape (flat_map (λ f. f.message_type) (take l.file-index l.file-items))
+invariant-loop-file l = l.messages ≡ map flat_message (flat_map (λ f. f.message_type) (take l.file-index l.file-items))

@@ -1,6 +1,6 @@
 use Rattle.std.proofs.Common.{◌∙◌, List, Some, ap, sym, subst}
 use Rattle.std.specs.Prelude.{Contains}
-use Rattle.pbx_desc.specs.declared.file.FileDescriptorProto.{FileDescriptorProto}
+use Rattle.pbx_desc_records.specs.declared.file.FileDescriptorProto.{FileDescriptorProto}
 use Rattle.pbx_link.specs.Descriptors.{described_file}
 use Rattle.pbx_link.proofs.LookedUp.{file_absent, file_there}
 use Rattle.pbx_link.proofs.pool.DescriptorPool.get_file_by_name.Goals as goal
