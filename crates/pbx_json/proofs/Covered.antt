@@ -2,7 +2,7 @@
 use Rattle.std.proofs.Common.{◌≡◌, ℕ, ◌++◌, List, [], ◌∷◌, Bool, true, false, ◌==◌, ◌||◌, refl, ◌∙◌, arith}
 use Rattle.std.specs.List.{list_any}
 use Rattle.std.proofs.lemmas.Bool.Decides.{nat_tests}
-use Rattle.pbx_content.specs.Content.{Val, Fields}
+use Rattle.pbx_meaning.specs.Content.{Val, Fields}
 use Rattle.pbx_json.specs.Stands.{put}
 use Rattle.pbx_json.proofs.FieldsLemmas.{get-put_other}
 use Rattle.pbx_json.specs.Walk.{IsCovered}
@@ -11,7 +11,7 @@ neither : (a b : Bool) → (a || b) ≡ false → (a ≡ false) × (b ≡ false)
 neither true b h = absurd (cc)
 neither false b h = (refl, h)
 
-any_last : (p : ℕ → Bool) (xs : List ℕ) (x : ℕ) → list_any p (xs ++ x ∷ []) ≡ false → (list_any p xs ≡ false) × (p x ≡ false)
+pub any_last : (p : ℕ → Bool) (xs : List ℕ) (x : ℕ) → list_any p (xs ++ x ∷ []) ≡ false → (list_any p xs ≡ false) × (p x ≡ false)
 any_last p [] x h = (refl, (neither (p x) false h).0)
 any_last p (y ∷ ys) x h =
     let both = neither (p y) (list_any p (ys ++ x ∷ [])) h in

@@ -1,7 +1,7 @@
 -- What a write leaves at each number.
 use Rattle.std.proofs.Common.{◌≡◌, ℕ, false, ◌==◌, Some, refl, arith}
 use Rattle.std.proofs.lemmas.Bool.Decides.{nat_tests}
-use Rattle.pbx_content.specs.Content.{Val, Fields, no_fields, field, get}
+use Rattle.pbx_meaning.specs.Content.{Val, Fields, no_fields, field, get}
 use Rattle.pbx_json.specs.Stands.{put}
 
 pub get-put_other : (q n : ℕ) (v : Val) (fs : Fields) → (q == n) ≡ false → get q (put n v fs) ≡ get q fs

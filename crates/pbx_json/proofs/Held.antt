@@ -6,36 +6,36 @@ use Rattle.std.specs.Prelude.{int_le}
 use Rattle.std.proofs.lemmas.Bool.Decides.{nat_tests}
 use Rattle.serde_json.specs.Data.{Num, Data, null, boolean, number, string, array, object, Members, no_members, member}
 use Rattle.serde_json.specs.Find.{of_integer, as_i64}
-use Rattle.pbx_content.specs.Content as content
-use Rattle.pbx_content.specs.Content.{Content, Fields, Val, get}
-use Rattle.pbx_content.specs.Meaning.{shown, is_default}
-use Rattle.pbx_content.specs.Shape.{field_of}
-use Rattle.pbx_content.specs.Sound.{IsShown, AreAbove}
-use Rattle.pbx_content.specs.declared.shape.Kind.{Kind}
-use Rattle.pbx_content.specs.declared.shape.Kind.TheVariants as kind
-use Rattle.pbx_content.specs.declared.shape.FieldShape.{FieldShape}
+use Rattle.pbx_meaning.specs.Content as content
+use Rattle.pbx_meaning.specs.Content.{Content, Fields, Val, get}
+use Rattle.pbx_meaning.specs.Meaning.{shown, is_default}
+use Rattle.pbx_meaning.specs.Shape.{field_of}
+use Rattle.pbx_meaning.specs.Sound.{IsShown, AreProper}
+use Rattle.pbx_meaning.specs.declared.shape.Kind.{Kind}
+use Rattle.pbx_meaning.specs.declared.shape.Kind.TheVariants as kind
+use Rattle.pbx_meaning.specs.declared.shape.FieldShape.{FieldShape}
+use Rattle.pbx_meaning.specs.declared.shape.Shape.{Shape}
 use Rattle.pbx_json.specs.Names.{field_named}
-use Rattle.pbx_json.specs.Scalars.{Reading, int32_if, int32_of, number_as, text_as, scalar, is_plain, reads_as, tree_of, field_tree}
+use Rattle.pbx_json.specs.Scalars.{Reading, is_int32, int32_if, int32_of, number_as, text_as, scalar, is_plain, reads_as, tree_of, field_tree}
 use Rattle.pbx_json.specs.Stands.{entries, readings_with, told, only, all_known, gathered, fields_for}
 use Rattle.pbx_json.proofs.FieldsMore.{named_number}
 use Rattle.pbx_json.proofs.PerField.{said_for}
-
-abbrev is_int32 : ℤ → Bool
-is_int32 z = int_le (negsuc 2147483647) z && int_le z (pos 2147483647)
 
 -- a number or a text of the kind
 abbrev pub IsOfKind : Kind → Val → Type 0
 IsOfKind k (content.number z) = (k ≡ kind.Int32) × (is_int32 z ≡ true)
 IsOfKind k (content.truth b) = ⊥
 IsOfKind k (content.text s) = k ≡ kind.String
+IsOfKind k (content.octets b) = ⊥
 IsOfKind k (content.message c) = ⊥
 IsOfKind k (content.many vs) = ⊥
+IsOfKind k (content.keyed ps) = ⊥
 
 -- the field may hold the value
-pub record IsHeldBy (f : FieldShape) (v : Val) : Type 0 where
+pub record IsHeldBy (shape : Shape) (f : FieldShape) (v : Val) : Type 0 where
   pub plain : is_plain f ≡ true
   pub of_kind : IsOfKind f.kind v
-  pub visible : IsShown f v
+  pub visible : IsShown shape f v
 
 int32_number : (o : Option ℤ) (v : Val) → option_and_then int32_if o ≡ Some v → IsOfKind kind.Int32 v
 int32_number None v h = absurd (cc)
@@ -47,21 +47,11 @@ int32_number (Some z) v h = at (is_int32 z) refl h
 
 number_kind : (k : Kind) (n : Num) (v : Val) → number_as k n ≡ Some v → IsOfKind k v
 number_kind kind.Int32 n v h = int32_number (as_i64 n) v h
-number_kind kind.Uint64 n v h = absurd (cc)
-number_kind kind.Sint32 n v h = absurd (cc)
-number_kind kind.Bool n v h = absurd (cc)
-number_kind kind.String n v h = absurd (cc)
-number_kind kind.Float n v h = absurd (cc)
-number_kind (kind.Message t) n v h = absurd (cc)
+number_kind _ n v h = absurd (cc)
 
 text_kind : (k : Kind) (s : List ℕ) (v : Val) → text_as k s ≡ Some v → IsOfKind k v
-text_kind kind.Int32 s v h = absurd (cc)
-text_kind kind.Uint64 s v h = absurd (cc)
-text_kind kind.Sint32 s v h = absurd (cc)
-text_kind kind.Bool s v h = absurd (cc)
 text_kind kind.String s v h = let same : content.text s ≡ v = cc in rw (← same) refl
-text_kind kind.Float s v h = absurd (cc)
-text_kind (kind.Message t) s v h = absurd (cc)
+text_kind _ s v h = absurd (cc)
 
 scalar_kind : (k : Kind) (d : Data) (v : Val) → scalar k d ≡ Some v → IsOfKind k v
 scalar_kind k null v h = absurd (cc)
@@ -72,70 +62,70 @@ scalar_kind k (array ds) v h = absurd (cc)
 scalar_kind k (object ms) v h = absurd (cc)
 
 -- what is shown is the value, which presence shows or which is no default
-shown_value : (f : FieldShape) (w v : Val) → shown f.presence (Some w) ≡ Some v → (w ≡ v) × IsShown f v
-shown_value f w v h = at f.presence refl h
+pub shown_value : (shape : Shape) (f : FieldShape) (w v : Val) → shown shape f.presence f.kind (Some w) ≡ Some v → (w ≡ v) × IsShown shape f v
+shown_value shape f w v h = at f.presence refl h
   where
-    at : (b : Bool) → f.presence ≡ b → (if b then Some w else (if is_default w then None else Some w)) ≡ Some v → (w ≡ v) × IsShown f v
+    at : (b : Bool) → f.presence ≡ b → (if b then Some w else (if is_default shape f.kind w then None else Some w)) ≡ Some v → (w ≡ v) × IsShown shape f v
     at true e k = ((let same : w ≡ v = cc in same), inl e)
-    at false e k = deep (is_default w) refl k
+    at false e k = deep (is_default shape f.kind w) refl k
       where
-        deep : (c : Bool) → is_default w ≡ c → (if c then None else Some w) ≡ Some v → (w ≡ v) × IsShown f v
+        deep : (c : Bool) → is_default shape f.kind w ≡ c → (if c then None else Some w) ≡ Some v → (w ≡ v) × IsShown shape f v
         deep true g j = absurd (cc)
-        deep false g j = let same : w ≡ v = cc in (same, inr (ap is_default (sym same) ∙ g))
+        deep false g j = let same : w ≡ v = cc in (same, inr (ap (is_default shape f.kind) (sym same) ∙ g))
 
 -- a value that a tree says for a field is one that the field may hold
-pub reading_held : (d : Data) (f : FieldShape) (v : Val) → reads_as d f ≡ Some (Some v) → IsHeldBy f v
-reading_held d f v h = at (is_plain f) refl h
+pub reading_held : (shape : Shape) (d : Data) (f : FieldShape) (v : Val) → reads_as shape d f ≡ Some (Some v) → IsHeldBy shape f v
+reading_held shape d f v h = at (is_plain f) refl h
   where
-    deep : (o : Option Val) → scalar f.kind d ≡ o → is_plain f ≡ true → option_map (λ w. shown f.presence (Some w)) o ≡ Some (Some v) → IsHeldBy f v
+    deep : (o : Option Val) → scalar f.kind d ≡ o → is_plain f ≡ true → option_map (λ w. shown shape f.presence f.kind (Some w)) o ≡ Some (Some v) → IsHeldBy shape f v
     deep None e plain k = absurd (cc)
     deep (Some w) e plain k =
-        let it : shown f.presence (Some w) ≡ Some v = cc in
-        let parts = shown_value f w v it in
+        let it : shown shape f.presence f.kind (Some w) ≡ Some v = cc in
+        let parts = shown_value shape f w v it in
         record { plain = plain; of_kind = scalar_kind f.kind d v (e ∙ ap Some parts.0); visible = parts.1 }
 
-    at : (b : Bool) → is_plain f ≡ b → (if b then option_map (λ w. shown f.presence (Some w)) (scalar f.kind d) else None) ≡ Some (Some v) → IsHeldBy f v
+    at : (b : Bool) → is_plain f ≡ b → (if b then option_map (λ w. shown shape f.presence f.kind (Some w)) (scalar f.kind d) else None) ≡ Some (Some v) → IsHeldBy shape f v
     at true e k = deep (scalar f.kind d) refl e k
     at false e k = absurd (cc)
 
 -- ---- from a tree to all of its values
 
 -- a field of a number, named by a key, that holds the value
-abbrev IsNamedHeld : List FieldShape → ℕ → Val → Type 0
-IsNamedHeld gs n v = (f : FieldShape) × (key : List ℕ) × (field_named key gs ≡ Some f) × ((f.number == n) ≡ true) × IsHeldBy f v
+abbrev IsNamedHeld : Shape → List FieldShape → ℕ → Val → Type 0
+IsNamedHeld shape gs n v = (f : FieldShape) × (key : List ℕ) × (field_named key gs ≡ Some f) × ((f.number == n) ≡ true) × IsHeldBy shape f v
 
-told_held : (gs : List FieldShape) (n : ℕ) (v : Val) (ms : Members) → only (told gs n (entries ms)) ≡ Some (Some v) → IsNamedHeld gs n v
-told_held gs n v no_members h = absurd (cc)
-told_held gs n v (member k d ms) h = at (field_named k gs) refl h (told_held gs n v ms)
+told_held : (shape : Shape) (gs : List FieldShape) (n : ℕ) (v : Val) (ms : Members) → only (told gs n (entries shape ms)) ≡ Some (Some v) → IsNamedHeld shape gs n v
+told_held shape gs n v no_members h = absurd (cc)
+told_held shape gs n v (member k d ms) h = at (field_named k gs) refl h (told_held shape gs n v ms)
   where
     alone : (rs : List Reading) (r : Reading) → only (r ∷ rs) ≡ Some (Some v) → r ≡ Some (Some v)
     alone [] r e = e
     alone (x ∷ rs) r e = absurd (cc)
 
-    at : (o : Option FieldShape) → field_named k gs ≡ o → only (readings_with o n (record { key = k; says = reads_as d }) (told gs n (entries ms))) ≡ Some (Some v)
-        → (only (told gs n (entries ms)) ≡ Some (Some v) → IsNamedHeld gs n v) → IsNamedHeld gs n v
+    at : (o : Option FieldShape) → field_named k gs ≡ o → only (readings_with o n (record { key = k; says = reads_as shape d }) (told gs n (entries shape ms))) ≡ Some (Some v)
+        → (only (told gs n (entries shape ms)) ≡ Some (Some v) → IsNamedHeld shape gs n v) → IsNamedHeld shape gs n v
     at None e j ih = ih j
     at (Some f) e j ih = deep (f.number == n) refl j
       where
-        deep : (b : Bool) → (f.number == n) ≡ b → only (if b then reads_as d f ∷ told gs n (entries ms) else told gs n (entries ms)) ≡ Some (Some v) → IsNamedHeld gs n v
-        deep true same q = (f, k, e, same, reading_held d f v (alone _ _ q))
+        deep : (b : Bool) → (f.number == n) ≡ b → only (if b then reads_as shape d f ∷ told gs n (entries shape ms) else told gs n (entries shape ms)) ≡ Some (Some v) → IsNamedHeld shape gs n v
+        deep true same q = (f, k, e, same, reading_held shape d f v (alone _ _ q))
         deep false other q = ih q
 
 -- each value is held by the field of its number
-abbrev pub AllHeld : List FieldShape → Fields → Type 0
-AllHeld gs found = (n : ℕ) (v : Val) → get n found ≡ Some v → (f : FieldShape) × (field_of n gs ≡ Some f) × IsHeldBy f v
+abbrev pub AllHeld : Shape → List FieldShape → Fields → Type 0
+AllHeld shape gs found = (n : ℕ) (v : Val) → get n found ≡ Some v → (f : FieldShape) × (field_of n gs ≡ Some f) × IsHeldBy shape f v
 
-found_from : (allow : Bool) (gs : List FieldShape) (ms : Members) (found : Fields) → fields_for allow gs (entries ms) ≡ Some found → gathered (λ n. only (told gs n (entries ms))) gs ≡ Some found
-found_from allow gs ms found h = at (all_known allow gs (entries ms)) h
+pub found_from : (shape : Shape) (allow : Bool) (gs : List FieldShape) (ms : Members) (found : Fields) → fields_for allow gs (entries shape ms) ≡ Some found → gathered (λ n. only (told gs n (entries shape ms))) gs ≡ Some found
+found_from shape allow gs ms found h = at (all_known allow gs (entries shape ms)) h
   where
-    at : (b : Bool) → (if b then gathered (λ n. only (told gs n (entries ms))) gs else None) ≡ Some found → gathered (λ n. only (told gs n (entries ms))) gs ≡ Some found
+    at : (b : Bool) → (if b then gathered (λ n. only (told gs n (entries shape ms))) gs else None) ≡ Some found → gathered (λ n. only (told gs n (entries shape ms))) gs ≡ Some found
     at true k = k
     at false k = absurd (cc)
 
-pub all_held : (allow : Bool) (gs : List FieldShape) (ms : Members) (found : Fields) → AreAbove 0 gs → fields_for allow gs (entries ms) ≡ Some found → AllHeld gs found
-all_held allow gs ms found proper h n v got =
-    let says = said_for (λ k. only (told gs k (entries ms))) gs found (found_from allow gs ms found h) n v got in
-    let parts = told_held gs n v ms says in
+pub all_held : (shape : Shape) (allow : Bool) (gs : List FieldShape) (ms : Members) (found : Fields) → AreProper gs → fields_for allow gs (entries shape ms) ≡ Some found → AllHeld shape gs found
+all_held shape allow gs ms found proper h n v got =
+    let says = said_for (λ k. only (told gs k (entries shape ms))) gs found (found_from shape allow gs ms found h) n v got in
+    let parts = told_held shape gs n v ms says in
     let same : parts.0.number ≡ n = grind (arith, nat_tests, parts.3) in
     (parts.0, ap (λ k. field_of k gs) (sym same) ∙ named_number gs parts.1 parts.0 proper parts.2, parts.4)
 
@@ -156,29 +146,31 @@ number_back (pos n) h =
     rw (small, h) refl
 number_back (negsuc n) h = rw h refl
 
-shown_again : (f : FieldShape) (v : Val) → IsShown f v → shown f.presence (Some v) ≡ Some v
-shown_again f v (inl e) = rw e refl
-shown_again f v (inr e) = rw e (at f.presence)
+shown_again : (shape : Shape) (f : FieldShape) (v : Val) → IsShown shape f v → shown shape f.presence f.kind (Some v) ≡ Some v
+shown_again shape f v (inl e) = rw e refl
+shown_again shape f v (inr e) = rw e (at f.presence)
   where
     at : (b : Bool) → (if b then Some v else Some v) ≡ Some v
     at true = refl
     at false = refl
 
 -- a value that a field may hold has a tree, which says the value again
-pub record Writes (f : FieldShape) (v : Val) (d : Data) : Type 0 where
+pub record Writes (shape : Shape) (f : FieldShape) (v : Val) (d : Data) : Type 0 where
   pub made : field_tree v f ≡ Some d
-  pub back : reads_as d f ≡ Some (Some v)
+  pub back : reads_as shape d f ≡ Some (Some v)
 
-writes : (f : FieldShape) (v : Val) (d : Data) → IsHeldBy f v → tree_of f.kind v ≡ Some d → scalar f.kind d ≡ Some v → Writes f v d
-writes f v d held made back = record { made = rw held.plain made; back = rw (held.plain, back) (ap Some (shown_again f v held.visible)) }
+writes : (shape : Shape) (f : FieldShape) (v : Val) (d : Data) → IsHeldBy shape f v → tree_of f.kind v ≡ Some d → scalar f.kind d ≡ Some v → Writes shape f v d
+writes shape f v d held made back = record { made = rw held.plain made; back = rw (held.plain, back) (ap Some (shown_again shape f v held.visible)) }
 
-pub held_written : (f : FieldShape) (v : Val) → IsHeldBy f v → (d : Data) × Writes f v d
-held_written f (content.number z) held = (
+pub held_written : (shape : Shape) (f : FieldShape) (v : Val) → IsHeldBy shape f v → (d : Data) × Writes shape f v d
+held_written shape f (content.number z) held = (
   number (of_integer z),
-  writes f (content.number z) _ held (ap (λ k. tree_of k (content.number z)) held.of_kind.0)
+  writes shape f (content.number z) _ held (ap (λ k. tree_of k (content.number z)) held.of_kind.0)
       (ap (λ k. scalar k (number (of_integer z))) held.of_kind.0 ∙ number_back z held.of_kind.1),
 )
-held_written f (content.truth b) held = absurd held.of_kind
-held_written f (content.text s) held = (string s, writes f (content.text s) _ held (ap (λ k. tree_of k (content.text s)) held.of_kind) (ap (λ k. scalar k (string s)) held.of_kind))
-held_written f (content.message c) held = absurd held.of_kind
-held_written f (content.many vs) held = absurd held.of_kind
+held_written shape f (content.truth b) held = absurd held.of_kind
+held_written shape f (content.text s) held = (string s, writes shape f (content.text s) _ held (ap (λ k. tree_of k (content.text s)) held.of_kind) (ap (λ k. scalar k (string s)) held.of_kind))
+held_written shape f (content.octets b) held = absurd held.of_kind
+held_written shape f (content.message c) held = absurd held.of_kind
+held_written shape f (content.many vs) held = absurd held.of_kind
+held_written shape f (content.keyed ps) held = absurd held.of_kind

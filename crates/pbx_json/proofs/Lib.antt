@@ -12,4 +12,6 @@ pub mod Member
 pub mod Sound
 pub mod Plain
 pub mod Flat
+pub mod Allowed
+pub mod Texts
 mod Rows

@@ -2,11 +2,11 @@
 use Rattle.std.proofs.Common.{◌≡◌, ℕ, ◌++◌, ◌&&◌, ◌||◌, List, [], ◌∷◌, Bool, true, false, ◌==◌, if◌then◌else◌, Option, Some, None, option_map, option_and_then, find, refl, ap, sym, ◌∙◌, arith}
 use Rattle.std.specs.List.{list_any}
 use Rattle.std.proofs.lemmas.Bool.Decides.{nat_tests}
-use Rattle.pbx_content.specs.Content.{Val, content, Fields, no_fields, get, IsAscending}
+use Rattle.pbx_meaning.specs.Content.{Val, content, Fields, no_fields, get, IsAscending}
 use Rattle.pbx_json.proofs.FieldsLemmas.{get-put, get-put_other}
 use Rattle.pbx_json.proofs.Extensional.{ascending_put, same_fields}
-use Rattle.pbx_content.specs.declared.shape.FieldShape.{FieldShape}
-use Rattle.pbx_json.specs.Names.{field_named, or_else, json_name_is, name_is}
+use Rattle.pbx_meaning.specs.declared.shape.FieldShape.{FieldShape}
+use Rattle.pbx_json.specs.Names.{field_named, or_else, json_name_is, name_is, extension_is}
 use Rattle.pbx_json.specs.Scalars.{Reading}
 use Rattle.pbx_json.specs.Stands.{put, Entry, is_known, all_known, readings_with, told, only, with_reading, gathered, fields_for, message_of}
 use Rattle.pbx_json.specs.Walk.{State, start, noted, turn, walk, IsCovered}
@@ -92,11 +92,13 @@ find_any p (x ∷ fs) g h = at (p x) h (find_any p fs g)
         or_true false = refl
 
 pub known_number : (key : List ℕ) (m : List FieldShape) (g : FieldShape) → field_named key m ≡ Some g → list_any (λ x. x.number == g.number) m ≡ true
-known_number key m g h = at (find (json_name_is key) m) refl h
+known_number key m g h = at (find (json_name_is key) m) (find (name_is key) m) refl refl h
   where
-    at : (o : Option FieldShape) → find (json_name_is key) m ≡ o → or_else o (find (name_is key) m) ≡ Some g → list_any (λ x. x.number == g.number) m ≡ true
-    at None e k = find_any (name_is key) m g k
-    at (Some f) e k = find_any (json_name_is key) m g (e ∙ k)
+    at : (o q : Option FieldShape) → find (json_name_is key) m ≡ o → find (name_is key) m ≡ q → or_else o (or_else q (find (extension_is key) m)) ≡ Some g
+        → list_any (λ x. x.number == g.number) m ≡ true
+    at None None e r k = find_any (extension_is key) m g k
+    at None (Some f) e r k = find_any (name_is key) m g (r ∙ k)
+    at (Some f) q e r k = find_any (json_name_is key) m g (e ∙ k)
 
 abbrev is_seen : State → ℕ → Bool
 is_seen s n = list_any (λ k. k == n) s.seen

@@ -5,12 +5,12 @@ use Rattle.std.specs.Cmp.Lexicographic.{slice_cmp}
 use Rattle.serde_json.specs.Data.{Data, number, string, object, Members, no_members, member, put}
 use Rattle.serde_json.specs.Find.{of_integer}
 use Rattle.serde_json.specs.Written.{has_float, members_have_float}
-use Rattle.pbx_content.specs.Content as content
-use Rattle.pbx_content.specs.Content.{Content, Fields, Val}
-use Rattle.pbx_content.specs.Shape.{field_of}
-use Rattle.pbx_content.specs.declared.shape.Kind.{Kind}
-use Rattle.pbx_content.specs.declared.shape.Kind.TheVariants as kind
-use Rattle.pbx_content.specs.declared.shape.FieldShape.{FieldShape}
+use Rattle.pbx_meaning.specs.Content as content
+use Rattle.pbx_meaning.specs.Content.{Content, Fields, Val}
+use Rattle.pbx_meaning.specs.Shape.{field_of}
+use Rattle.pbx_meaning.specs.declared.shape.Kind.{Kind}
+use Rattle.pbx_meaning.specs.declared.shape.Kind.TheVariants as kind
+use Rattle.pbx_meaning.specs.declared.shape.FieldShape.{FieldShape}
 use Rattle.pbx_json.specs.Scalars.{is_plain, number_tree, text_tree, tree_of, field_tree}
 use Rattle.pbx_json.specs.Canonical.{put_tree, members_onto, object_of}
 use Rattle.pbx_json.proofs.RoundTrip.{from_map, from_then, from_put}
@@ -21,28 +21,20 @@ number_plain (negsuc n) = refl
 
 number_tree_plain : (k : Kind) (z : ℤ) (d : Data) → number_tree k z ≡ Some d → has_float d ≡ false
 number_tree_plain kind.Int32 z d h = let same : number (of_integer z) ≡ d = cc in rw (← same) (number_plain z)
-number_tree_plain kind.Uint64 z d h = absurd (cc)
-number_tree_plain kind.Sint32 z d h = absurd (cc)
-number_tree_plain kind.Bool z d h = absurd (cc)
-number_tree_plain kind.String z d h = absurd (cc)
-number_tree_plain kind.Float z d h = absurd (cc)
-number_tree_plain (kind.Message t) z d h = absurd (cc)
+number_tree_plain _ z d h = absurd (cc)
 
 text_tree_plain : (k : Kind) (s : List ℕ) (d : Data) → text_tree k s ≡ Some d → has_float d ≡ false
-text_tree_plain kind.Int32 s d h = absurd (cc)
-text_tree_plain kind.Uint64 s d h = absurd (cc)
-text_tree_plain kind.Sint32 s d h = absurd (cc)
-text_tree_plain kind.Bool s d h = absurd (cc)
 text_tree_plain kind.String s d h = let same : string s ≡ d = cc in rw (← same) refl
-text_tree_plain kind.Float s d h = absurd (cc)
-text_tree_plain (kind.Message t) s d h = absurd (cc)
+text_tree_plain _ s d h = absurd (cc)
 
 tree_plain : (k : Kind) (v : Val) (d : Data) → tree_of k v ≡ Some d → has_float d ≡ false
 tree_plain k (content.number z) d h = number_tree_plain k z d h
 tree_plain k (content.truth b) d h = absurd (cc)
 tree_plain k (content.text s) d h = text_tree_plain k s d h
+tree_plain k (content.octets b) d h = absurd (cc)
 tree_plain k (content.message c) d h = absurd (cc)
 tree_plain k (content.many vs) d h = absurd (cc)
+tree_plain k (content.keyed ps) d h = absurd (cc)
 
 field_plain : (v : Val) (f : FieldShape) (d : Data) → field_tree v f ≡ Some d → has_float d ≡ false
 field_plain v f d h = at (is_plain f) h

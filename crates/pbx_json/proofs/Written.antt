@@ -6,12 +6,12 @@ use Rattle.serde_json.specs.View.{view, members_view}
 use Rattle.serde_json.specs.declared.value.Value.{Value}
 use Rattle.serde_json.proofs.Views.{Entry, members_view-insert_entry}
 use Rattle.std.specs.BTreeMap.{insert_entry}
-use Rattle.pbx_content.specs.View.{content_of, fields_in, entry_of, val_of}
-use Rattle.pbx_content.specs.declared.contents.Contents.{Contents, out-Contents}
+use Rattle.pbx_codec.specs.View.{content_of, fields_in, entry_of, val_of}
+use Rattle.pbx_codec.specs.declared.contents.Contents.{Contents, out-Contents}
 use Rattle.pbx_json.proofs.ViewLemmas.{content_of_lem}
-use Rattle.pbx_content.specs.declared.contents.Field.{Field, out-Field}
-use Rattle.pbx_content.specs.Shape.{field_of}
-use Rattle.pbx_content.specs.declared.shape.FieldShape.{FieldShape}
+use Rattle.pbx_codec.specs.declared.contents.Field.{Field, out-Field}
+use Rattle.pbx_meaning.specs.Shape.{field_of}
+use Rattle.pbx_meaning.specs.declared.shape.FieldShape.{FieldShape}
 use Rattle.pbx_json.specs.Canonical.{put_tree, members_onto, object_of}
 use Rattle.pbx_json.specs.Scalars.{field_tree}
 

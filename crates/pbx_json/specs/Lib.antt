@@ -5,4 +5,5 @@ pub mod Canonical
 pub mod Named
 pub mod Walk
 pub mod Found
+pub mod Trees
 pub mod Laws

@@ -11,6 +11,9 @@ mod scalar;
 mod write;
 
 pub use error::TreeError;
-pub use laws::{canonical_is_plain, canonical_stands, stands_flat, stands_for_one};
+pub use laws::{
+    canonical_is_plain, canonical_stands, read_when_allowed, stands_flat, stands_for_one,
+    stands_sound,
+};
 pub use read::read_contents;
 pub use write::write_contents;
