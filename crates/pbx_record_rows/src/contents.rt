@@ -1,9 +1,10 @@
-//! Asks of `pbx_content`. What is wanted is from the examples of Protocol Buffers "Encoding" and from others by hand.
+//! Asks of `pbx_codec`. What is wanted is from the examples of Protocol Buffers "Encoding" and from others by hand.
 
 use crate::json;
 use crate::parts::Done;
 use crate::stop::{Stop, cut, shown, small, word};
-use pbx_content::{Contents, Held, Shape, content_records, decode, encode};
+use pbx_codec::{Contents, Held, content_records, decode, encode};
+use pbx_meaning::Schema;
 use pbx_wire::{DecodeError, List, Rec, Text};
 use std::alloc::Global;
 use std::mem::replace;
@@ -89,50 +90,58 @@ fn fill(alloc: Global, row: &Row) -> Result<Box<Filled>, Stop> {
 }
 
 /// What is written for the contents.
-pub(crate) fn bytes_of(alloc: Global, shape: &Shape, contents: &Contents) -> Result<String, Stop> {
-    shown(alloc, encode(alloc, shape, 0, contents)?.as_slice())
+pub(crate) fn bytes_of(
+    alloc: Global,
+    schema: &Schema,
+    contents: &Contents,
+) -> Result<String, Stop> {
+    shown(alloc, encode(alloc, schema, 0, contents)?.as_slice())
 }
 
-fn count_of(alloc: Global, shape: &Shape, contents: &Contents) -> Result<usize, Stop> {
-    Ok(content_records(alloc, shape, 0, contents)?.len())
+fn count_of(alloc: Global, schema: &Schema, contents: &Contents) -> Result<usize, Stop> {
+    Ok(content_records(alloc, schema, 0, contents)?.len())
 }
 
-fn line(alloc: Global, shape: &Shape, contents: &Contents) -> Result<String, Stop> {
-    let count = count_of(alloc, shape, contents)?;
-    let bytes = bytes_of(alloc, shape, contents)?;
+fn line(alloc: Global, schema: &Schema, contents: &Contents) -> Result<String, Stop> {
+    let count = count_of(alloc, schema, contents)?;
+    let bytes = bytes_of(alloc, schema, contents)?;
     Ok(format!(in alloc; "{count} {bytes}")?)
 }
 
-/// Of the word for a shape and steps: of how many records the contents are written, and what is written.
-fn encoded(alloc: Global, shape: &Shape, row: &Row) -> Result<String, Stop> {
+/// Of the word for a schema and steps: of how many records the contents are written, and what is written.
+fn encoded(alloc: Global, schema: &Schema, row: &Row) -> Result<String, Stop> {
     let filled = fill(alloc, row)?;
-    line(alloc, shape, &filled.contents)
+    line(alloc, schema, &filled.contents)
 }
 
-/// What the bytes mean as a message of the shape's first type.
-pub(crate) fn meaning(alloc: Global, shape: &Shape, bytes: &[u8]) -> Result<Contents, DecodeError> {
-    if shape.is_proper() {
-        decode(alloc, shape, 0, bytes)
-    } else {
-        Err(DecodeError::Key(0))
+/// What the bytes mean as a message of the schema's first type; None where they break a rule.
+pub(crate) fn meaning(
+    alloc: Global,
+    schema: &Schema,
+    bytes: &[u8],
+) -> Result<Option<Contents>, Stop> {
+    match decode(alloc, schema, 0, bytes) {
+        Ok(contents) => Ok(Some(contents)),
+        Err(DecodeError::NoMemory) => Err(Stop::NoMemory),
+        Err(_) => Ok(None),
     }
 }
 
-/// Of the word for a shape and bytes: what is written for what they mean.
-fn decoded(alloc: Global, shape: &Shape, row: &Row) -> Result<String, Stop> {
-    match meaning(alloc, shape, row.bytes(1)) {
-        Ok(contents) => bytes_of(alloc, shape, &contents),
-        Err(_) => word(alloc, "no message"),
+/// Of the word for a schema and bytes: what is written for what they mean.
+fn decoded(alloc: Global, schema: &Schema, row: &Row) -> Result<String, Stop> {
+    match meaning(alloc, schema, row.bytes(1))? {
+        Some(contents) => bytes_of(alloc, schema, &contents),
+        None => word(alloc, "no message"),
     }
 }
 
 /// What the row asks of contents.
-pub(crate) fn answer(alloc: Global, shape: &Shape, row: &Row) -> Result<String, Stop> {
+pub(crate) fn answer(alloc: Global, schema: &Schema, row: &Row) -> Result<String, Stop> {
     match row.asked() {
-        "encode" => encoded(alloc, shape, row),
-        "decode" => decoded(alloc, shape, row),
-        "read-json" => json::read(alloc, shape, row),
-        "write-json" => json::written(alloc, shape, row),
+        "encode" => encoded(alloc, schema, row),
+        "decode" => decoded(alloc, schema, row),
+        "read-json" => json::read(alloc, schema, row),
+        "write-json" => json::written(alloc, schema, row),
         _ => Err(Stop::NoSuchWord),
     }
 }

@@ -8,12 +8,12 @@ use crate::made::Made;
 use crate::parts::Done;
 use crate::shapes::add_field_line;
 use crate::stop::{Stop, shown, word};
-use pbx_content::{FieldShape, Shape};
 use pbx_desc::FileDescriptorProto;
 use pbx_link::{
     DescriptorPool, FileDescriptor, MessageDescriptor, find_message, linked_is_linked,
     pooled_stand_behind, shape_of,
 };
+use pbx_meaning::{FieldShape, Schema};
 use pbx_wire::Text;
 use std::alloc::{AllocError, Global};
 use test_rows::Row;
@@ -112,7 +112,7 @@ fn json_name(alloc: Global, made: &Made) -> Result<String, Stop> {
     }
 }
 
-/// The fields of a type, by ascending number.
+/// The fields of a type, in declared order.
 fn field_lines(alloc: Global, fields: &[FieldShape]) -> Result<String, Stop> {
     let mut lines = String::new(alloc);
     for field in fields {
@@ -121,10 +121,13 @@ fn field_lines(alloc: Global, fields: &[FieldShape]) -> Result<String, Stop> {
     Ok(lines)
 }
 
-fn place_line(alloc: Global, shape: &Shape, name: &str) -> Result<String, Stop> {
-    match find_message(shape, name) {
-        Some(at) => {
-            let lines = field_lines(alloc, shape.fields_of(at))?;
+fn place_line(alloc: Global, schema: &Schema, name: &str) -> Result<String, Stop> {
+    let Some(at) = find_message(schema, name) else {
+        return word(alloc, "none");
+    };
+    match schema.shape().messages.as_slice().get(at) {
+        Some(message) => {
+            let lines = field_lines(alloc, message.fields.as_slice())?;
             Ok(format!(in alloc; "{at} {lines}")?)
         }
         None => word(alloc, "none"),
@@ -133,8 +136,8 @@ fn place_line(alloc: Global, shape: &Shape, name: &str) -> Result<String, Stop> 
 
 /// Of a name: the place in the pool's shape of the message of this name, and its fields.
 fn shape_of_message(alloc: Global, made: &Made, row: &Row) -> Result<String, Stop> {
-    let shape = shape_of(alloc, &made.pool)?;
-    place_line(alloc, &shape, row.text(0))
+    let schema = shape_of(alloc, &made.pool)?;
+    place_line(alloc, &schema, row.text(0))
 }
 
 /// What is written for the pool, as a set of its files.

@@ -1,4 +1,4 @@
-//! Asks of `pbx_wire`, `pbx_content`, `pbx_desc_shape`, `pbx_desc`, `pbx_link` and `pbx_json`, as rows of data.
+//! Asks of `pbx_wire`, `pbx_codec`, `pbx_desc_shape`, `pbx_desc`, `pbx_link` and `pbx_json`, as rows of data.
 //!
 //! A row's third field and those behind it are what the asked word needs, as written at its function. Where a record
 //! is asked about, the fields behind its first are steps, which make it part by part.
@@ -19,7 +19,7 @@ mod stop;
 mod wire;
 
 use made::make;
-use shapes::shape_named;
+use shapes::schema_named;
 use std::alloc::{AllocError, Global};
 use std::io;
 use stop::Stop;
@@ -45,10 +45,10 @@ fn answer(alloc: Global, row: &Row) -> Result<String, Stop> {
     }
 }
 
-/// The same, for what is asked of contents, by the shape that the row's first field names.
+/// The same, for what is asked of contents, by the schema that the row's first field names.
 fn of_contents(alloc: Global, row: &Row) -> Result<String, Stop> {
-    let shape = shape_named(alloc, row.text(0))?;
-    contents::answer(alloc, &shape, row)
+    let schema = schema_named(alloc, row.text(0))?;
+    contents::answer(alloc, &schema, row)
 }
 
 /// The same, for what is asked of what steps make.

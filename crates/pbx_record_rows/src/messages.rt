@@ -115,7 +115,16 @@ fn nest(alloc: Global, message: &mut DescriptorProto) -> Done {
     Ok(())
 }
 
-/// A step with a message: what it holds is what was made last, and by `nested_type` the message goes into another.
+/// The same, so many times.
+fn nest_all(alloc: Global, message: &mut DescriptorProto, times: &str) -> Done {
+    for _ in 0..times.parse::<u32>().unwrap_or(0) {
+        nest(alloc, message)?;
+    }
+    Ok(())
+}
+
+/// A step with a message: what it holds is what was made last. By `nested_type` the message goes into another, and by
+/// `levels NUMBER` so many times.
 pub(crate) fn message_step(
     alloc: Global,
     parts: &mut MessageParts,
@@ -133,6 +142,7 @@ pub(crate) fn message_step(
             FieldDescriptorProto::new(alloc),
         ),
         "nested_type" => nest(alloc, message),
+        "levels" => nest_all(alloc, message, value),
         "enum_type" => hand_over(
             &mut message.enum_type,
             &mut enums.enumeration,

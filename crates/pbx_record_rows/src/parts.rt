@@ -93,6 +93,15 @@ fn add_group(alloc: Global, recs: &mut Recs, inner: &mut Recs, value: &str) -> D
     Ok(())
 }
 
+/// Puts the records into a group of number 1, so many times.
+fn add_levels(alloc: Global, recs: &mut Recs, times: &str) -> Done {
+    for _ in 0..times.parse::<u32>().unwrap_or(0) {
+        let inner = replace(recs, Recs::new(alloc));
+        recs.add(Rec::Group(1, inner))?;
+    }
+    Ok(())
+}
+
 /// A record of bytes, the varints of two numbers, before all others.
 fn insert_packed(alloc: Global, recs: &mut Recs, value: &str) -> Done {
     let (number, numbers) = cut(value);
@@ -108,7 +117,8 @@ fn insert_packed(alloc: Global, recs: &mut Recs, value: &str) -> Done {
 }
 
 /// A step with records: `varint NUMBER VALUE`, `fixed32 NUMBER VALUE`, `inner NUMBER VALUE` (a varint of the next
-/// group), `group NUMBER`, or `packed NUMBER VALUE VALUE` (in front of all others).
+/// group), `group NUMBER`, `levels NUMBER` (so many groups around all others), or `packed NUMBER VALUE VALUE` (in
+/// front of all others).
 pub(crate) fn records_step(
     alloc: Global,
     recs: &mut Recs,
@@ -121,6 +131,7 @@ pub(crate) fn records_step(
         "fixed32" => add_fixed32(recs, value),
         "inner" => add_varint(inner, value),
         "group" => add_group(alloc, recs, inner, value),
+        "levels" => add_levels(alloc, recs, value),
         "packed" => insert_packed(alloc, recs, value),
         _ => Err(Stop::NoSuchWord),
     }

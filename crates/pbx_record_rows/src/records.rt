@@ -6,19 +6,23 @@
 //! 2003 before 2002. A set is a key, a length and the file, after Protocol Buffers "Encoding". In a file the record of
 //! number 1, a field's, is not written, nor one of number 0, and the others are written by ascending number: 14, the
 //! `edition` of later files, 99 and 100. In options all but those of number 0 are written, in order of arrival. The
-//! truth values are those that `google.protobuf` reads of `weak`, `packed` and `deprecated` of `FieldOptions`.
+//! truth values are those that `google.protobuf` reads of `weak`, `packed` and `deprecated` of `FieldOptions`. Bytes
+//! are read with at most 100 levels of messages and groups below the top; of a set that is read file by file, each file
+//! has 100 of its own.
 
 use crate::linking;
 use crate::made::Made;
 use crate::messages::MessageParts;
-use crate::stop::{Stop, shown, small};
+use crate::stop::{Stop, shown, small, word};
 use crate::wire::text_of;
-use pbx_content::{Contents, encode};
+use pbx_codec::{Contents, decode, decode_parts, encode};
 use pbx_desc::{
     FileDescriptorProto, FileDescriptorSet, FileSet, Message, Options, descriptor_shape,
+    file_contents,
 };
 use pbx_desc_shape::place;
-use pbx_wire::{NoMemory, Recs, rec_len};
+use pbx_meaning::Schema;
+use pbx_wire::{DecodeError, NoMemory, Recs, rec_len};
 use std::alloc::Global;
 use std::mem::replace;
 use test_rows::Row;
@@ -110,15 +114,15 @@ fn copied(alloc: Global, made: &mut Made, of: &str) -> Result<String, Stop> {
 
 /// What is written for the contents of the file.
 fn contents(alloc: Global, made: &Made) -> Result<String, Stop> {
-    let contents = made.file.contents(alloc)?;
+    let contents = file_contents(alloc, &made.file)?;
     contents_bytes(alloc, &contents)
 }
 
 fn contents_bytes(alloc: Global, contents: &Contents) -> Result<String, Stop> {
-    let shape = descriptor_shape(alloc)?;
+    let schema = descriptor_shape(alloc)?;
     shown(
         alloc,
-        encode(alloc, &shape, place::FILE, contents)?.as_slice(),
+        encode(alloc, &schema, place::FILE, contents)?.as_slice(),
     )
 }
 
@@ -136,6 +140,37 @@ fn file_set(alloc: Global, made: &Made) -> Result<String, Stop> {
     shown(alloc, set.encode(alloc)?.as_slice())
 }
 
+/// Whether the contents that were read of bytes are written as those bytes.
+fn again(
+    alloc: Global,
+    schema: &Schema,
+    bytes: &[u8],
+    read: Result<Contents, DecodeError>,
+) -> Result<String, Stop> {
+    let contents = match read {
+        Ok(contents) => contents,
+        Err(DecodeError::NoMemory) => return Err(Stop::NoMemory),
+        Err(_) => return word(alloc, "no message"),
+    };
+    if encode(alloc, schema, place::FILE_SET, &contents)?.as_slice() == bytes {
+        word(alloc, "the same")
+    } else {
+        word(alloc, "another")
+    }
+}
+
+/// What comes of reading the set's bytes file by file, and as a whole.
+fn set_again(alloc: Global, made: &Made) -> Result<String, Stop> {
+    let bytes = file_set_of(alloc, made.set.file.as_slice())?.encode(alloc)?;
+    let bytes = bytes.as_slice();
+    let schema = descriptor_shape(alloc)?;
+    let parts = decode_parts(alloc, &schema, place::FILE_SET, bytes);
+    let parts = again(alloc, &schema, bytes, parts)?;
+    let whole = decode(alloc, &schema, place::FILE_SET, bytes);
+    let whole = again(alloc, &schema, bytes, whole)?;
+    Ok(format!(in alloc; "{parts}, as a whole {whole}")?)
+}
+
 /// What the row asks of what its steps made.
 pub(crate) fn answer(alloc: Global, made: &mut Made, row: &Row) -> Result<String, Stop> {
     match row.asked() {
@@ -146,6 +181,7 @@ pub(crate) fn answer(alloc: Global, made: &mut Made, row: &Row) -> Result<String
         "copy" => copied(alloc, made, row.text(0)),
         "contents" => contents(alloc, made),
         "file-set" => file_set(alloc, made),
+        "set-again" => set_again(alloc, made),
         _ => linking::answer(alloc, made, row),
     }
 }

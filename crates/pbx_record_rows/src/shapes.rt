@@ -4,8 +4,8 @@
 
 use crate::parts::Done;
 use crate::stop::{Stop, small};
-use pbx_content::{Cardinality, FieldShape, Kind, MessageShape, Shape};
 use pbx_desc_shape::{descriptor_shape, place};
+use pbx_meaning::{Cardinality, FieldShape, Kind, MessageShape, Schema, SchemaError, Shape};
 use pbx_wire::{List, NoMemory, Text};
 use std::alloc::Global;
 use test_rows::Row;
@@ -39,35 +39,35 @@ pub(crate) fn add_field_line(lines: &mut String, field: &FieldShape) -> Done {
 }
 
 /// Of a place and a number: the field's name and its JSON name.
-fn field_of(alloc: Global, shape: &Shape, row: &Row) -> Result<String, Stop> {
+fn field_of(alloc: Global, schema: &Schema, row: &Row) -> Result<String, Stop> {
     let mut line = String::new(alloc);
-    if let Some(field) = shape.field_of(place_of(row.text(0))?, small(row.number(1))) {
+    if let Some(field) = schema.field_of(place_of(row.text(0))?, small(row.number(1))) {
         add_field_line(&mut line, field)?;
     }
     Ok(line)
 }
 
 /// Of a place: whether the type there keeps the order of its kept records.
-fn keeps_order(alloc: Global, shape: &Shape, row: &Row) -> Result<String, Stop> {
-    let keeps_order = shape.keeps_order(place_of(row.text(0))?);
+fn keeps_order(alloc: Global, schema: &Schema, row: &Row) -> Result<String, Stop> {
+    let keeps_order = schema.keeps_order(place_of(row.text(0))?);
     Ok(format!(in alloc; "{keeps_order}")?)
 }
 
 /// What the row asks of the shape of the descriptor records.
 pub(crate) fn of_descriptors(alloc: Global, row: &Row) -> Result<String, Stop> {
-    let shape = descriptor_shape(alloc)?;
+    let schema = descriptor_shape(alloc)?;
     match row.asked() {
-        "field-of" => field_of(alloc, &shape, row),
-        _ => keeps_order(alloc, &shape, row),
+        "field-of" => field_of(alloc, &schema, row),
+        _ => keeps_order(alloc, &schema, row),
     }
 }
 
 /// A field: its number, name and JSON name, the kind of its values, how many there are, and whether it has presence.
 struct FieldRow(u32, &'static str, &'static str, Kind, Cardinality, bool);
 
-/// The fields of the type `row`, of which 4 and 5 are of one oneof.
+/// The fields of the type `row`, of which 4 and 5 are of one oneof, and 20 is an extension.
 #[rattlefmt::skip]
-static FIELDS: [FieldRow; 9] = [
+static FIELDS: [FieldRow; 14] = [
     FieldRow(1, "a_number", "aNumber", Kind::Int32, Cardinality::Singular, false),
     FieldRow(2, "a_text", "aText", Kind::String, Cardinality::Singular, false),
     FieldRow(3, "a_row", "aRow", Kind::Message(0), Cardinality::Singular, false),
@@ -77,6 +77,11 @@ static FIELDS: [FieldRow; 9] = [
     FieldRow(7, "texts", "texts", Kind::String, Cardinality::Repeated, false),
     FieldRow(8, "large", "large", Kind::Uint64, Cardinality::Singular, false),
     FieldRow(12, "maybe", "maybe", Kind::Int32, Cardinality::Singular, true),
+    FieldRow(13, "wide", "wide", Kind::Int64, Cardinality::Singular, false),
+    FieldRow(14, "bytes", "bytes", Kind::Bytes, Cardinality::Singular, false),
+    FieldRow(15, "pairs", "pairs", Kind::Int32, Cardinality::Map(Kind::String), false),
+    FieldRow(16, "choice", "choice", Kind::Enum(0), Cardinality::Singular, false),
+    FieldRow(20, "rows.extra", "[rows.extra]", Kind::Int32, Cardinality::Singular, true),
 ];
 
 fn field(alloc: Global, row: &FieldRow) -> Result<FieldShape, NoMemory> {
@@ -86,6 +91,7 @@ fn field(alloc: Global, row: &FieldRow) -> Result<FieldShape, NoMemory> {
         number: *number,
         name,
         json_name: Text::from_str(alloc, json_name)?,
+        is_extension: json_name.starts_with('['),
         kind: *kind,
         cardinality: *cardinality,
         presence: *presence,
@@ -108,8 +114,8 @@ fn row_fields(alloc: Global) -> Result<List<FieldShape>, NoMemory> {
     Ok(fields)
 }
 
-/// The shape of one type: `row` has fields, and `options` and `options-in-order` have none.
-pub(crate) fn shape_named(alloc: Global, name: &str) -> Result<Shape, NoMemory> {
+/// The schema of one type: `row` has fields, and `options` and `options-in-order` have none.
+pub(crate) fn schema_named(alloc: Global, name: &str) -> Result<Schema, Stop> {
     let full_name = Text::from_str(alloc, name)?;
     let fields = if name == "row" {
         row_fields(alloc)?
@@ -122,5 +128,13 @@ pub(crate) fn shape_named(alloc: Global, name: &str) -> Result<Shape, NoMemory> 
         fields,
         keeps_order: name == "options-in-order",
     })?;
-    Ok(Shape { messages })
+    let shape = Shape {
+        messages,
+        enums: List::new(alloc),
+    };
+    match Schema::new(alloc, shape) {
+        Ok(schema) => Ok(schema),
+        Err(SchemaError::Improper(_)) => Err(Stop::NoSuchWord),
+        Err(SchemaError::NoMemory(_)) => Err(Stop::NoMemory),
+    }
 }

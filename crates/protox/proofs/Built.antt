@@ -1,18 +1,14 @@
--- What the types of linked files are, and what their own names in JSON give.
-use Rattle.std.proofs.Common.{◌≡◌, ℕ, zero, suc, List, [], ◌∷◌, map, Bool, true, false, not, ◌&&◌, ◌||◌, ◌==◌, if◌then◌else◌, Some, None, find, refl, ap, sym, ◌∙◌, subst}
-use Rattle.std.specs.List.{list_any, list_all, fold, flat_map}
+-- Types whose fields have their own names in JSON.
+use Rattle.std.proofs.Common.{◌≡◌, ℕ, List, [], ◌∷◌, map, Bool, true, false, not, ◌&&◌, ◌||◌, ◌==◌, if◌then◌else◌, Some, None, find, refl, ap, sym, ◌∙◌, subst}
+use Rattle.std.specs.List.{list_any, list_all}
 use Rattle.std.specs.Str.{bytes_eq}
 use Rattle.std.proofs.lemmas.Slice.Eq.{bytes_eq-Decides}
-use Rattle.pbx_content.specs.Shape.{fields_at, fields_of, field_of}
-use Rattle.pbx_content.specs.Sound.{IsProper}
-use Rattle.pbx_content.specs.declared.shape.FieldShape.{FieldShape}
-use Rattle.pbx_desc.specs.declared.field.FieldDescriptorProto.{FieldDescriptorProto}
-use Rattle.pbx_desc.specs.declared.message.DescriptorProto.{DescriptorProto}
-use Rattle.pbx_desc.specs.declared.file.FileDescriptorProto.{FileDescriptorProto}
-use Rattle.pbx_json.specs.Found.{HasNoOneof}
+use Rattle.pbx_meaning.specs.Shape.{declared_of, field_of}
+use Rattle.pbx_meaning.specs.Sound.{IsProper}
+use Rattle.pbx_meaning.specs.declared.shape.FieldShape.{FieldShape}
+use Rattle.pbx_meaning.specs.declared.shape.Shape.{Shape}
 use Rattle.pbx_json.specs.Named.{IsWellNamed}
-use Rattle.pbx_json.specs.Names.{json_name_is, or_else, name_is}
-use Rattle.pbx_link.specs.Shapes.{own_fields, field_shape, has_up_to, inserted, message_shape, shape_of}
+use Rattle.pbx_json.specs.Names.{json_name_is, name_is, extension_is, or_else}
 use Rattle.protox.specs.Parts.{IsBuilt}
 use Rattle.protox.specs.Top.{are_distinct, has_own_names}
 
@@ -24,93 +20,108 @@ neither : (b : Bool) → not b ≡ true → b ≡ false
 neither true h = absurd (cc)
 neither false h = refl
 
--- ---- no field of linked files is of a oneof
+none_of : (a b : Bool) → (a || b) ≡ false → (a ≡ false) × (b ≡ false)
+none_of true b h = absurd (cc)
+none_of false b h = (refl, h)
 
-inserted_alone : (f : FieldShape) (gs : List FieldShape) → f.oneof ≡ None → HasNoOneof gs → HasNoOneof (inserted f gs)
-inserted_alone f [] o h = (o, tt)
-inserted_alone f (g ∷ gs) o h = at (has_up_to f.number (g ∷ gs)) (inserted_alone f gs o h.1)
+and_false : (b : Bool) → (b && false) ≡ false
+and_false true = refl
+and_false false = refl
+
+or_true : (b : Bool) → (b || true) ≡ true
+or_true true = refl
+or_true false = refl
+
+same_bytes : (name : List ℕ) → bytes_eq name name ≡ true
+same_bytes name = (bytes_eq-Decides name name).1 refl
+
+-- ---- fields with their own name in JSON
+
+abbrev AreOwn : List FieldShape → Type 0
+AreOwn [] = Unit {0}
+AreOwn (f ∷ fs) = (f.json_name ≡ f.name) × AreOwn fs
+
+are_own : (fs : List FieldShape) → list_all (λ (f : FieldShape). bytes_eq f.json_name f.name) fs ≡ true → AreOwn fs
+are_own [] h = tt
+are_own (f ∷ fs) h = let parts = both (bytes_eq f.json_name f.name) _ h in ((bytes_eq-Decides f.json_name f.name).0 parts.0, are_own fs parts.1)
+
+abbrev names : List FieldShape → List (List ℕ)
+names fs = map (λ (f : FieldShape). f.name) fs
+
+abbrev has_name : List ℕ → List FieldShape → Bool
+has_name key fs = list_any (λ other. bytes_eq other key) (names fs)
+
+-- the field of a number is one of the fields
+own_name : (n : ℕ) (fs : List FieldShape) (f : FieldShape) → field_of n fs ≡ Some f → AreOwn fs → (f.json_name ≡ f.name) × (has_name f.name fs ≡ true)
+own_name n [] f e h = absurd (cc)
+own_name n (g ∷ fs) f e h = at (n == g.number) e (λ k. own_name n fs f k h.1)
   where
-    at : (b : Bool) → HasNoOneof (inserted f gs) → HasNoOneof (if b then g ∷ inserted f gs else f ∷ g ∷ gs)
-    at true ih = (h.0, ih)
-    at false ih = (o, h)
-
-sorted_alone : (fs : List FieldDescriptorProto) (done : List FieldShape) → HasNoOneof done → HasNoOneof (fold (λ sorted f. inserted f sorted) done (map field_shape fs))
-sorted_alone [] done h = h
-sorted_alone (f ∷ fs) done h = sorted_alone fs (inserted (field_shape f) done) (inserted_alone (field_shape f) done refl h)
-
-messages_alone : (ms : List DescriptorProto) (t : ℕ) → HasNoOneof (fields_at (map message_shape ms) t)
-messages_alone [] t = tt
-messages_alone (m ∷ ms) zero = sorted_alone (own_fields m) [] tt
-messages_alone (m ∷ ms) (suc t) = messages_alone ms t
-
--- ---- fields of no oneof, and with their own name in JSON
-
-abbrev AreSimple : List FieldShape → Type 0
-AreSimple [] = Unit {0}
-AreSimple (f ∷ fs) = (f.oneof ≡ None) × (f.json_name ≡ f.name) × AreSimple fs
-
-simple : (fs : List FieldShape) → HasNoOneof fs → list_all (λ (f : FieldShape). bytes_eq f.json_name f.name) fs ≡ true → AreSimple fs
-simple [] h own = tt
-simple (f ∷ fs) h own = let parts = both (bytes_eq f.json_name f.name) _ own in (h.0, (bytes_eq-Decides f.json_name f.name).0 parts.0, simple fs h.1 parts.1)
-
--- ---- names
-
-found_name : (n : ℕ) (fs : List FieldShape) (f : FieldShape) → field_of n fs ≡ Some f → AreSimple fs → (f.json_name ≡ f.name) × (list_any (λ name. bytes_eq name f.name) (map (λ g. g.name) fs) ≡ true)
-found_name n [] f e h = absurd (cc)
-found_name n (g ∷ fs) f e h = at (n == g.number) e (λ k. found_name n fs f k h.2)
-  where
-    same_bytes : (name : List ℕ) → bytes_eq name name ≡ true
-    same_bytes name = (bytes_eq-Decides name name).1 refl
-
     at : (b : Bool) → (if b then Some g else field_of n fs) ≡ Some f
-        → (field_of n fs ≡ Some f → (f.json_name ≡ f.name) × (list_any (λ name. bytes_eq name f.name) (map (λ x. x.name) fs) ≡ true))
-        → (f.json_name ≡ f.name) × ((bytes_eq g.name f.name || list_any (λ name. bytes_eq name f.name) (map (λ x. x.name) fs)) ≡ true)
+        → (field_of n fs ≡ Some f → (f.json_name ≡ f.name) × (has_name f.name fs ≡ true))
+        → (f.json_name ≡ f.name) × ((bytes_eq g.name f.name || has_name f.name fs) ≡ true)
     at true k later =
         let same : g ≡ f = cc in
-        (let P : FieldShape → Type 0 = λ x. x.json_name ≡ x.name in subst P same h.1, rw (ap (λ x. bytes_eq x.name f.name) same ∙ same_bytes f.name) refl)
+        (let P : FieldShape → Type 0 = λ x. x.json_name ≡ x.name in subst P same h.0, rw (ap (λ x. bytes_eq x.name f.name) same ∙ same_bytes f.name) refl)
     at false k later = let rest = later k in (rest.0, rw rest.1 (or_true (bytes_eq g.name f.name)))
-      where
-        or_true : (b : Bool) → (b || true) ≡ true
-        or_true true = refl
-        or_true false = refl
 
-found_again : (n : ℕ) (fs : List FieldShape) (f : FieldShape) → field_of n fs ≡ Some f → AreSimple fs → are_distinct (map (λ g. g.name) fs) ≡ true → find (json_name_is f.name) fs ≡ Some f
-found_again n [] f e h d = absurd (cc)
-found_again n (g ∷ fs) f e h d = at (n == g.number) e (found_again n fs f)
+-- what is told of no field of another name is not found where no field has the name
+nothing_else : (p : FieldShape → Bool) (key : List ℕ) → ((g : FieldShape) → g.json_name ≡ g.name → bytes_eq g.name key ≡ false → p g ≡ false)
+    → (fs : List FieldShape) → AreOwn fs → has_name key fs ≡ false → find p fs ≡ None
+nothing_else p key apart [] h a = refl
+nothing_else p key apart (g ∷ fs) h a =
+    let parts = none_of (bytes_eq g.name key) (has_name key fs) a in
+    rw (apart g h.0 parts.0) (nothing_else p key apart fs h.1 parts.1)
+
+-- what is told of no field of another name finds the field of the name or none
+only_it : (p : FieldShape → Bool) (n : ℕ) (f : FieldShape) → ((g : FieldShape) → g.json_name ≡ g.name → bytes_eq g.name f.name ≡ false → p g ≡ false)
+    → (fs : List FieldShape) → field_of n fs ≡ Some f → AreOwn fs → are_distinct (names fs) ≡ true → find p fs ≡ (if p f then Some f else None)
+only_it p n f apart [] e h d = absurd (cc)
+only_it p n f apart (g ∷ fs) e h d = at (n == g.number) e (only_it p n f apart fs)
   where
-    parts : (not (list_any (λ other. bytes_eq other g.name) (map (λ x. x.name) fs)) ≡ true) × (are_distinct (map (λ x. x.name) fs) ≡ true)
+    parts : (not (has_name g.name fs) ≡ true) × (are_distinct (names fs) ≡ true)
     parts = both _ _ d
 
-    other : field_of n fs ≡ Some f → bytes_eq g.json_name f.name ≡ false
-    other k = deep (bytes_eq g.json_name f.name) refl
+    other : field_of n fs ≡ Some f → bytes_eq g.name f.name ≡ false
+    other k = deep (bytes_eq g.name f.name) refl
       where
-        deep : (b : Bool) → bytes_eq g.json_name f.name ≡ b → b ≡ false
+        deep : (b : Bool) → bytes_eq g.name f.name ≡ b → b ≡ false
         deep false q = refl
         deep true q =
-            let names : g.name ≡ f.name = sym h.1 ∙ (bytes_eq-Decides g.json_name f.name).0 q in
-            let there : list_any (λ name. bytes_eq name g.name) (map (λ x. x.name) fs) ≡ true =
-            ap (λ m. list_any (λ name. bytes_eq name m) (map (λ x. x.name) fs)) names ∙ (found_name n fs f k h.2).1 in
+            let same : g.name ≡ f.name = (bytes_eq-Decides g.name f.name).0 q in
+            let there : has_name g.name fs ≡ true = ap (λ key. has_name key fs) same ∙ (own_name n fs f k h.1).1 in
             let absent = neither _ parts.0 in
             absurd (cc)
 
     at : (b : Bool) → (if b then Some g else field_of n fs) ≡ Some f
-        → (field_of n fs ≡ Some f → AreSimple fs → are_distinct (map (λ x. x.name) fs) ≡ true → find (json_name_is f.name) fs ≡ Some f)
-        → (if bytes_eq g.json_name f.name then Some g else find (json_name_is f.name) fs) ≡ Some f
+        → (field_of n fs ≡ Some f → AreOwn fs → are_distinct (names fs) ≡ true → find p fs ≡ (if p f then Some f else None))
+        → (if p g then Some g else find p fs) ≡ (if p f then Some f else None)
     at true k later =
         let same : g ≡ f = cc in
-        let own : bytes_eq g.json_name f.name ≡ true = (bytes_eq-Decides g.json_name f.name).1 (h.1 ∙ ap (λ x. x.name) same) in
-        rw own (ap Some same)
-    at false k later = rw (other k) (later k h.2 parts.1)
+        let absent : has_name f.name fs ≡ false = ap (λ (x : FieldShape). has_name x.name fs) (sym same) ∙ neither _ parts.0 in
+        rw (nothing_else p f.name apart fs h.1 absent) (ap (λ (x : FieldShape). if p x then Some x else None) same)
+    at false k later = rw (apart g h.0 (other k)) (later k h.1 parts.1)
 
-well_named : (fs : List FieldShape) → AreSimple fs → are_distinct (map (λ g. g.name) fs) ≡ true → IsWellNamed fs
+well_named : (fs : List FieldShape) → AreOwn fs → are_distinct (names fs) ≡ true → IsWellNamed fs
 well_named fs h d n f e =
-    let own = (found_name n fs f e h).0 in
-    let again : find (json_name_is f.json_name) fs ≡ Some f = ap (λ name. find (json_name_is name) fs) own ∙ found_again n fs f e h d in
-    ap (λ o. or_else o (find (name_is f.json_name) fs)) again
+    let own : f.json_name ≡ f.name = (own_name n fs f e h).0 in
+    let name_apart : (g : FieldShape) → bytes_eq g.name f.name ≡ false → bytes_eq g.name f.json_name ≡ false = (λ g k. ap (λ key. bytes_eq g.name key) own ∙ k) in
+    let json_apart : (g : FieldShape) → g.json_name ≡ g.name → bytes_eq g.name f.name ≡ false → bytes_eq g.json_name f.json_name ≡ false =
+    (λ g same k. ap (λ key. bytes_eq key f.json_name) same ∙ name_apart g k) in
+    rw (
+      only_it (json_name_is f.json_name) n f (λ g same k. rw (json_apart g same k) (and_false (not g.is_extension))) fs e h d,
+      only_it (name_is f.json_name) n f (λ g same k. rw (name_apart g k) (and_false (not g.is_extension))) fs e h d,
+      only_it (extension_is f.json_name) n f (λ g same k. rw (json_apart g same k) (and_false g.is_extension)) fs e h d,
+      same_bytes f.json_name,
+    )
+    (at f.is_extension (bytes_eq f.name f.json_name))
+  where
+    at : (b c : Bool) → or_else (if not b && true then Some f else None) (or_else (if not b && c then Some f else None) (if b && true then Some f else None)) ≡ Some f
+    at true c = refl
+    at false c = refl
 
--- the types of linked files whose fields have their own names
-pub is_built : (files : List FileDescriptorProto) (t : ℕ) → IsProper (shape_of files) → has_own_names (fields_of (shape_of files) t) ≡ true → IsBuilt (shape_of files) t
-is_built files t proper h =
-    let parts = both (list_all (λ (f : FieldShape). bytes_eq f.json_name f.name) (fields_of (shape_of files) t)) _ h in
-    let none : HasNoOneof (fields_of (shape_of files) t) = messages_alone (flat_map (λ f. f.message_type) files) t in
-    record { proper = proper; alone = none; named = well_named (fields_of (shape_of files) t) (simple (fields_of (shape_of files) t) none parts.0) parts.1 }
+-- the types of a proper shape whose fields have their own names
+pub is_built : (shape : Shape) (t : ℕ) → IsProper shape → has_own_names (declared_of shape t) ≡ true → IsBuilt shape t
+is_built shape t proper h =
+    let fs = declared_of shape t in
+    let parts = both (list_all (λ (f : FieldShape). bytes_eq f.json_name f.name) fs) _ h in
+    record { proper = proper; named = well_named fs (are_own fs parts.0) parts.1 }

@@ -1,12 +1,12 @@
 -- What an input is transcoded to is determined, and it is refused for no reason.
-use Rattle.std.proofs.Common.{◌≡◌, ◌≤◌, ◌∙◌, ◌++◌, ◌∷◌, [], inl, inr, ◌⊎◌, ℕ, List, length, true, false, Bool, not, if◌then◌else◌, Option, Some, None, ap, sym, subst, refl, arith}
+use Rattle.std.proofs.Common.{◌≡◌, ◌≤◌, ◌∙◌, ◌++◌, ◌∷◌, [], inl, inr, ◌⊎◌, ℕ, List, length, true, false, Bool, if◌then◌else◌, Option, Some, None, ap, sym, subst, refl, arith}
 use Rattle.serde_json.specs.Data.{Data}
 use Rattle.serde_json.specs.Written.{compact_text}
-use Rattle.pbx_content.specs.Content.{Content}
-use Rattle.pbx_content.specs.Encoding.{encoded}
-use Rattle.pbx_content.specs.Shape.{fields_of}
-use Rattle.pbx_content.specs.declared.shape.Shape.{Shape}
-use Rattle.pbx_desc.specs.declared.file.FileDescriptorProto.{FileDescriptorProto}
+use Rattle.pbx_meaning.specs.Content.{Content}
+use Rattle.pbx_meaning.specs.Encoding.{encoded}
+use Rattle.pbx_meaning.specs.Shape.{declared_of}
+use Rattle.pbx_meaning.specs.declared.shape.Shape.{Shape}
+use Rattle.pbx_desc_records.specs.declared.file.FileDescriptorProto.{FileDescriptorProto}
 use Rattle.pbx_json.specs.Canonical.{canonical}
 use Rattle.pbx_json.specs.Stands.{Stands}
 use Rattle.pbx_link.specs.Shapes.{shape_of, message_named}
@@ -99,8 +99,8 @@ not_both b h k = let e : true ≡ false = sym h ∙ k in cc
 not_built : (name : List ℕ) (tree : Data) (files : List FileDescriptorProto) (set wire : List ℕ) (written : Data) → IsTranscoded name tree files set wire written → IsNotBuilt name tree files → ⊥
 not_built name tree files set wire written h r =
     let same : r.0 ≡ h.0 = same_place r.0 h.0 (message_named name (shape_of files)) r.1 h.1 in
-    let P : ℕ → Type 0 = λ t. (has_own_names (fields_of (shape_of files) t) ≡ false) ⊎ ((c : Content) → ¬ Stands (shape_of files) t false tree c) in
-    elim (subst P same r.2) [ inl other ↦ not_both (has_own_names (fields_of (shape_of files) h.0)) h.2 other | inr none ↦ none h.3.0 h.3.1 ]
+    let P : ℕ → Type 0 = λ t. (has_own_names (declared_of (shape_of files) t) ≡ false) ⊎ ((c : Content) → ¬ Stands (shape_of files) t false tree c) in
+    elim (subst P same r.2) [ inl other ↦ not_both (has_own_names (declared_of (shape_of files) h.0)) h.2 other | inr none ↦ none h.3.0 h.3.1 ]
 
 not_refused : (name : List ℕ) (tree : Data) (files : List FileDescriptorProto) (set wire : List ℕ) (written : Data) (error : TopError) → is_refusal error ≡ true → IsTranscoded name tree files set wire written → IsRefused name tree files error → ⊥
 not_refused name tree files set wire written (top.File error) k h r = absurd r

@@ -6,7 +6,7 @@ use Rattle.protox_io.specs.Sink.{Appends}
 use Rattle.protox.specs.Words.{Args}
 use Rattle.protox_file.specs.Told.{Lookup}
 use Rattle.protox.specs.Class.{Done, Refusing, Judges}
-use Rattle.protox.specs.Outcome.{Obeys, Same, SameBut, error_line}
+use Rattle.protox.specs.Outcome.{Obeys, SameBut, error_line}
 use Rattle.protox.specs.Stops.{Caused, RoseOf, Reached, PlanStops, Untouched, Carrying, Carries, CarryStops, Works, WorkStops, Comes, Leftover, Says, status_of, line_of, object_line}
 use Rattle.protox.specs.declared.stop.Object.{Object}
 use Rattle.protox.specs.declared.stop.Object.TheVariants.{Input, File, Path, Output}

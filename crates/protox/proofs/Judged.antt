@@ -1,8 +1,8 @@
 -- From the answers of the parts to what the whole run comes to.
-use Rattle.std.proofs.Common.{◌≡◌, ◌∷◌, [], ◌≤◌, ◌∙◌, inl, inr, Bool, true, false, if◌then◌else◌, IsTrue, Result, Ok, Err, IfOk, IfErr, MatchOption, ℕ, List, length, Option, Some, None, codes, sym, subst}
+use Rattle.std.proofs.Common.{◌≡◌, ◌∷◌, [], ◌≤◌, Bool, true, false, if◌then◌else◌, IsTrue, Result, Ok, Err, IfOk, IfErr, MatchOption, ℕ, List, length, Option, Some, codes, sym, subst}
 use Rattle.serde_json.specs.Data.{Data}
 use Rattle.serde_json.specs.Written.{has_float, compact_text}
-use Rattle.pbx_desc.specs.declared.file.FileDescriptorProto.{FileDescriptorProto}
+use Rattle.pbx_desc_records.specs.declared.file.FileDescriptorProto.{FileDescriptorProto}
 use Rattle.pbx_json.specs.Laws.{CanonicalIsPlain}
 use Rattle.pbx_link.specs.Shapes.{shape_of}
 use Rattle.protox_io.specs.Count.{Rose}
@@ -18,7 +18,7 @@ use Rattle.protox_compile.specs.Opening.{Accepted, closure}
 use Rattle.protox_compile.specs.Closures.{StopsAt}
 use Rattle.protox_compile.specs.State.{State}
 use Rattle.protox.specs.Top.{ForFiles, IsCaused, IsRefused, IsTranscoded, Refuses, is_fault, is_memory, most_files, of_error}
-use Rattle.protox.specs.Class.{limit, folder, json_of, AreRead, ForTree, Gives}
+use Rattle.protox.specs.Class.{limit, folder, json_of, AreRead, Gives}
 use Rattle.protox.specs.Parts.{IsFileStop, IsInputStop, IsStopOf}
 use Rattle.protox.specs.Stops.{Caused, PlanStops}
 use Rattle.protox.specs.Words.{Args}

@@ -1,18 +1,18 @@
 -- What a tree is transcoded to.
-use Rattle.std.proofs.Common.{◌≡◌, ◌≤◌, ◌∙◌, ◌⊎◌, inl, inr, ℕ, List, true, false, Result, Ok, Err, IfOk, IfErr, Some, None, ap, sym, subst}
+use Rattle.std.proofs.Common.{◌≡◌, ◌≤◌, ◌<◌, ◌^◌, ◌∙◌, inr, ℕ, List, length, true, false, Result, Ok, Err, IfOk, IfErr, Some, None, sym, subst}
 use Rattle.serde_json.specs.Data.{Data}
-use Rattle.pbx_content.specs.Content.{Content}
-use Rattle.pbx_content.specs.Laws.{EncodingDecodes}
-use Rattle.pbx_content.specs.Same.{Decodes}
-use Rattle.pbx_content.specs.Shape.{fields_of}
-use Rattle.pbx_content.specs.Sound.{IsSound, depth}
-use Rattle.pbx_content.specs.declared.shape.Shape.{Shape}
-use Rattle.pbx_desc.specs.declared.file.FileDescriptorProto.{FileDescriptorProto}
+use Rattle.pbx_meaning.specs.Content.{Content}
+use Rattle.pbx_meaning.specs.Encoding.{encoded}
+use Rattle.pbx_meaning.specs.Laws.{EncodingDecodes}
+use Rattle.pbx_meaning.specs.Same.{Decodes}
+use Rattle.pbx_meaning.specs.Shape.{declared_of}
+use Rattle.pbx_meaning.specs.Sound.{IsProper, IsSound, depth}
+use Rattle.pbx_meaning.specs.declared.shape.Shape.{Shape}
+use Rattle.pbx_desc_records.specs.declared.file.FileDescriptorProto.{FileDescriptorProto}
 use Rattle.pbx_json.specs.Canonical.{canonical}
 use Rattle.pbx_json.specs.Laws.{CanonicalStands}
 use Rattle.pbx_json.specs.Stands.{Stands}
 use Rattle.pbx_link.specs.Shapes.{shape_of, message_named}
-use Rattle.pbx_content.specs.Sound.{IsProper}
 use Rattle.protox.specs.Parts.{IsBuilt, IsNotTold, IsNotWritten, IsWritten}
 use Rattle.protox.proofs.Built.{is_built}
 use Rattle.protox.specs.Top.{IsRefused, IsSet, IsTranscoded, Transcodes, has_own_names}
@@ -33,9 +33,10 @@ pub transcodes : (shape : Shape) (t : ℕ) (tree : Data) (c : Content) (wire : L
     → Stands shape t false tree c → IsSound shape t c → depth c ≤ 100 → IsWritten shape t c wire written → Transcodes shape t tree wire written
 transcodes shape t tree c wire written decodes again built stands sound shallow h =
     let more = again shape t false tree c built.proper built.named stands in
-    let decoded : Decodes shape t wire c = (let P : List ℕ → Type 0 = λ w. Decodes shape t w c in subst P (sym h.0) (decodes shape t c built.proper sound shallow)) in
-    let same : more.0 ≡ written = (let e : Some more.0 ≡ Some written = sym more.1 ∙ h.1 in cc) in
-    (c, stands, decoded, h.0, h.1, (let Q : Data → Type 0 = λ d. Stands shape t false d c in subst Q same more.2))
+    let short : length (encoded shape t c) < 2 ^ 64 = (let S : List ℕ → Type 0 = λ w. length w < 2 ^ 64 in subst S h.0 h.1) in
+    let decoded : Decodes shape t wire c = (let P : List ℕ → Type 0 = λ w. Decodes shape t w c in subst P (sym h.0) (decodes shape t c built.proper sound short shallow)) in
+    let same : more.0 ≡ written = (let e : Some more.0 ≡ Some written = sym more.1 ∙ h.2 in cc) in
+    (c, stands, decoded, h.0, h.2, (let Q : Data → Type 0 = λ d. Stands shape t false d c in subst Q same more.2))
 
 -- a content that a tree stands for is written
 pub not_told : (shape : Shape) (t : ℕ) (tree : Data) (c : Content) (error : TopError) → CanonicalStands → IsBuilt shape t → Stands shape t false tree c → IsNotWritten (canonical shape t c) error → IsNotTold shape t tree error
@@ -61,16 +62,16 @@ refused name tree files t NoMemory named h = tt
 refused name tree files t NotBuilt named h = (t, named, inr h)
 
 -- a type whose fields have their own names, in the shape of files
-pub is_transcoded : (name : List ℕ) (tree : Data) (files : List FileDescriptorProto) (shape : Shape) (t : ℕ) (set wire : List ℕ) (written : Data) → shape ≡ shape_of files → message_named name shape ≡ Some t → has_own_names (fields_of shape t) ≡ true → IsProper shape
+pub is_transcoded : (name : List ℕ) (tree : Data) (files : List FileDescriptorProto) (shape : Shape) (t : ℕ) (set wire : List ℕ) (written : Data) → shape ≡ shape_of files → message_named name shape ≡ Some t → has_own_names (declared_of shape t) ≡ true → IsProper shape
     → (IsBuilt shape t → Transcodes shape t tree wire written) → IsSet files set → IsTranscoded name tree files set wire written
 is_transcoded name tree files shape t set wire written e named own proper told whole =
-    let P : Shape → Type 0 = λ s. message_named name s ≡ Some t → has_own_names (fields_of s t) ≡ true → IsProper s → (IsBuilt s t → Transcodes s t tree wire written) → IsTranscoded name tree files set wire written in
-    let Q : P (shape_of files) = (λ named own proper told. (t, named, own, told (is_built files t proper own), whole)) in
+    let P : Shape → Type 0 = λ s. message_named name s ≡ Some t → has_own_names (declared_of s t) ≡ true → IsProper s → (IsBuilt s t → Transcodes s t tree wire written) → IsTranscoded name tree files set wire written in
+    let Q : P (shape_of files) = (λ named own proper told. (t, named, own, told (is_built (shape_of files) t proper own), whole)) in
     subst P (sym e) Q named own proper told
 
-pub is_refused : (name : List ℕ) (tree : Data) (files : List FileDescriptorProto) (shape : Shape) (t : ℕ) (error : TopError) → shape ≡ shape_of files → message_named name shape ≡ Some t → has_own_names (fields_of shape t) ≡ true → IsProper shape
+pub is_refused : (name : List ℕ) (tree : Data) (files : List FileDescriptorProto) (shape : Shape) (t : ℕ) (error : TopError) → shape ≡ shape_of files → message_named name shape ≡ Some t → has_own_names (declared_of shape t) ≡ true → IsProper shape
     → (IsBuilt shape t → IsNotTold shape t tree error) → IsRefused name tree files error
 is_refused name tree files shape t error e named own proper told =
-    let P : Shape → Type 0 = λ s. message_named name s ≡ Some t → has_own_names (fields_of s t) ≡ true → IsProper s → (IsBuilt s t → IsNotTold s t tree error) → IsRefused name tree files error in
-    let Q : P (shape_of files) = (λ named own proper told. refused name tree files t error named (told (is_built files t proper own))) in
+    let P : Shape → Type 0 = λ s. message_named name s ≡ Some t → has_own_names (declared_of s t) ≡ true → IsProper s → (IsBuilt s t → IsNotTold s t tree error) → IsRefused name tree files error in
+    let Q : P (shape_of files) = (λ named own proper told. refused name tree files t error named (told (is_built (shape_of files) t proper own))) in
     subst P (sym e) Q named own proper told

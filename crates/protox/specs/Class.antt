@@ -38,7 +38,8 @@ ForTree input P = (length input ≤ limit) × ((tree : Data) × (json_of input �
 -- the wire bytes and the text that a tree is transcoded to, as a message of the type of that name in the file and all that it imports
 abbrev pub Gives : List ℕ → List ℕ → (List ℕ → Lookup) → Data → List ℕ → List ℕ → Type 0
 Gives type_name file lookups tree wire text =
-    (set : List ℕ) × (written : Data) × ForFiles lookups (resolved folder) (file ∷ []) (λ files. IsTranscoded type_name tree files set wire written) × (text ≡ compact_text written)
+    (set : List ℕ) × (written : Data)
+    × ForFiles lookups (resolved folder) (file ∷ []) (λ files. IsTranscoded type_name tree files set wire written) × (text ≡ compact_text written)
 
 -- the line of a refusal of the file, the type's name or the tree
 abbrev pub RefusedWith : List ℕ → List ℕ → (List ℕ → Lookup) → Data → List ℕ → Type 0

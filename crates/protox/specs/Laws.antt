@@ -7,9 +7,13 @@ use Rattle.protox.specs.declared.stop.Refusal.{Refusal}
 
 -- Where the input is transcoded, it is refused for no reason.
 abbrev pub DoneAlone : Type 0
-DoneAlone = (args : Args) (lookups : List ℕ → Lookup) (input wire text : List ℕ) (refusal : Refusal) → Judges args lookups input (Done wire text) → Judges args lookups input (Refusing refusal) → ⊥
+DoneAlone =
+    (args : Args) (lookups : List ℕ → Lookup) (input wire text : List ℕ) (refusal : Refusal)
+    → Judges args lookups input (Done wire text) → Judges args lookups input (Refusing refusal) → ⊥
 
 -- The wire bytes and the text are determined.
 abbrev pub DoneOnce : Type 0
-DoneOnce = (args : Args) (lookups : List ℕ → Lookup) (input wire text later_wire later_text : List ℕ) → Judges args lookups input (Done wire text) → Judges args lookups input (Done later_wire later_text)
+DoneOnce =
+    (args : Args) (lookups : List ℕ → Lookup) (input wire text later_wire later_text : List ℕ)
+    → Judges args lookups input (Done wire text) → Judges args lookups input (Done later_wire later_text)
     → (wire ≡ later_wire) × (text ≡ later_text)

@@ -43,7 +43,8 @@ Leaves args disk (Refusing refusal) status out later line =
 
 abbrev pub Obeys : Option Args → (List ℕ → Lookup) → (List Component → Held) → List ℕ → ℕ → List ℕ → (List Component → Held) → List ℕ → Type 0
 Obeys None lookups disk input status out later line = (status ≡ 2) × (out ≡ []) × Same disk later × (line ≡ error_line words_line)
-Obeys (Some args) lookups disk input status out later line = (ending : Ending) × Judges args lookups input ending × Leaves args disk ending status out later line
+Obeys (Some args) lookups disk input status out later line =
+    (ending : Ending) × Judges args lookups input ending × Leaves args disk ending status out later line
 
 -- words, disk and input come to this status, these bytes on out, this disk and this line on err, where the names of files look up to this
 abbrev pub Outcome : List (List ℕ) → (List ℕ → Lookup) → (List Component → Held) → List ℕ → ℕ → List ℕ → (List Component → Held) → List ℕ → Type 0

@@ -1,19 +1,17 @@
 -- What the parts of a run and of the transcoding answer.
-use Rattle.std.specs.Prelude.{◌≡◌, ◌≤◌, ◌<◌, ℕ, List, length, true, false, Option, Some, None}
+use Rattle.std.specs.Prelude.{◌≡◌, ◌≤◌, ◌<◌, ◌^◌, ℕ, List, length, true, false, Option, Some, None}
 use Rattle.std.specs.List.{concat}
 use Rattle.serde_json.specs.Data.{Data}
-use Rattle.pbx_content.specs.Content.{Content}
-use Rattle.pbx_content.specs.Encoding.{encoded}
-use Rattle.pbx_content.specs.Shape.{fields_of}
-use Rattle.pbx_content.specs.Sound.{IsProper}
-use Rattle.pbx_content.specs.declared.shape.Shape.{Shape}
+use Rattle.pbx_meaning.specs.Content.{Content}
+use Rattle.pbx_meaning.specs.Encoding.{encoded}
+use Rattle.pbx_meaning.specs.Shape.{declared_of}
+use Rattle.pbx_meaning.specs.Sound.{IsProper}
+use Rattle.pbx_meaning.specs.declared.shape.Shape.{Shape}
 use Rattle.pbx_json.specs.Canonical.{canonical}
-use Rattle.pbx_json.specs.Found.{HasNoOneof}
 use Rattle.pbx_json.specs.Named.{IsWellNamed}
 use Rattle.pbx_json.specs.Stands.{Stands}
 use Rattle.protox_file.specs.Told.{Lookup}
 use Rattle.protox_file.specs.Lines.{long_line_of}
-use Rattle.protox_file.specs.declared.error.ErrorKind.{ErrorKind}
 use Rattle.protox.specs.Top.{is_fault, is_refusal, top_line}
 use Rattle.protox.specs.Class.{limit, json_of, RefusedWith}
 use Rattle.protox.specs.Stops.{IsFaultLine}
@@ -24,15 +22,15 @@ use Rattle.protox.specs.declared.stop.Object.TheVariants.{Input, File, Path, Out
 use Rattle.protox.specs.declared.stop.Stop.{Stop}
 use Rattle.protox.specs.declared.stop.Stop.TheVariants.{Words, Refused, Broken, NoMemory}
 
--- What reading and writing stand on: numbers ascend, no field of the type is of a oneof, and each JSON name names its own field.
+-- What reading and writing stand on: the shape is proper, and each JSON name of the type names its own field
+-- (ProtoJSON Format: JSON names are unique in a message).
 pub record IsBuilt (shape : Shape) (t : ℕ) : Type 0 where
   pub proper : IsProper shape
-  pub alone : HasNoOneof (fields_of shape t)
-  pub named : IsWellNamed (fields_of shape t)
+  pub named : IsWellNamed (declared_of shape t)
 
--- the wire bytes are those of the content, and the tree is its canonical one
+-- the wire bytes are those of the content, as many as memory can have, and the tree is its canonical one
 abbrev pub IsWritten : Shape → ℕ → Content → List ℕ → Data → Type 0
-IsWritten shape t c wire written = (wire ≡ encoded shape t c) × (canonical shape t c ≡ Some written)
+IsWritten shape t c wire written = (wire ≡ encoded shape t c) × (length wire < 2 ^ 64) × (canonical shape t c ≡ Some written)
 
 -- there is no tree to write, or want of memory
 abbrev pub IsNotWritten : Option Data → TopError → Type 0

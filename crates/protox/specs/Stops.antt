@@ -41,7 +41,8 @@ pub record Midway (args : Args) (lookups : List ℕ → Lookup) (disk : List Com
 -- where a stop leaves a run
 abbrev pub Leftover : Option Args → (List ℕ → Lookup) → (List Component → Held) → List ℕ → (List Component → Held) → List ℕ → Type 0 → Type 0 → Type 0
 Leftover None lookups disk input later out path_refused out_refused = Untouched disk later out
-Leftover (Some args) lookups disk input later out path_refused out_refused = Untouched disk later out ⊎ Midway args lookups disk input later out path_refused out_refused
+Leftover (Some args) lookups disk input later out path_refused out_refused =
+    Untouched disk later out ⊎ Midway args lookups disk input later out path_refused out_refused
 
 -- a fault of reading says which file could not be read and why; a write comes only where all was read and accepted
 abbrev pub Reached : Option Args → (List ℕ → Lookup) → List ℕ → Object → Type 0

@@ -1,16 +1,17 @@
 -- What files, a type's name and a tree come to: the transcoding, or the first refusal.
-use Rattle.std.specs.Prelude.{◌≡◌, ◌∷◌, ◌++◌, [], ℕ, List, Bool, true, false, not, ◌&&◌, map, Option, Some, None, ◌⊎◌, codes, if◌then◌else◌}
+use Rattle.std.specs.Prelude.{◌≡◌, ◌∷◌, [], ℕ, List, Bool, true, false, not, ◌&&◌, map, Option, Some, None, ◌⊎◌, codes, if◌then◌else◌}
 use Rattle.std.specs.List.{list_all, list_any}
 use Rattle.std.specs.Str.{bytes_eq}
 use Rattle.serde_json.specs.Data.{Data}
-use Rattle.pbx_content.specs.Content.{Content}
-use Rattle.pbx_content.specs.Encoding.{encoded}
-use Rattle.pbx_content.specs.Same.{Decodes}
-use Rattle.pbx_content.specs.Shape.{fields_of}
-use Rattle.pbx_content.specs.declared.shape.FieldShape.{FieldShape}
-use Rattle.pbx_content.specs.declared.shape.Shape.{Shape}
-use Rattle.pbx_desc.specs.declared.file.FileDescriptorProto.{FileDescriptorProto}
+use Rattle.pbx_meaning.specs.Content.{Content}
+use Rattle.pbx_meaning.specs.Encoding.{encoded}
+use Rattle.pbx_meaning.specs.Same.{Decodes}
+use Rattle.pbx_meaning.specs.Shape.{declared_of}
+use Rattle.pbx_meaning.specs.declared.shape.FieldShape.{FieldShape}
+use Rattle.pbx_meaning.specs.declared.shape.Shape.{Shape}
+use Rattle.pbx_desc_records.specs.declared.file.FileDescriptorProto.{FileDescriptorProto}
 use Rattle.pbx_desc.specs.Content.{files_content}
+use Rattle.pbx_desc.specs.Sets.{DecodesSet}
 use Rattle.pbx_desc_shape.specs.Shape.{descriptor_shape}
 use Rattle.pbx_json.specs.Stands.{Stands}
 use Rattle.pbx_json.specs.Canonical.{canonical}
@@ -34,7 +35,7 @@ abbrev pub are_distinct : List (List ℕ) → Bool
 are_distinct [] = true
 are_distinct (name ∷ names) = not (list_any (λ other. bytes_eq other name) names) && are_distinct names
 
--- the JSON name of each field is the field's name, and that of no other field
+-- the JSON name of each field is the field's name, and that of no other field (ProtoJSON Format: JSON names are unique in a message)
 abbrev pub has_own_names : List FieldShape → Bool
 has_own_names fs = list_all (λ (f : FieldShape). bytes_eq f.json_name f.name) fs && are_distinct (map (λ (f : FieldShape). f.name) fs)
 
@@ -42,21 +43,25 @@ has_own_names fs = list_all (λ (f : FieldShape). bytes_eq f.json_name f.name) f
 -- canonical tree, which stands for it again.
 abbrev pub Transcodes : Shape → ℕ → Data → List ℕ → Data → Type 0
 Transcodes shape t tree wire written =
-    (c : Content) × Stands shape t false tree c × Decodes shape t wire c × (wire ≡ encoded shape t c) × (canonical shape t c ≡ Some written) × Stands shape t false written c
+    (c : Content) × Stands shape t false tree c × Decodes shape t wire c × (wire ≡ encoded shape t c)
+    × (canonical shape t c ≡ Some written) × Stands shape t false written c
 
--- the bytes are the canonical encoding of the set of the files, and decode to it
+-- the bytes are the canonical encoding of the set of the files, and decode to it file by file (Protocol Buffers `descriptor.proto`:
+-- FileDescriptorSet)
 abbrev pub IsSet : List FileDescriptorProto → List ℕ → Type 0
-IsSet files set = (set ≡ encoded descriptor_shape 0 (files_content files)) × Decodes descriptor_shape 0 set (files_content files)
+IsSet files set = (set ≡ encoded descriptor_shape 0 (files_content files)) × DecodesSet set (files_content files)
 
 -- among these linked files, the tree is transcoded as a message of the type of that name
 abbrev pub IsTranscoded : List ℕ → Data → List FileDescriptorProto → List ℕ → List ℕ → Data → Type 0
 IsTranscoded name tree files set wire written =
-    (t : ℕ) × (message_named name (shape_of files) ≡ Some t) × (has_own_names (fields_of (shape_of files) t) ≡ true) × Transcodes (shape_of files) t tree wire written × IsSet files set
+    (t : ℕ) × (message_named name (shape_of files) ≡ Some t) × (has_own_names (declared_of (shape_of files) t) ≡ true)
+    × Transcodes (shape_of files) t tree wire written × IsSet files set
 
 -- what is not built yet: a type that has other JSON names than its fields' own, and a tree that no content stands for
 abbrev pub IsNotBuilt : List ℕ → Data → List FileDescriptorProto → Type 0
 IsNotBuilt name tree files =
-    (t : ℕ) × (message_named name (shape_of files) ≡ Some t) × ((has_own_names (fields_of (shape_of files) t) ≡ false) ⊎ ((c : Content) → ¬ Stands (shape_of files) t false tree c))
+    (t : ℕ) × (message_named name (shape_of files) ≡ Some t)
+    × ((has_own_names (declared_of (shape_of files) t) ≡ false) ⊎ ((c : Content) → ¬ Stands (shape_of files) t false tree c))
 
 -- why a type's name and a tree are refused among these linked files
 abbrev pub IsRefused : List ℕ → Data → List FileDescriptorProto → TopError → Type 0
@@ -67,7 +72,8 @@ IsRefused name tree files error = ⊥
 
 -- this holds of the linked files of the paths and of all that they import, each once and behind its imports
 abbrev pub ForFiles : (List ℕ → Lookup) → (List ℕ → Option (List ℕ)) → List (List ℕ) → (List FileDescriptorProto → Type 0) → Type 0
-ForFiles lookups resolves paths P = (files : List Done) × (closure lookups resolves most_files paths [] ≡ (files, Accepted)) × P (records files)
+ForFiles lookups resolves paths P =
+    (files : List Done) × (closure lookups resolves most_files paths [] ≡ (files, Accepted)) × P (records files)
 
 -- why paths, a type's name and a tree are refused
 abbrev pub Refuses : (List ℕ → Lookup) → (List ℕ → Option (List ℕ)) → List (List ℕ) → List ℕ → Data → TopError → Type 0

@@ -4,7 +4,9 @@ ghost use Rattle.std.specs.Prelude.{◌≡◌, ◌≤◌, ◌⊎◌, [], map, So
 ghost use Rattle.std.specs.List.{list_all};
 ghost use Rattle.std.specs.Str.{bytes_eq};
 ghost use Rattle.serde_json.specs.View.{view};
-ghost use Rattle.pbx_content.specs.View.{content_of};
+ghost use Rattle.pbx_meaning.specs.Shape.{declared_of};
+ghost use Rattle.pbx_meaning.specs.Sound.{IsProper};
+ghost use Rattle.pbx_codec.specs.View.{content_of};
 ghost use Rattle.pbx_json.specs.Canonical.{canonical};
 ghost use Rattle.protox_io.specs.Count.{Rose};
 ghost use Rattle.protox_file.specs.Told.{Lookup, AreLookups};
@@ -15,11 +17,12 @@ ghost use Rattle.protox.specs.Top.{ForFiles, IsSet, IsTranscoded, IsRefused, Ref
 ghost use Rattle.protox.specs.declared.error.TopError.{TopError as ATopError};
 
 use crate::error::{TopError, file_error};
-use pbx_content::{Contents, FieldShape, Shape, encode, encoding_decodes};
+use pbx_codec::{Contents, encode};
 use pbx_json::{
     TreeError, canonical_is_plain, canonical_stands, read_contents, stands_flat, write_contents,
 };
 use pbx_link::{DescriptorPool, find_message, shape_of};
+use pbx_meaning::{FieldShape, Schema, encoding_decodes};
 use pbx_wire::{Blob, NoMemory, Text, Texts};
 use protox_compile::Compiler;
 use protox_file::FileResolver;
@@ -43,6 +46,19 @@ pub struct Transcoded {
 pub struct Attempt<R> {
     pub resolver: R,
     pub result: Result<Transcoded, TopError>,
+}
+
+/// The fields of the type at a place, in declared order; a place outside the schema has none.
+fn declared_fields(schema: &Schema, type_at: usize) -> &[FieldShape]
+    ensures fields { result.now ≡ declared_of schema.now type_at }
+    ensures proper { IsProper schema.now }
+{
+    let messages = schema.shape().messages.as_slice();
+    if type_at < messages.len() {
+        messages[type_at].fields.as_slice()
+    } else {
+        &[]
+    }
 }
 
 /// Whether no two fields have one name.
@@ -92,17 +108,17 @@ fn type_not_found(alloc: Global, type_name: &str) -> TopError
 /// The wire bytes of the contents, and their canonical tree.
 fn write_both(
     alloc: Global,
-    shape: &Shape,
-    message: usize,
+    schema: &Schema,
+    type_at: usize,
     contents: &Contents,
 ) -> Result<(Blob, Value), TopError>
-    ensures ok { IfOk result (λ done. IsWritten shape.now message (content_of contents.now) done.0 (view done.1)) }
-    ensures stop { IfErr result (IsNotWritten (canonical shape.now message (content_of contents.now))) }
+    ensures ok { IfOk result (λ done. IsWritten schema.now type_at (content_of contents.now) done.0 (view done.1)) }
+    ensures stop { IfErr result (IsNotWritten (canonical schema.now type_at (content_of contents.now))) }
 {
-    let Ok(wire) = encode(alloc, shape, message, contents) else {
+    let Ok(wire) = encode(alloc, schema, type_at, contents) else {
         return Err(TopError::NoMemory);
     };
-    match write_contents(alloc, shape, message, contents) {
+    match write_contents(alloc, schema, type_at, contents) {
         Ok(tree) => Ok((wire, tree)),
         Err(TreeError::Refused) => Err(TopError::NotBuilt),
         Err(TreeError::NoMemory) => Err(TopError::NoMemory),
@@ -112,14 +128,14 @@ fn write_both(
 /// The wire bytes of the message that the tree stands for, and its canonical tree.
 fn transcode_as(
     alloc: Global,
-    shape: &Shape,
-    message: usize,
+    schema: &Schema,
+    type_at: usize,
     tree: &Value,
 ) -> Result<(Blob, Value), TopError>
-    ensures ok { IsBuilt shape.now message → IfOk result (λ done. Transcodes shape.now message (view tree.now) done.0 (view done.1)) }
-    ensures err { IsBuilt shape.now message → IfErr result (IsNotTold shape.now message (view tree.now)) }
+    ensures ok { IsBuilt schema.now type_at → IfOk result (λ done. Transcodes schema.now type_at (view tree.now) done.0 (view done.1)) }
+    ensures err { IsBuilt schema.now type_at → IfErr result (IsNotTold schema.now type_at (view tree.now)) }
 {
-    let contents = match read_contents(alloc, shape, message, false, tree) {
+    let contents = match read_contents(alloc, schema, type_at, false, tree) {
         Ok(contents) => contents,
         Err(TreeError::Refused) => return Err(TopError::NotBuilt),
         Err(TreeError::NoMemory) => return Err(TopError::NoMemory),
@@ -128,7 +144,7 @@ fn transcode_as(
     canonical_stands();
     encoding_decodes();
     stands_flat();
-    write_both(alloc, shape, message, &contents)
+    write_both(alloc, schema, type_at, &contents)
 }
 
 /// The set of a pool's files.
@@ -149,13 +165,13 @@ fn transcode_in(
     ensures ok { IfOk result (λ done. IsTranscoded type_name.now (view tree.now) pool.now done.set done.wire (view done.tree)) }
     ensures err { IfErr result (IsRefused type_name.now (view tree.now) pool.now) }
 {
-    let Ok(shape) = shape_of(alloc, pool) else {
+    let Ok(schema) = shape_of(alloc, pool) else {
         return Err(TopError::NoMemory);
     };
-    let Some(message) = find_message(&shape, type_name) else {
+    let Some(type_at) = find_message(&schema, type_name) else {
         return Err(type_not_found(alloc, type_name));
     };
-    match have_own_names(alloc, shape.fields_of(message)) {
+    match have_own_names(alloc, declared_fields(&schema, type_at)) {
         Ok(true) => {}
         Ok(false) => return Err(TopError::NotBuilt),
         Err(NoMemory) => return Err(TopError::NoMemory),
@@ -163,7 +179,7 @@ fn transcode_in(
     let Ok(set) = set_of(alloc, pool) else {
         return Err(TopError::NoMemory);
     };
-    match transcode_as(alloc, &shape, message, tree) {
+    match transcode_as(alloc, &schema, type_at, tree) {
         Ok((wire, tree)) => Ok(Transcoded { set, wire, tree }),
         Err(error) => Err(error),
     }

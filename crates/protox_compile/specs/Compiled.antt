@@ -1,7 +1,7 @@
 -- Compiled files: what is known of each, beside the records of a pool.
 use Rattle.std.specs.Prelude.{◌≡◌, ℕ, List, [], ◌∷◌, ◌++◌, true, false, not, if◌then◌else◌, Option, Some, None}
 use Rattle.std.specs.Str.{bytes_eq}
-use Rattle.pbx_desc.specs.declared.file.FileDescriptorProto.{FileDescriptorProto}
+use Rattle.pbx_desc_records.specs.declared.file.FileDescriptorProto.{FileDescriptorProto}
 use Rattle.pbx_link.specs.Pool.{is_linkable, IsRefused}
 use Rattle.protox_file.specs.Metadata.{Metadata}
 use Rattle.protox_file.specs.declared.error.ErrorKind.{ErrorKind}

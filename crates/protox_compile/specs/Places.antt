@@ -1,7 +1,7 @@
 -- The place of an import in its source (Protocol Buffers, descriptor.proto: SourceCodeInfo.Location).
 use Rattle.std.specs.Prelude.{ℕ, ◌+◌, ◌==◌, ◌&&◌, ℤ, pos, List, [], ◌∷◌, Bool, false, if◌then◌else◌, Option, Some, None, option_and_then}
 use Rattle.std.specs.Option.{option_or}
-use Rattle.pbx_desc.specs.declared.source.Location.{Location}
+use Rattle.pbx_desc_records.specs.declared.source.Location.{Location}
 use Rattle.protox_file.specs.Told.{Entry}
 
 -- the path is that of the import of this index: `dependency` is the field 3 of a file

@@ -3,7 +3,7 @@
 use Rattle.std.specs.Prelude.{◌+◌, ◌-◌, ◌∷◌, ◌++◌, [], ℕ, zero, suc, List, Bool, false, if◌then◌else◌, nat_lt, length, reverse, map, codes, Option, Some, None}
 use Rattle.std.specs.List.{list_any, concat}
 use Rattle.std.specs.Str.{bytes_eq}
-use Rattle.pbx_desc.specs.declared.file.FileDescriptorProto.{FileDescriptorProto}
+use Rattle.pbx_desc_records.specs.declared.file.FileDescriptorProto.{FileDescriptorProto}
 use Rattle.pbx_link.specs.Linked.{linked}
 use Rattle.pbx_link.specs.Pool.{is_linkable}
 use Rattle.pbx_link.specs.Rules.{among}

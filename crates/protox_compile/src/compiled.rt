@@ -25,7 +25,7 @@ pub(crate) struct Compiled {
 impl Model for Compiled {
     ghost use Rattle.std.specs.Prelude.{List};
     ghost use Rattle.std.specs.Coded.{codes};
-    ghost use Rattle.pbx_desc.specs.contracts.file.FileDescriptorProto as proto;
+    ghost use Rattle.pbx_desc_records.specs.contracts.file.FileDescriptorProto as proto;
     ghost use Rattle.protox_compile.specs.Walk.{Done};
     ghost use Rattle.protox_compile.specs.Compiled.{done_of, AreRecorded};
 

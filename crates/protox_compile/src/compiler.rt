@@ -33,7 +33,7 @@ pub struct Compiler<R> {
 
 impl<R> Model for Compiler<R> {
     ghost use Rattle.std.specs.Coded.{codes};
-    ghost use Rattle.pbx_desc.specs.contracts.file.FileDescriptorProto as proto;
+    ghost use Rattle.pbx_desc_records.specs.contracts.file.FileDescriptorProto as proto;
     ghost use Rattle.protox_compile.specs.State.{State};
 
     ghost Value = { State R };

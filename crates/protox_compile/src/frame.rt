@@ -21,7 +21,7 @@ impl Model for Frame {
     ghost use Rattle.std.specs.Prelude.{◌≡◌, ◌≤◌, length, true};
     ghost use Rattle.std.specs.Coded.{codes};
     ghost use Rattle.std.specs.Str.{bytes_eq};
-    ghost use Rattle.pbx_desc.specs.contracts.file.FileDescriptorProto as proto;
+    ghost use Rattle.pbx_desc_records.specs.contracts.file.FileDescriptorProto as proto;
     ghost use Rattle.protox_compile.specs.Walk.{Open, imports_of, declared_name};
 
     ghost Value = { Open };

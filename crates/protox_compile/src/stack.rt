@@ -17,7 +17,7 @@ pub(crate) struct Stack {
 impl Model for Stack {
     ghost use Rattle.std.specs.Prelude.{List, reverse};
     ghost use Rattle.std.specs.Coded.{codes};
-    ghost use Rattle.pbx_desc.specs.contracts.file.FileDescriptorProto as proto;
+    ghost use Rattle.pbx_desc_records.specs.contracts.file.FileDescriptorProto as proto;
     ghost use Rattle.protox_compile.specs.Walk.{Open};
 
     ghost Value = { List Open };

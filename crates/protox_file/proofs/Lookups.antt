@@ -1,6 +1,6 @@
 -- What looking a name up comes to is one thing at most.
 use Rattle.std.proofs.Common.{◌≡◌, ℕ, List, Option, sym, ap, ◌∙◌}
-use Rattle.pbx_desc.specs.declared.file.FileDescriptorProto.{FileDescriptorProto as Record}
+use Rattle.pbx_desc_records.specs.declared.file.FileDescriptorProto.{FileDescriptorProto as Record}
 use Rattle.pbx_parse.specs.Reads.{Reads}
 use Rattle.protox_file.specs.Told.{Entry, Told, Absent, Recorded, Source, TooLarge, NotText, Lookup, NoFile, IsFile, TextFault, IsReading, IsLookup}
 

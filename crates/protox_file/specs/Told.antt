@@ -1,7 +1,7 @@
 -- What a resolver tells of its names, and what looking a name up comes to.
 use Rattle.std.specs.Prelude.{◌≡◌, ℕ, nat_lt, List, Option, Some, None, if◌then◌else◌, length}
 use Rattle.std.specs.Str.{is_utf8}
-use Rattle.pbx_desc.specs.declared.file.FileDescriptorProto.{FileDescriptorProto}
+use Rattle.pbx_desc_records.specs.declared.file.FileDescriptorProto.{FileDescriptorProto}
 use Rattle.pbx_parse.specs.Reads.{Reads}
 use Rattle.protox_io.specs.Disk.{Held, Missing, Oversized, Stored}
 use Rattle.protox_io.specs.Paths.{Component, disk_key}

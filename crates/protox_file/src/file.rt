@@ -9,7 +9,7 @@ ghost use Rattle.protox_file.specs.Causes.{HasCause, IsTold, IsOfPath};
 ghost use Rattle.protox_file.specs.Told.{Told, Lookup, Source, IsLookup, told_source, told_held};
 
 use crate::error::Error;
-use pbx_desc::FileDescriptorProto;
+use pbx_desc_records::FileDescriptorProto;
 use pbx_parse::parse;
 use pbx_wire::{Blob, NoMemory, Text};
 use protox_io::{Disk, DiskAnswer, DiskError};
@@ -32,7 +32,7 @@ pub struct File {
 impl Model for File {
     ghost use Rattle.std.specs.Prelude.{◌≡◌, None};
     ghost use Rattle.std.specs.Coded.{codes};
-    ghost use Rattle.pbx_desc.specs.contracts.file.FileDescriptorProto as proto;
+    ghost use Rattle.pbx_desc_records.specs.contracts.file.FileDescriptorProto as proto;
     ghost use Rattle.protox_file.specs.Told.{Entry};
 
     ghost Value = { Entry };

@@ -36,7 +36,7 @@ pub struct MemoryResolver {
 impl Model for MemoryResolver {
     ghost use Rattle.std.specs.Coded.{codes};
     ghost use Rattle.std.specs.Prelude.{◌≡◌, Some, All};
-    ghost use Rattle.pbx_desc.specs.contracts.file.FileDescriptorProto as proto;
+    ghost use Rattle.pbx_desc_records.specs.contracts.file.FileDescriptorProto as proto;
     ghost use Rattle.protox_file.specs.Memory.{ResolverState};
     ghost use Rattle.protox_paths.specs.Paths.{name_of};
 

@@ -2,7 +2,7 @@
 
 use crate::errors::add_file_and_sort;
 use crate::told::Told;
-use pbx_desc::FileDescriptorProto;
+use pbx_desc_records::FileDescriptorProto;
 use pbx_wire::{NoMemory, Text};
 use protox_file::{Error, File, FileMetadata, looked_up_once};
 use std::alloc::Global;

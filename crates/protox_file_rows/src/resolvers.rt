@@ -4,7 +4,7 @@ use crate::disks;
 use crate::errors::add_long_line;
 use crate::step::{Step, add_texts, halves, number, step_at, steps};
 use crate::told::Told;
-use pbx_desc::FileDescriptorProto;
+use pbx_desc_records::FileDescriptorProto;
 use pbx_wire::{NoMemory, Text};
 use protox_file::{
     Error, ErrorKind, File, FileResolver, IncludeFileResolver, MemoryResolver,

@@ -1,7 +1,7 @@
 -- What is written of the files of some names, on a disk that has this at each key.
 use Rattle.std.specs.Prelude.{◌≡◌, true, false, ◌∷◌, ◌++◌, [], ◌⊎◌, ℕ, List, Result, Ok, Err, Some, length, decimal, codes}
 use Rattle.std.specs.List.{concat}
-use Rattle.pbx_content.specs.Encoding.{encoded}
+use Rattle.pbx_meaning.specs.Encoding.{encoded}
 use Rattle.pbx_desc_shape.specs.Shape.{descriptor_shape}
 use Rattle.pbx_desc.specs.Content.{file_content}
 use Rattle.protox_io.specs.Disk.{Held}
@@ -22,7 +22,8 @@ told_of holds name = told_held (holds (disk_key name)) (Some name)
 
 -- These are the bytes of the file's record before linking, `google.protobuf.FileDescriptorProto`.
 abbrev pub HasRecord : (List Component → Held) → List ℕ → List ℕ → Type 0
-HasRecord holds name bytes = (entry : Entry) × IsLookup name (told_of holds name) (IsFile entry) × (bytes ≡ encoded descriptor_shape 1 (file_content entry.file))
+HasRecord holds name bytes =
+    (entry : Entry) × IsLookup name (told_of holds name) (IsFile entry) × (bytes ≡ encoded descriptor_shape 1 (file_content entry.file))
 
 -- the file has no record, for a reason of which this is the line
 abbrev pub HasNone : (List Component → Held) → List ℕ → List ℕ → Type 0

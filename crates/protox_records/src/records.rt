@@ -1,6 +1,6 @@
 ghost use Rattle.std.specs.Prelude.{◌≡◌, ◌≤◌, IfOk, IfErr, IsTrue, List, ℕ};
 ghost use Rattle.std.specs.List.{concat};
-ghost use Rattle.pbx_content.specs.Encoding.{encoded};
+ghost use Rattle.pbx_meaning.specs.Encoding.{encoded};
 ghost use Rattle.pbx_desc_shape.specs.Shape.{descriptor_shape};
 ghost use Rattle.pbx_desc.specs.Content.{file_content};
 ghost use Rattle.protox_io.specs.Count.{Rose};
