@@ -1,0 +1,4 @@
+pub mod Sound
+pub mod Walk
+pub mod Lists
+pub mod Nested
