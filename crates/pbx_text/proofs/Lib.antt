@@ -1,4 +1,9 @@
 mod Rows
+pub mod Clocks
+pub mod Durations
+pub mod DurationsRead
+pub mod Masks
+pub mod Camels
 pub mod Decimals
 pub mod Symbols
 pub mod Groups

@@ -1,5 +1,5 @@
 -- Whole numbers as decimal texts (ProtoJSON Format: 64-bit integers are written as strings, and all integers may be read from strings).
-use Rattle.std.specs.Prelude.{ℕ, ◌-◌, ◌+◌, ◌*◌, ◌&&◌, nat_le, ◌==◌, ℤ, pos, neg_ℤ, int_le, List, [], ◌∷◌, Bool, if◌then◌else◌, Option, Some, None, option_map, Result, Ok, Err}
+use Rattle.std.specs.Prelude.{ℕ, zero, suc, ◌-◌, ◌+◌, ◌*◌, ◌/◌, ◌%◌, ◌&&◌, nat_le, ◌==◌, ℤ, pos, neg_ℤ, int_le, List, [], ◌∷◌, ◌++◌, Bool, if◌then◌else◌, Option, Some, None, option_map, Result, Ok, Err}
 use Rattle.std.specs.List.{list_all, fold}
 use Rattle.pbx_text.specs.declared.fault.TextFault.{TextFault}
 use Rattle.pbx_text.specs.declared.fault.TextFault.TheVariants.{Form, Range}
@@ -36,6 +36,11 @@ abbrev pub or_form : {X : Type 0} → Option X → Result X TextFault
 or_form None = Err Form
 or_form (Some x) = Ok x
 
+-- the same of a value that is written
+abbrev pub or_range : {X : Type 0} → Option X → Result X TextFault
+or_range None = Err Range
+or_range (Some x) = Ok x
+
 -- what follows from a value, or the fault
 abbrev pub and_then : {X Y : Type 0} → Result X TextFault → (X → Result Y TextFault) → Result Y TextFault
 and_then (Ok x) f = f x
@@ -48,3 +53,8 @@ signed_read min max text = and_then (or_form (signed_of text)) (within min max)
 -- what reading a decimal text of an unsigned kind answers
 abbrev pub unsigned_read : ℕ → List ℕ → Result ℕ TextFault
 unsigned_read max text = and_then (or_form (unsigned_of text)) (λ n. if nat_le n max then Ok n else Err Range)
+
+-- the last w digits of a number, with leading zeros
+unfoldable pub padded : ℕ → ℕ → List ℕ
+padded zero n = []
+padded (suc w) n = padded w (n / 10) ++ (48 + n % 10) ∷ []

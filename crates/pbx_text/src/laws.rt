@@ -1,4 +1,4 @@
-ghost use Rattle.pbx_text.specs.Laws.{NumbersReadBack, BytesReadBack};
+ghost use Rattle.pbx_text.specs.Laws.{NumbersReadBack, BytesReadBack, DurationsReadBack};
 
 /// What is written of a number reads as the number.
 pub fn numbers_read_back()
@@ -8,4 +8,9 @@ pub fn numbers_read_back()
 /// What is written of bytes reads as the bytes.
 pub fn bytes_read_back()
     ensures { BytesReadBack }
+{}
+
+/// What is written of a duration reads as the duration.
+pub fn durations_read_back()
+    ensures { DurationsReadBack }
 {}

@@ -2,13 +2,15 @@
 //!
 //! A row's third field and those behind it are what the asked word needs: of `signed` the least and the greatest number
 //! and the text, of `unsigned` the greatest number and the text, of `base64` the text, of `write-signed` and
-//! `write-unsigned` the number, of `write-base64` the bytes. Bytes are answered as hexadecimal digits.
+//! `write-unsigned` the number, of `write-base64` the bytes, of `duration` the text, of `write-duration` the seconds and the
+//! nanoseconds, of `snake` a part of a mask text, of `camel` a path. Bytes are answered as hexadecimal digits, a duration as its seconds and its nanoseconds.
 #![tactic(auto)]
 
 mod stop;
 
 use pbx_text::{
-    read_base64, read_signed, read_unsigned, write_base64, write_signed, write_unsigned,
+    camel_case_to_snake_case, read_base64, read_duration, read_signed, read_unsigned,
+    snake_case_to_camel_case, write_base64, write_duration, write_signed, write_unsigned,
 };
 use std::alloc::{AllocError, Global};
 use std::io;
@@ -50,6 +52,31 @@ fn written_base64(alloc: Global, row: &Row) -> Result<String, Stop> {
     Ok(String::from_str(alloc, text.as_str())?)
 }
 
+fn duration_text(alloc: Global, row: &Row) -> Result<String, Stop> {
+    let (seconds, nanos) = read_duration(row.text(0))?;
+    Ok(format!(in alloc; "{seconds} {nanos}")?)
+}
+
+/// A field of a row as nanoseconds; 0 where it is none.
+fn nanos(row: &Row, at: usize) -> i32 {
+    row.text(at).parse::<i32>().unwrap_or(0)
+}
+
+fn written_duration(alloc: Global, row: &Row) -> Result<String, Stop> {
+    let text = write_duration(alloc, signed(row, 0), nanos(row, 1))?;
+    Ok(String::from_str(alloc, text.as_str())?)
+}
+
+fn snake_text(alloc: Global, row: &Row) -> Result<String, Stop> {
+    let text = camel_case_to_snake_case(alloc, row.text(0))?;
+    Ok(String::from_str(alloc, text.as_str())?)
+}
+
+fn camel_text(alloc: Global, row: &Row) -> Result<String, Stop> {
+    let text = snake_case_to_camel_case(alloc, row.text(0))?;
+    Ok(String::from_str(alloc, text.as_str())?)
+}
+
 /// What the row's word asks for.
 fn answer(alloc: Global, row: &Row) -> Result<String, Stop> {
     match row.asked() {
@@ -59,6 +86,10 @@ fn answer(alloc: Global, row: &Row) -> Result<String, Stop> {
         "write-signed" => written_signed(alloc, row),
         "write-unsigned" => written_unsigned(alloc, row),
         "write-base64" => written_base64(alloc, row),
+        "duration" => duration_text(alloc, row),
+        "write-duration" => written_duration(alloc, row),
+        "snake" => snake_text(alloc, row),
+        "camel" => camel_text(alloc, row),
         _ => Err(Stop::NoSuchWord),
     }
 }
