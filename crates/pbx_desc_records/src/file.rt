@@ -66,7 +66,7 @@ pub struct FileDescriptorProto {
     pub public_dependency: List<i32>,
     /// The places in `dependency` of those that are imported weakly.
     pub weak_dependency: List<i32>,
-    /// `proto3`, or absent in a file of `proto2`.
+    /// `proto2` or `proto3`; a file without one is of `proto2`.
     pub syntax: Option<Text>,
     /// The records of numbers that are no field of this one, in order of arrival.
     pub unknown: Recs,

@@ -1,4 +1,5 @@
--- The one tree that is written for a content: each field that has a value under its JSON name, and kept records skipped
+-- The one tree that is written for a content: each field that has a value under its JSON name, and kept records skipped, so far
+-- those of float fields too
 -- (ProtoJSON Format: the JSON names of fields; unknown fields have no JSON). None: a value is at no field's number, or not of its field's kind.
 use Rattle.std.specs.Prelude.{ℕ, List, Option, Some, None, option_map, option_and_then}
 use Rattle.serde_json.specs.Data.{Data, object, Members, no_members, put}

@@ -130,7 +130,7 @@ pub fn read_contents(
     ensures stands { IfOk result (λ c. Stands schema.now type_at allow_unknown (view tree.now) (content_of c)) }
     ensures refused { IfErr result (λ e. e ≡ Refused → (c : Content) → ¬ Stands schema.now type_at allow_unknown (view tree.now) c) }
 
-    // Such a content is encoded so that it decodes again.
+    // Its encoding decodes to it again.
     ensures sound { IfOk result (λ c. IsSound schema.now type_at (content_of c)) }
 {
     match tree {

@@ -208,7 +208,7 @@ FirstBehind =
 
 -- ---- faults of the record at the front
 
--- A fault of the key at the front is a first one.
+-- A fault that is told at the key of the record at the front is a first one.
 abbrev pub FirstAtFront : Type 0
 FirstAtFront =
     (shape : Shape) (groups messages : ℕ) (fs : List FieldShape) (bytes : List ℕ) (e : DecodeError)
