@@ -17,7 +17,7 @@ use Rattle.pbx_meaning.specs.Laws.{meaning_with, IsFirstWith}
 use Rattle.pbx_meaning.proofs.OntoLaw.{onto_empty}
 use Rattle.pbx_meaning.proofs.FaultyFirst.{first_is_with, first_is_merged}
 use Rattle.pbx_codec.specs.Merging.{onto_with, IsToldAt}
-use Rattle.pbx_codec.specs.Settling.{IsReady}
+use Rattle.pbx_codec.specs.Stability.{IsReady}
 use Rattle.pbx_codec.proofs.Ready.{nothing_ready}
 
 pub with_nothing : (shape : Shape) (groups messages : ℕ) (fs : List FieldShape) (bytes : List ℕ)
@@ -28,8 +28,8 @@ with_nothing shape groups messages fs bytes = at (records_in groups bytes)
     at None = refl
     at (Some rs) = onto_empty shape messages fs rs
 
-pub start_ready : (settled : Bool) (shape : Shape) (messages : ℕ) (fs : List FieldShape) (c : Content) → c ≡ empty → IsReady settled shape messages fs c
-start_ready settled shape messages fs c e = subst (IsReady settled shape messages fs) (sym e) (nothing_ready settled shape messages fs)
+pub start_ready : (stable : Bool) (shape : Shape) (messages : ℕ) (fs : List FieldShape) (c : Content) → c ≡ empty → IsReady stable shape messages fs c
+start_ready stable shape messages fs c e = subst (IsReady stable shape messages fs) (sym e) (nothing_ready stable shape messages fs)
 
 pub with_start : (shape : Shape) (groups messages : ℕ) (fs : List FieldShape) (bytes : List ℕ) (c d : Content) → c ≡ empty
     → onto_with shape groups messages fs c bytes ≡ Some d

@@ -24,7 +24,8 @@ use Rattle.pbx_codec.specs.Merging.{onto_with}
 use Rattle.pbx_codec.proofs.Single.{each_one, one_onto}
 use Rattle.pbx_meaning.specs.Onto.{pair_list, pairs_held, InnerOnto, from_empty, value_onto}
 use Rattle.pbx_meaning.specs.Meaning.{shown, zero_of, key_in, or_else, pair_in}
-use Rattle.pbx_codec.specs.Keyed.{pair_of, AreAfter, AreInOrder, IsPlaceOf, stands_at}
+use Rattle.pbx_codec.specs.View.{pair_of}
+use Rattle.pbx_codec.specs.Keyed.{AreAfter, AreInOrder, IsPlaceOf, stands_at}
 use Rattle.pbx_codec.specs.declared.contents.Pair.{Pair}
 use Rattle.pbx_meaning.proofs.OntoPairs.{Compared, first, later, same, key_compared, key_follows, by_key-again}
 use Rattle.pbx_codec.proofs.Tree.{list-pairs}

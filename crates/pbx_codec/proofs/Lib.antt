@@ -14,4 +14,4 @@ pub mod Keyed
 pub mod EncodedOrder
 pub mod EncodedNumbers
 pub mod Changes
-pub mod Settled
+pub mod Stable

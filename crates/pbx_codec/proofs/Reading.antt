@@ -21,47 +21,47 @@ use Rattle.pbx_meaning.proofs.FaultyLaw.{has_payload, are_records}
 use Rattle.pbx_meaning.proofs.FaultyFirst.{first_behind, first_by_key, first_of_record, first_as_field, first_in_payload}
 use Rattle.pbx_meaning.proofs.FaultyAlone.{spelled_next}
 use Rattle.pbx_codec.specs.Merging.{onto_with, IsToldAt, RecFails, PayloadFits, GoesOn}
-use Rattle.pbx_codec.specs.Settling.{IsReady}
+use Rattle.pbx_codec.specs.Stability.{IsReady}
 use Rattle.pbx_codec.proofs.Ready.{ready_more}
 
 -- ---- the loop
 
 -- the bytes before the rest are read: their records mean the new content behind the old one
-pub record HasGone (settled : Bool) (shape : Shape) (groups messages : ℕ) (fs : List FieldShape) (old new : Content) (bytes rest : List ℕ) : Type 0 where
+pub record HasGone (stable : Bool) (shape : Shape) (groups messages : ℕ) (fs : List FieldShape) (old new : Content) (bytes rest : List ℕ) : Type 0 where
   pub before : List ℕ
   pub recs : List Rec
   pub spelled : Spells groups before recs
   pub parts : bytes ≡ before ++ rest
   pub means : meaning_onto shape messages fs old recs ≡ Some new
-  pub ready : IsReady settled shape messages fs new
+  pub ready : IsReady stable shape messages fs new
 
 spelled_none : (groups : ℕ) → Spells groups [] []
 unfolding SpellsBelow
 spelled_none groups = refl
 
-pub gone_none : (settled : Bool) (shape : Shape) (groups messages : ℕ) (fs : List FieldShape) (c : Content) (bytes : List ℕ) → IsProper shape → AreFieldsOf shape fs
-    → IsReady settled shape messages fs c
-    → HasGone settled shape groups messages fs c c bytes bytes
-gone_none settled shape groups messages fs c bytes proper are h =
+pub gone_none : (stable : Bool) (shape : Shape) (groups messages : ℕ) (fs : List FieldShape) (c : Content) (bytes : List ℕ) → IsProper shape → AreFieldsOf shape fs
+    → IsReady stable shape messages fs c
+    → HasGone stable shape groups messages fs c c bytes bytes
+gone_none stable shape groups messages fs c bytes proper are h =
     record { before = []; recs = []; spelled = spelled_none groups; parts = refl; means = h.0; ready = h }
 
-pub gone_more : (settled : Bool) (shape : Shape) (groups messages : ℕ) (fs : List FieldShape) (old mid new : Content) (bytes rest after : List ℕ) → IsProper shape
+pub gone_more : (stable : Bool) (shape : Shape) (groups messages : ℕ) (fs : List FieldShape) (old mid new : Content) (bytes rest after : List ℕ) → IsProper shape
     → AreFieldsOf shape fs
-    → HasGone settled shape groups messages fs old mid bytes rest → GoesOn shape groups messages fs mid new rest after
-    → HasGone settled shape groups messages fs old new bytes after
-gone_more settled shape groups messages fs old mid new bytes rest after proper are h (first, r, spelled, parts, means) = record {
+    → HasGone stable shape groups messages fs old mid bytes rest → GoesOn shape groups messages fs mid new rest after
+    → HasGone stable shape groups messages fs old new bytes after
+gone_more stable shape groups messages fs old mid new bytes rest after proper are h (first, r, spelled, parts, means) = record {
   before = h.before ++ first;
   recs = h.recs ++ r ∷ [];
   spelled = spelled_next groups h.before first h.recs r h.spelled spelled;
   parts = h.parts ∙ ap (λ (x : List ℕ). h.before ++ x) parts ∙ sym (append_assoc h.before first after);
   means = onto_appends shape messages fs old mid h.recs (r ∷ []) proper are h.means ∙ means;
-  ready = ready_more settled shape messages fs mid new (r ∷ []) proper are h.ready means;
+  ready = ready_more stable shape messages fs mid new (r ∷ []) proper are h.ready means;
 }
 
-pub gone_all : (settled : Bool) (shape : Shape) (groups messages : ℕ) (fs : List FieldShape) (old new : Content) (bytes rest : List ℕ) → rest ≡ []
-    → HasGone settled shape groups messages fs old new bytes rest
+pub gone_all : (stable : Bool) (shape : Shape) (groups messages : ℕ) (fs : List FieldShape) (old new : Content) (bytes rest : List ℕ) → rest ≡ []
+    → HasGone stable shape groups messages fs old new bytes rest
     → onto_with shape groups messages fs old bytes ≡ Some new
-gone_all settled shape groups messages fs old new bytes rest none h =
+gone_all stable shape groups messages fs old new bytes rest none h =
     let all : bytes ≡ h.before = h.parts ∙ ap (λ (x : List ℕ). h.before ++ x) none ∙ append-nil h.before in
     rw (all, are_records groups h.before h.recs h.spelled) h.means
 
@@ -83,10 +83,10 @@ shifted_twice n k (errors.EndGroup at) = ap errors.EndGroup (omega arith)
 shifted_twice n k (errors.TooDeep at) = ap errors.TooDeep (omega arith)
 shifted_twice n k errors.NoMemory = refl
 
-pub gone_within : (settled : Bool) (shape : Shape) (groups messages : ℕ) (fs : List FieldShape) (old new : Content) (bytes rest : List ℕ) (end : ℕ)
-    → HasGone settled shape groups messages fs old new bytes rest
+pub gone_within : (stable : Bool) (shape : Shape) (groups messages : ℕ) (fs : List FieldShape) (old new : Content) (bytes rest : List ℕ) (end : ℕ)
+    → HasGone stable shape groups messages fs old new bytes rest
     → length bytes ≤ end → length rest ≤ end
-gone_within settled shape groups messages fs old new bytes rest end h le = omega (arith, ap length h.parts, length-append h.before rest)
+gone_within stable shape groups messages fs old new bytes rest end h le = omega (arith, ap length h.parts, length-append h.before rest)
 
 read_with : (shape : Shape) (groups messages : ℕ) (fs : List FieldShape) → IsProper shape → ((groups ≡ 0) ↔ (messages ≡ 0)) → AreFieldsOf shape fs
     → IsReadWith shape groups messages fs
@@ -101,12 +101,12 @@ meant_alone shape messages fs old new rs e = at (meaning shape messages fs rs) r
     at (Some c) d = (c, d)
 
 -- what is told of the rest is told of all
-pub told_behind : (settled : Bool) (shape : Shape) (groups messages : ℕ) (fs : List FieldShape) (old new : Content) (bytes rest : List ℕ) (end : ℕ) (e : DecodeError)
+pub told_behind : (stable : Bool) (shape : Shape) (groups messages : ℕ) (fs : List FieldShape) (old new : Content) (bytes rest : List ℕ) (end : ℕ) (e : DecodeError)
     → IsProper shape
-    → ((groups ≡ 0) ↔ (messages ≡ 0)) → AreFieldsOf shape fs → length bytes ≤ end → HasGone settled shape groups messages fs old new bytes rest
+    → ((groups ≡ 0) ↔ (messages ≡ 0)) → AreFieldsOf shape fs → length bytes ≤ end → HasGone stable shape groups messages fs old new bytes rest
     → IsToldAt (end - length rest) (IsFirstWith shape groups messages fs rest) e → IsToldAt (end - length bytes) (IsFirstWith shape groups messages fs bytes) e
-told_behind settled shape groups messages fs old new bytes rest end e proper left are le h (inl none) = inl none
-told_behind settled shape groups messages fs old new bytes rest end e proper left are le h (inr (own, first, is)) =
+told_behind stable shape groups messages fs old new bytes rest end e proper left are le h (inl none) = inl none
+told_behind stable shape groups messages fs old new bytes rest end e proper left are le h (inr (own, first, is)) =
     let c = meant_alone shape messages fs old new h.recs h.means in
     let all = first_behind shape groups messages fs h.before rest h.recs c.0 own (read_with shape groups messages fs proper left are) h.spelled c.1 first in
     let place : end - length rest ≡ (end - length bytes) + length h.before = omega (arith, ap length h.parts, length-append h.before rest) in

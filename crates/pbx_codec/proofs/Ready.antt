@@ -27,7 +27,7 @@ use Rattle.pbx_codec.specs.declared.fields.FieldView.{FieldView}
 use Rattle.pbx_codec.specs.declared.fields.Owner.{Owner}
 use Rattle.pbx_codec.specs.Fields.{view_of, field_like, fields_at}
 use Rattle.pbx_codec.specs.Merging.{put_option, without_rivals, kept_more, onto_with, HasOrdered, ValueFails, RecFails}
-use Rattle.pbx_codec.specs.Settling.{IsStableTo, HasSettled, IsReady, IsSettledUnless}
+use Rattle.pbx_codec.specs.Stability.{IsStableTo, HasStable, IsReady, IsStabilizedUnless}
 use Rattle.pbx_meaning.specs.Onto.{pairs_held}
 use Rattle.pbx_codec.specs.Keyed.{AreInOrder}
 use Rattle.pbx_codec.proofs.Keyed.{ordered_held}
@@ -141,18 +141,18 @@ unfolding IsStableTo
 stable_first shape zero gs c h = h
 stable_first shape (suc m) gs c h = h.0
 
-pub nothing_ready : (settled : Bool) (shape : Shape) (m : ℕ) (gs : List FieldShape) → IsReady settled shape m gs empty
-nothing_ready settled shape m gs = (empty_is_stable shape m gs, λ s. empty_stays shape m gs)
+pub nothing_ready : (stable : Bool) (shape : Shape) (m : ℕ) (gs : List FieldShape) → IsReady stable shape m gs empty
+nothing_ready stable shape m gs = (empty_is_stable shape m gs, λ s. empty_stays shape m gs)
 
-pub ready_more : (settled : Bool) (shape : Shape) (m : ℕ) (gs : List FieldShape) (c d : Content) (rs : List Rec) → IsProper shape → AreFieldsOf shape gs
-    → IsReady settled shape m gs c → meaning_onto shape m gs c rs ≡ Some d → IsReady settled shape m gs d
-ready_more settled shape m gs c d rs proper are h e =
+pub ready_more : (stable : Bool) (shape : Shape) (m : ℕ) (gs : List FieldShape) (c d : Content) (rs : List Rec) → IsProper shape → AreFieldsOf shape gs
+    → IsReady stable shape m gs c → meaning_onto shape m gs c rs ≡ Some d → IsReady stable shape m gs d
+ready_more stable shape m gs c d rs proper are h e =
     (onto_is_stable shape m gs c d rs proper are e, λ s. stays_more shape m gs c d rs proper are (h.1 s) e)
 
 -- behind a content and behind what no records leave of it records mean the same
-pub ready_unless : (settled : Bool) (shape : Shape) (m : ℕ) (gs : List FieldShape) (old new : Content) → IsProper shape → AreFieldsOf shape gs
-    → (settled ≡ true → IsStableTo shape m gs old) → IsSettledUnless settled shape gs old new
-    → IsReady settled shape m gs new × ((rs : List Rec) → meaning_onto shape m gs new rs ≡ meaning_onto shape m gs old rs)
+pub ready_unless : (stable : Bool) (shape : Shape) (m : ℕ) (gs : List FieldShape) (old new : Content) → IsProper shape → AreFieldsOf shape gs
+    → (stable ≡ true → IsStableTo shape m gs old) → IsStabilizedUnless stable shape gs old new
+    → IsReady stable shape m gs new × ((rs : List Rec) → meaning_onto shape m gs new rs ≡ meaning_onto shape m gs old rs)
 ready_unless true shape m gs old new proper are stable is =
     let all : IsStableTo shape m gs new = subst (IsStableTo shape m gs) (sym is) (stable refl) in
     ((stable_first shape m gs new all, λ s. all), λ rs. ap (λ (x : Content). meaning_onto shape m gs x rs) is)
@@ -161,14 +161,14 @@ ready_unless false shape m gs old new proper are stable is = (
   λ rs. sym (onto_appends shape m gs old new [] rs proper are (is m)),
 )
 
-pub onto_unless : (settled : Bool) (shape : Shape) (groups m : ℕ) (gs : List FieldShape) (old new : Content) (bytes : List ℕ) → IsProper shape
-    → AreFieldsOf shape gs → (settled ≡ true → IsStableTo shape m gs old) → IsSettledUnless settled shape gs old new
+pub onto_unless : (stable : Bool) (shape : Shape) (groups m : ℕ) (gs : List FieldShape) (old new : Content) (bytes : List ℕ) → IsProper shape
+    → AreFieldsOf shape gs → (stable ≡ true → IsStableTo shape m gs old) → IsStabilizedUnless stable shape gs old new
     → onto_with shape groups m gs old bytes ≡ onto_with shape groups m gs new bytes
-onto_unless settled shape groups m gs old new bytes proper are stable is = at (records_in groups bytes)
+onto_unless stable shape groups m gs old new bytes proper are stays is = at (records_in groups bytes)
   where
     at : (o : Option (List Rec)) → option_and_then (meaning_onto shape m gs old) o ≡ option_and_then (meaning_onto shape m gs new) o
     at None = refl
-    at (Some rs) = sym ((ready_unless settled shape m gs old new proper are stable is).1 rs)
+    at (Some rs) = sym ((ready_unless stable shape m gs old new proper are stays is).1 rs)
 
 -- ---- one record
 
@@ -197,24 +197,24 @@ found shape owner r v proper e plain =
       own = ap (λ (n : ℕ). field_of n gs) (sym (found_number (number_of r) gs t.0 t.1)) ∙ t.1;
     }
 
-pub has_settled : (settled : Bool) (shape : Shape) (m : ℕ) (owner : Owner) (c : Content) (r : Rec) (v : FieldView) (old : Option Val) → IsProper shape
+pub has_stable : (stable : Bool) (shape : Shape) (m : ℕ) (owner : Owner) (c : Content) (r : Rec) (v : FieldView) (old : Option Val) → IsProper shape
     → Some v ≡ option_map view_of (field_of (number_of r) (fields_at shape owner)) → is_float v.kind ≡ false
-    → IsReady settled shape m (fields_at shape owner) c → old ≡ get v.number (fields c) → HasSettled settled shape m (field_like v) old
-has_settled settled shape m owner c r v old proper e plain h is = λ t d once kind deep s.
+    → IsReady stable shape m (fields_at shape owner) c → old ≡ get v.number (fields c) → HasStable stable shape m (field_like v) old
+has_stable stable shape m owner c r v old proper e plain h is = λ t d once kind deep s.
     let f = found shape owner r v proper e plain in
     subst (λ (x : Option Val). IsStableTo shape d (fields_of shape t) (message_held x))
     (sym (is ∙ ap (λ (x : FieldView). get x.number (fields c)) f.view))
     (inner_held shape m d t (fields_at shape owner) c f.f deep f.own (sym (ap (λ (x : FieldView). x.cardinality) f.view) ∙ once)
     (sym (ap (λ (x : FieldView). x.kind) f.view) ∙ kind) (h.1 s))
 
-pub field_merges : (settled : Bool) (shape : Shape) (m : ℕ) (owner : Owner) (c mid new : Content) (r : Rec) (v : FieldView) (old o : Option Val) → IsProper shape
+pub field_merges : (stable : Bool) (shape : Shape) (m : ℕ) (owner : Owner) (c mid new : Content) (r : Rec) (v : FieldView) (old o : Option Val) → IsProper shape
     → Some v ≡ option_map view_of (field_of (number_of r) (fields_at shape owner)) → is_float v.kind ≡ false
-    → IsReady settled shape m (fields_at shape owner) c → old ≡ get v.number (fields c)
+    → IsReady stable shape m (fields_at shape owner) c → old ≡ get v.number (fields c)
     → mid ≡ with_fields c (without_rivals (fields_at shape owner) (field_like v) (without v.number (fields c)))
     → value_onto shape (onto_at shape m) (field_like v) old (r ∷ []) ≡ Some o
     → new ≡ with_fields mid (put_option v.number o (fields mid))
     → meaning_onto shape m (fields_at shape owner) c (r ∷ []) ≡ Some new
-field_merges settled shape m owner c mid new r v old o proper e plain h is put gives ends =
+field_merges stable shape m owner c mid new r v old o proper e plain h is put gives ends =
     let gs = fields_at shape owner in
     let t = found shape owner r v proper e plain in
     let now : value_onto shape (onto_at shape m) t.f (get t.f.number (fields c)) (r ∷ []) ≡ Some o =
@@ -232,10 +232,10 @@ field_merges settled shape m owner c mid new r v old o proper e plain h is put g
         → with_fields mid (put_option n o (fields mid)) ≡ content (put_option k o b) (kept c)
     whole (content fs ks) mid a b n k o p q e = rw (p, q, e) refl
 
-pub unread_merges : (settled : Bool) (shape : Shape) (m : ℕ) (owner : Owner) (c new : Content) (r : Rec) → IsProper shape
-    → None ≡ option_map view_of (field_of (number_of r) (fields_at shape owner)) → IsReady settled shape m (fields_at shape owner) c → new ≡ kept_more c r
+pub unread_merges : (stable : Bool) (shape : Shape) (m : ℕ) (owner : Owner) (c new : Content) (r : Rec) → IsProper shape
+    → None ≡ option_map view_of (field_of (number_of r) (fields_at shape owner)) → IsReady stable shape m (fields_at shape owner) c → new ≡ kept_more c r
     → meaning_onto shape m (fields_at shape owner) c (r ∷ []) ≡ Some new
-unread_merges settled shape m owner c new r proper e h is =
+unread_merges stable shape m owner c new r proper e h is =
     let gs = fields_at shape owner in
     let none = no_view (field_of (number_of r) gs) e in
     let unread : IsUnread gs r = record {
@@ -245,11 +245,11 @@ unread_merges settled shape m owner c new r proper e h is =
     } in
     kept_step shape m gs c r unread h.0 ∙ ap (λ (x : Content). Some x) (sym is)
 
-pub float_merges : (settled : Bool) (shape : Shape) (m : ℕ) (owner : Owner) (c new : Content) (r : Rec) (v : FieldView) → IsProper shape
+pub float_merges : (stable : Bool) (shape : Shape) (m : ℕ) (owner : Owner) (c new : Content) (r : Rec) (v : FieldView) → IsProper shape
     → Some v ≡ option_map view_of (field_of (number_of r) (fields_at shape owner)) → is_float v.kind ≡ true
-    → IsReady settled shape m (fields_at shape owner) c → new ≡ kept_more c r
+    → IsReady stable shape m (fields_at shape owner) c → new ≡ kept_more c r
     → meaning_onto shape m (fields_at shape owner) c (r ∷ []) ≡ Some new
-float_merges settled shape m owner c new r v proper e float h is =
+float_merges stable shape m owner c new r v proper e float h is =
     let gs = fields_at shape owner in
     let t = found_view (field_of (number_of r) gs) v e in
     let floats : (f : FieldShape) → field_of (number_of r) gs ≡ Some f → is_float f.kind ≡ true =
@@ -276,10 +276,10 @@ pub rec_told : (shape : Shape) (groups m : ℕ) (owner : Owner) (at end : ℕ) (
 rec_told shape groups m owner at end r v e proper l plain (inl none) = inl none
 rec_told shape groups m owner at end r v e proper l plain (inr h) = inr (rec_fails shape groups m owner at end r v e proper l plain h)
 
-pub has_ordered : (settled : Bool) (shape : Shape) (m : ℕ) (owner : Owner) (c : Content) (r : Rec) (v : FieldView) (old : Option Val) → IsProper shape
+pub has_ordered : (stable : Bool) (shape : Shape) (m : ℕ) (owner : Owner) (c : Content) (r : Rec) (v : FieldView) (old : Option Val) → IsProper shape
     → Some v ≡ option_map view_of (field_of (number_of r) (fields_at shape owner)) → is_float v.kind ≡ false
-    → IsReady settled shape m (fields_at shape owner) c → old ≡ get v.number (fields c) → HasOrdered (field_like v) old
-has_ordered settled shape m owner c r v old proper e plain h is = λ key map_is.
+    → IsReady stable shape m (fields_at shape owner) c → old ≡ get v.number (fields c) → HasOrdered (field_like v) old
+has_ordered stable shape m owner c r v old proper e plain h is = λ key map_is.
     let t = found shape owner r v proper e plain in
     let gs = fields_at shape owner in
     let stays = (are_stable shape m gs c t.of.above h.0).gives t.f.number t.f t.own in

@@ -6,7 +6,7 @@ use Rattle.pbx_wire.specs.declared.rec.Rec.{Rec}
 use Rattle.pbx_meaning.specs.declared.shape.FieldShape.{FieldShape}
 use Rattle.pbx_meaning.specs.Content.{Content, content, fields, kept, Fields, no_fields, field, without, with_fields}
 use Rattle.pbx_meaning.specs.Shape.{field_of, same_oneof}
-use Rattle.pbx_codec.specs.declared.contents.Field.{Field}
+use Rattle.pbx_codec.specs.declared.contents.Held.{Held}
 use Rattle.pbx_codec.specs.declared.contents.Held.TheViews.{roll-Contents}
 use Rattle.pbx_codec.specs.declared.contents.Contents.{Contents, out-Contents}
 use Rattle.pbx_codec.specs.declared.fields.FieldView.{FieldView}
@@ -35,24 +35,24 @@ no_rivals gs v (field m x fs) e = rw (no_oneof v (field_of m gs) e) (ap (field m
 -- ---- from the last field to the first
 
 -- the fields without rivals are those of the start, and none from this place on is one
-pub record AreCleared (gs : List FieldShape) (f : FieldShape) (start now : List Field) (place : ℕ) : Type 0 where
+pub record AreCleared (gs : List FieldShape) (f : FieldShape) (start now : List (ℕ × Held)) (place : ℕ) : Type 0 where
   pub same : without_rivals gs f (fields_in (map entry_of start)) ≡ without_rivals gs f (fields_in (map entry_of now))
   pub clear : without_rivals gs f (fields_in (map entry_of (drop place now))) ≡ fields_in (map entry_of (drop place now))
   pub fits : place ≤ length now
 
-drop_whole : (xs : List Field) → drop (length xs) xs ≡ []
+drop_whole : (xs : List (ℕ × Held)) → drop (length xs) xs ≡ []
 drop_whole [] = refl
 drop_whole (x ∷ xs) = drop_whole xs
 
-pub cleared_none : (gs : List FieldShape) (f : FieldShape) (start : List Field) → AreCleared gs f start start (length start)
+pub cleared_none : (gs : List FieldShape) (f : FieldShape) (start : List (ℕ × Held)) → AreCleared gs f start start (length start)
 cleared_none gs f start = record { same = refl; clear = rw (drop_whole start) refl; fits = omega arith }
 
-drop_front : (xs : List Field) (i : ℕ) (d : Field) → i < length xs → drop i xs ≡ get_or xs i d ∷ drop (suc i) xs
+drop_front : (xs : List (ℕ × Held)) (i : ℕ) (d : ℕ × Held) → i < length xs → drop i xs ≡ get_or xs i d ∷ drop (suc i) xs
 drop_front [] i d lt = absurd (omega arith)
 drop_front (x ∷ xs) zero d lt = refl
 drop_front (x ∷ xs) (suc i) d lt = drop_front xs i d (omega arith)
 
-pub cleared_stays : (gs : List FieldShape) (f : FieldShape) (start now : List Field) (place i : ℕ) (d : Field) → place ≡ suc i
+pub cleared_stays : (gs : List FieldShape) (f : FieldShape) (start now : List (ℕ × Held)) (place i : ℕ) (d : ℕ × Held) → place ≡ suc i
     → is_rival_to f (field_of (entry_of (get_or now i d)).0 gs) ≡ false
     → AreCleared gs f start now place → AreCleared gs f start now i
 cleared_stays gs f start now place i d p e h =
@@ -61,15 +61,15 @@ cleared_stays gs f start now place i d p e h =
     record {
       same = h.same;
       clear =
-          ap (λ (x : List Field). without_rivals gs f (fields_in (map entry_of x))) front
+          ap (λ (x : List (ℕ × Held)). without_rivals gs f (fields_in (map entry_of x))) front
           ∙ ap (λ b. if b then without_rivals gs f (fields_in (map entry_of (drop (suc i) now)))
           else field (entry_of (get_or now i d)).0 (entry_of (get_or now i d)).1 (without_rivals gs f (fields_in (map entry_of (drop (suc i) now))))) e
           ∙ ap (field (entry_of (get_or now i d)).0 (entry_of (get_or now i d)).1) behind
-          ∙ ap (λ (x : List Field). fields_in (map entry_of x)) (sym front);
+          ∙ ap (λ (x : List (ℕ × Held)). fields_in (map entry_of x)) (sym front);
       fits = omega (arith, h.fits);
     }
 
-removed_same : (gs : List FieldShape) (f : FieldShape) (xs : List Field) (i : ℕ) (d : Field) → i < length xs
+removed_same : (gs : List FieldShape) (f : FieldShape) (xs : List (ℕ × Held)) (i : ℕ) (d : ℕ × Held) → i < length xs
     → is_rival_to f (field_of (entry_of (get_or xs i d)).0 gs) ≡ true
     → without_rivals gs f (fields_in (map entry_of xs)) ≡ without_rivals gs f (fields_in (map entry_of (remove xs i)))
 removed_same gs f [] i d lt e = absurd (omega arith)
@@ -78,17 +78,17 @@ removed_same gs f (x ∷ xs) (suc i) d lt e =
     ap (λ (y : Fields). if is_rival_to f (field_of (entry_of x).0 gs) then y else field (entry_of x).0 (entry_of x).1 y) (removed_same gs f xs i d
     (omega arith) e)
 
-removed_drop : (xs : List Field) (i : ℕ) → i < length xs → drop i (remove xs i) ≡ drop (suc i) xs
+removed_drop : (xs : List (ℕ × Held)) (i : ℕ) → i < length xs → drop i (remove xs i) ≡ drop (suc i) xs
 removed_drop [] i lt = absurd (omega arith)
 removed_drop (x ∷ xs) zero lt = refl
 removed_drop (x ∷ xs) (suc i) lt = removed_drop xs i (omega arith)
 
-removed_length : (xs : List Field) (i : ℕ) → i < length xs → suc (length (remove xs i)) ≡ length xs
+removed_length : (xs : List (ℕ × Held)) (i : ℕ) → i < length xs → suc (length (remove xs i)) ≡ length xs
 removed_length [] i lt = absurd (omega arith)
 removed_length (x ∷ xs) zero lt = refl
 removed_length (x ∷ xs) (suc i) lt = ap suc (removed_length xs i (omega arith))
 
-pub cleared_more : (gs : List FieldShape) (f : FieldShape) (start now : List Field) (place i : ℕ) (d : Field) → place ≡ suc i
+pub cleared_more : (gs : List FieldShape) (f : FieldShape) (start now : List (ℕ × Held)) (place i : ℕ) (d : ℕ × Held) → place ≡ suc i
     → is_rival_to f (field_of (entry_of (get_or now i d)).0 gs) ≡ true
     → AreCleared gs f start now place → AreCleared gs f start (remove now i) i
 cleared_more gs f start now place i d p e h =
@@ -100,7 +100,7 @@ cleared_more gs f start now place i d p e h =
       fits = omega (arith, h.fits, removed_length now i less);
     }
 
-pub cleared_all : (gs : List FieldShape) (f : FieldShape) (start now : List Field) (place : ℕ) → place ≡ 0 → AreCleared gs f start now place
+pub cleared_all : (gs : List FieldShape) (f : FieldShape) (start now : List (ℕ × Held)) (place : ℕ) → place ≡ 0 → AreCleared gs f start now place
     → fields_in (map entry_of now) ≡ without_rivals gs f (fields_in (map entry_of start))
 cleared_all gs f start now place none h =
     sym (h.same ∙ sym (ap (λ (x : ℕ). without_rivals gs f (fields_in (map entry_of (drop x now)))) none) ∙ h.clear
@@ -114,7 +114,7 @@ whole_is (content cs ls) fs gs ks e hs = let is : ks ≡ ls = ap kept e in rw is
 fields_are : (c : Content) (fs gs : Fields) (ks : List Rec) → content fs ks ≡ with_fields c gs → fs ≡ gs
 fields_are (content cs ls) fs gs ks e = ap fields e
 
-pub cleared_content : (gs : List FieldShape) (f : FieldShape) (mid : Contents) (now : List Field) (c : Content) (n : ℕ)
+pub cleared_content : (gs : List FieldShape) (f : FieldShape) (mid : Contents) (now : List (ℕ × Held)) (c : Content) (n : ℕ)
     → content_of mid ≡ with_fields c (without n (fields c))
     → fields_in (map entry_of now) ≡ without_rivals gs f (fields_in (map entry_of (out-Contents mid).fields))
     → content_of (roll-Contents (record { fields = now; kept = (out-Contents mid).kept })) ≡ with_fields c (without_rivals gs f (without n (fields c)))

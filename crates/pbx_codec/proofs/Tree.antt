@@ -15,17 +15,15 @@ use Rattle.pbx_codec.specs.declared.contents.Held.{Held}
 use Rattle.pbx_codec.specs.declared.contents.Held as held
 use Rattle.pbx_codec.specs.declared.contents.Pair.{Pair}
 use Rattle.pbx_codec.specs.declared.key.MapKey.{MapKey}
-use Rattle.pbx_codec.specs.declared.contents.Field.{Field}
 use Rattle.pbx_codec.specs.declared.contents.Held.TheViews.{roll-Contents, roll-Pair}
 use Rattle.pbx_codec.specs.declared.contents.Contents.{Contents, out-Contents, the_lemmas}
 use Rattle.pbx_codec.specs.Merging.{kept_more}
-use Rattle.pbx_codec.specs.Keyed.{pair_of}
-use Rattle.pbx_codec.specs.View.{content_of, val_of, fields_in, entry_of, key_of}
+use Rattle.pbx_codec.specs.View.{content_of, val_of, fields_in, entry_of, key_of, pair_of}
 
 pub content_is : (c : Contents) → content_of c ≡ content (fields_in (map entry_of (out-Contents c).fields)) (out-Contents c).kept
 content_is c = search (rules, the_lemmas)
 
-pub rolled : (fs : List Field) (ks : List Rec) → content_of (roll-Contents (record { fields = fs; kept = ks })) ≡ content (fields_in (map entry_of fs)) ks
+pub rolled : (fs : List (ℕ × Held)) (ks : List Rec) → content_of (roll-Contents (record { fields = fs; kept = ks })) ≡ content (fields_in (map entry_of fs)) ks
 rolled fs ks = search (rules, the_lemmas)
 
 pub val_of-Many : (hs : List Held) → val_of (held.Many hs) ≡ many (vals_of (map val_of hs))

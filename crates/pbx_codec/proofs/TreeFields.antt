@@ -1,23 +1,20 @@
 -- The tree's fields as the content's.
-use Rattle.std.proofs.Common.{◌≡◌, ℕ, zero, suc, ◌+◌, ◌<◌, ◌≤◌, Bool, true, false, if◌then◌else◌, nat_lt, List, [], ◌∷◌, map, get_or, Option, Some, None}
+use Rattle.std.proofs.Common.{◌≡◌, ℕ, Bool, true, false, if◌then◌else◌, nat_lt, List, [], ◌∷◌, map, Option, Some, None, Bor}
 use Rattle.std.proofs.Common.{option_map, refl, sym, ap, ◌∙◌, rules, arith}
-use Rattle.std.specs.Prelude.{◌==◌}
-use Rattle.std.specs.List.{insert, remove}
+use Rattle.std.specs.Prelude.{◌==◌, Result, Ok, Err, OnOk}
 use Rattle.std.proofs.lemmas.Bool.Decides.{nat_tests}
-use Rattle.std.proofs.lemmas.List.{map-append, take-map, drop-map}
 use Rattle.pbx_wire.specs.declared.rec.Rec.{Rec}
+use Rattle.pbx_number_map.specs.Entries.{IsBelow, IsAscending, value_under, without as without_entry, with_entry}
 use Rattle.pbx_codec.specs.declared.contents.Held.{Held}
 use Rattle.pbx_codec.specs.declared.contents.Held as held
-use Rattle.pbx_codec.specs.declared.contents.Field.{Field}
 use Rattle.pbx_codec.specs.declared.contents.Pair.{Pair}
-use Rattle.pbx_codec.specs.declared.contents.Held.TheViews.{roll-Field, roll-Contents}
+use Rattle.pbx_codec.specs.declared.contents.Held.TheViews.{roll-Contents}
 use Rattle.pbx_codec.specs.declared.contents.Contents.{Contents, out-Contents, the_lemmas}
-use Rattle.pbx_meaning.specs.Content.{content, fields, Fields, no_fields, field, Val, keyed, pairs_of, get, added, without, with_value, with_fields}
-use Rattle.pbx_codec.specs.Places.{place_after, place_of}
+use Rattle.pbx_meaning.specs.Content.{content, fields, Fields, field, Val, keyed, pairs_of, get, added, without, with_value, with_fields}
 use Rattle.pbx_codec.specs.View.{content_of, val_of, fields_in, entry_of, pair_of}
 
--- the fields that a tree's list stands for
-abbrev pub held_fields : List Field → Fields
+-- the fields that a tree's pairs stand for
+abbrev pub held_fields : List (ℕ × Held) → Fields
 held_fields xs = fields_in (map entry_of xs)
 
 pub content_of_lem : (c : Contents) → content_of c ≡ content (held_fields (out-Contents c).fields) (out-Contents c).kept
@@ -26,143 +23,96 @@ content_of_lem c = search (rules, the_lemmas)
 pub val_of-Pairs : (ps : List Pair) → val_of (held.Pairs ps) ≡ keyed (pairs_of (map pair_of ps))
 val_of-Pairs ps = search (rules, the_lemmas)
 
--- ---- fields by their places
+-- ---- values by number
 
-added_place : (n : ℕ) (v : Val) (fs : List (ℕ × Val)) → added n v (fields_in fs) ≡ fields_in (insert fs (place_after n (fields_in fs)) (n, v))
-added_place n v [] = refl
-added_place n v (f ∷ fs) = at (nat_lt n f.0) (added_place n v fs)
+get_held : (n : ℕ) (xs : List (ℕ × Held)) → option_map val_of (value_under n xs) ≡ get n (held_fields xs)
+get_held n [] = refl
+get_held n (x ∷ xs) = at (n == x.0) (get_held n xs)
   where
-    at : (b : Bool) → added n v (fields_in fs) ≡ fields_in (insert fs (place_after n (fields_in fs)) (n, v))
-        → (if b then field n v (field f.0 f.1 (fields_in fs)) else field f.0 f.1 (added n v (fields_in fs)))
-        ≡ fields_in (insert (f ∷ fs) (if b then 0 else suc (place_after n (fields_in fs))) (n, v))
+    at : (b : Bool) → option_map val_of (value_under n xs) ≡ get n (held_fields xs)
+        → option_map val_of (if b then Some x.1 else value_under n xs) ≡ (if b then Some (val_of x.1) else get n (held_fields xs))
     at true ih = refl
-    at false ih = ap (field f.0 f.1) ih
+    at false ih = ih
 
-map-insert : {A B : Type 0} (g : A → B) (xs : List A) (i : ℕ) (x : A) → map g (insert xs i x) ≡ insert (map g xs) i (g x)
-map-insert g xs i x = rw (map-append, take-map, drop-map)
-
-map-remove : {A B : Type 0} (g : A → B) (xs : List A) (i : ℕ) → map g (remove xs i) ≡ remove (map g xs) i
-map-remove g xs i = rw (map-append, take-map, drop-map)
-
-absent_place : (n : ℕ) (fs : Fields) → place_of n fs ≡ None → (get n fs ≡ None) × (without n fs ≡ fs)
-absent_place n no_fields e = (refl, refl)
-absent_place n (field m v fs) e = at (n == m) (place_of n fs) e (absent_place n fs) refl
+without_held : (n : ℕ) (xs : List (ℕ × Held)) → held_fields (without_entry n xs) ≡ without n (held_fields xs)
+without_held n [] = refl
+without_held n (x ∷ xs) = at (n == x.0) (without_held n xs)
   where
-    at : (b : Bool) (o : Option ℕ) → (if b then Some 0 else option_map (λ k. suc k) o) ≡ None
-        → (place_of n fs ≡ None → (get n fs ≡ None) × (without n fs ≡ fs)) → place_of n fs ≡ o
-        → ((if b then Some v else get n fs) ≡ None) × ((if b then fs else field m v (without n fs)) ≡ field m v fs)
-    at true o e ih p = absurd cc
-    at false None e ih p = let t = ih p in (t.0, ap (field m v) t.1)
-    at false (Some k) e ih p = absurd cc
+    at : (b : Bool) → held_fields (without_entry n xs) ≡ without n (held_fields xs)
+        → held_fields (if b then xs else x ∷ without_entry n xs) ≡ (if b then held_fields xs else field x.0 (val_of x.1) (without n (held_fields xs)))
+    at true ih = refl
+    at false ih = ap (field x.0 (val_of x.1)) ih
 
--- what is found at a place, and what is left without it
-abbrev Found : ℕ → List (ℕ × Val) → ℕ → ℕ × Val → Type 0
-Found n fs k d = (get n (fields_in fs) ≡ Some (get_or fs k d).1) × (without n (fields_in fs) ≡ fields_in (remove fs k))
-
-found_place : (n : ℕ) (fs : List (ℕ × Val)) (k : ℕ) (d : ℕ × Val) → place_of n (fields_in fs) ≡ Some k → Found n fs k d
-found_place n [] k d e = absurd cc
-found_place n (f ∷ fs) k d e = at (n == f.0) (place_of n (fields_in fs)) k e (λ j. found_place n fs j d) refl
+-- before greater numbers there is none to be taken out
+without_greater : (n : ℕ) (xs : List (ℕ × Held)) → IsBelow n xs → IsAscending xs → without n (held_fields xs) ≡ held_fields xs
+without_greater n [] b o = refl
+without_greater n (x ∷ xs) b o =
+    let other : (n == x.0) ≡ false = grind (arith, nat_tests) in
+    rw other (ap (field x.0 (val_of x.1)) (without_greater n xs (lower xs b o.0) o.1))
   where
-    at : (b : Bool) (o : Option ℕ) (k : ℕ) → (if b then Some 0 else option_map (λ k. suc k) o) ≡ Some k
-        → ((j : ℕ) → place_of n (fields_in fs) ≡ Some j → Found n fs j d) → place_of n (fields_in fs) ≡ o
-        → ((if b then Some f.1 else get n (fields_in fs)) ≡ Some (get_or (f ∷ fs) k d).1)
-        × ((if b then fields_in fs else field f.0 f.1 (without n (fields_in fs))) ≡ fields_in (remove (f ∷ fs) k))
-    at true o k e ih p = let is : 0 ≡ k = cc in rw (← is) (refl, refl)
-    at false None k e ih p = absurd cc
-    at false (Some j) k e ih p =
-        let is : suc j ≡ k = cc in
-        let t = ih j p in
-        rw (← is) (t.0, ap (field f.0 f.1) t.1)
+    lower : (ys : List (ℕ × Held)) → nat_lt n x.0 ≡ true → IsBelow x.0 ys → IsBelow n ys
+    lower [] b o = tt
+    lower (y ∷ ys) b o = grind (arith, nat_tests)
+
+added_first : (n : ℕ) (v : Val) (xs : List (ℕ × Held)) → IsBelow n xs → added n v (held_fields xs) ≡ field n v (held_fields xs)
+added_first n v [] b = refl
+added_first n v (x ∷ xs) b = rw b refl
+
+with_held : (n : ℕ) (h : Held) (xs : List (ℕ × Held)) → IsAscending xs → held_fields (with_entry n h xs) ≡ with_value n (val_of h) (held_fields xs)
+with_held n h [] o = refl
+with_held n h (x ∷ xs) o = at (nat_lt n x.0) (nat_lt x.0 n) (n == x.0) refl refl refl (with_held n h xs o.1)
+  where
+    equal : (ys : List (ℕ × Held)) → n ≡ x.0 → IsBelow x.0 ys → IsBelow n ys
+    equal [] e b = tt
+    equal (y ∷ ys) e b = rw e b
+
+    at : (less more same : Bool) → nat_lt n x.0 ≡ less → nat_lt x.0 n ≡ more → (n == x.0) ≡ same
+        → held_fields (with_entry n h xs) ≡ added n (val_of h) (without n (held_fields xs))
+        → held_fields (if less then (n, h) ∷ x ∷ xs else (if more then x ∷ with_entry n h xs else (n, h) ∷ xs))
+        ≡ added n (val_of h) (if same then held_fields xs else field x.0 (val_of x.1) (without n (held_fields xs)))
+    at true more true l m s ih = absurd (grind (arith, nat_tests))
+    at true more false l m s ih =
+        let behind : IsBelow n xs = lower xs l o.0 in
+        rw l (ap (λ (fs : Fields). field n (val_of h) (field x.0 (val_of x.1) fs)) (sym (without_greater n xs behind o.1)))
+      where
+        lower : (ys : List (ℕ × Held)) → nat_lt n x.0 ≡ true → IsBelow x.0 ys → IsBelow n ys
+        lower [] b o = tt
+        lower (y ∷ ys) b o = grind (arith, nat_tests)
+    at false true true l m s ih = absurd (grind (arith, nat_tests))
+    at false true false l m s ih = rw l (ap (field x.0 (val_of x.1)) ih)
+    at false false true l m s ih = sym (added_first n (val_of h) xs (equal xs (grind (arith, nat_tests)) o.0))
+    at false false false l m s ih = absurd (grind (arith, nat_tests))
 
 -- ---- the whole tree
 
-pub rolled : (fs : List Field) (ks : List Rec) → content_of (roll-Contents (record { fields = fs; kept = ks })) ≡ content (held_fields fs) ks
+pub rolled : (fs : List (ℕ × Held)) (ks : List Rec) → content_of (roll-Contents (record { fields = fs; kept = ks })) ≡ content (held_fields fs) ks
 rolled fs ks = search (rules, the_lemmas)
 
-pub take_none : (c : Contents) (n : ℕ) → None ≡ place_of n (held_fields (out-Contents c).fields)
-    → (None ≡ get n (fields (content_of c))) × (content_of c ≡ with_fields (content_of c) (without n (fields (content_of c))))
-take_none c n e =
-    let t = absent_place n (held_fields (out-Contents c).fields) (sym e) in
-    rw (content_of_lem c) (sym t.0, ap (λ fs. content fs (out-Contents c).kept) (sym t.1))
-
-get_or-map : (xs : List Field) (k : ℕ) (d : Field) → get_or (map entry_of xs) k (entry_of d) ≡ entry_of (get_or xs k d)
-get_or-map [] k d = refl
-get_or-map (x ∷ xs) zero d = refl
-get_or-map (x ∷ xs) (suc k) d = get_or-map xs k d
-
-pub take_some : (c : Contents) (n k : ℕ) (d : Field) → Some k ≡ place_of n (held_fields (out-Contents c).fields)
-    → (Some (entry_of (get_or (out-Contents c).fields k d)).1 ≡ get n (fields (content_of c)))
-    × (content_of (roll-Contents (record { fields = remove (out-Contents c).fields k; kept = (out-Contents c).kept }))
-    ≡ with_fields (content_of c) (without n (fields (content_of c))))
-take_some c n k d e =
-    let t = found_place n (map entry_of (out-Contents c).fields) k (entry_of d) (sym e) in
-    let value = t.0 ∙ ap (λ (f : ℕ × Val). Some f.1) (get_or-map (out-Contents c).fields k d) in
-    let rest = t.1 ∙ ap fields_in (sym (map-remove entry_of (out-Contents c).fields k)) in
-    rw (content_of_lem c, rolled) (sym value, ap (λ fs. content fs (out-Contents c).kept) (sym rest))
-
--- ---- a value put in, and the old one of its number taken out
-
--- where the old value stands once the new one is in
-abbrev behind : ℕ → ℕ → ℕ
-behind old at = if nat_lt old at then old else old + 1
-
-behind-suc : (j k : ℕ) → behind (suc j) (suc k) ≡ suc (behind j k)
-behind-suc j k = grind (arith, nat_tests)
-
--- the new value in its place, and the old one out
-abbrev exchanged : ℕ → Val → List (ℕ × Val) → ℕ → ℕ → Fields
-exchanged n v fs old at = fields_in (remove (insert fs at (n, v)) (behind old at))
-
-replaced : (n : ℕ) (v : Val) (fs : List (ℕ × Val)) (old : ℕ) → place_of n (fields_in fs) ≡ Some old
-    → exchanged n v fs old (place_after n (fields_in fs)) ≡ with_value n v (fields_in fs)
-replaced n v [] old e = absurd cc
-replaced n v (f ∷ fs) old e = at (n == f.0) (nat_lt n f.0) (place_of n (fields_in fs)) refl refl e refl (λ j. replaced n v fs j)
+pub got : (c : Contents) (n : ℕ) (r : Option (Bor Held)) → option_map (λ (b : Bor Held). b.now) r ≡ value_under n (out-Contents c).fields
+    → option_map (λ (b : Bor Held). val_of b.now) r ≡ get n (fields (content_of c))
+got c n r e =
+    inside r ∙ ap (option_map val_of) e ∙ get_held n (out-Contents c).fields ∙ ap (λ x. get n (fields x)) (sym (content_of_lem c))
   where
-    place : ℕ
-    place = place_after n (fields_in fs)
+    inside : (r : Option (Bor Held)) → option_map (λ (b : Bor Held). val_of b.now) r ≡ option_map val_of (option_map (λ (b : Bor Held). b.now) r)
+    inside None = refl
+    inside (Some b) = refl
 
-    at : (same less : Bool) (o : Option ℕ) → (n == f.0) ≡ same → nat_lt n f.0 ≡ less → (if same then Some 0 else option_map (λ k. suc k) o) ≡ Some old
-        → place_of n (fields_in fs) ≡ o → ((j : ℕ) → place_of n (fields_in fs) ≡ Some j → exchanged n v fs j place ≡ with_value n v (fields_in fs))
-        → exchanged n v (f ∷ fs) old (if less then 0 else suc place) ≡ added n v (if same then fields_in fs else field f.0 f.1 (without n (fields_in fs)))
-    at true true o s l e p ih = absurd (grind (arith, nat_tests))
-    at true false o s l e p ih =
-        let is : 0 ≡ old = cc in
-        let first : behind 0 (suc place) ≡ 0 = grind (arith, nat_tests) in
-        rw (← is, first) (sym (added_place n v fs))
-    at false less None s l e p ih = absurd cc
-    at false true (Some j) s l e p ih =
-        let is : suc j ≡ old = cc in
-        let moved : behind (suc j) 0 ≡ suc (suc j) = grind (arith, nat_tests) in
-        rw (← is, moved, l) (ap (λ gs. field n v (field f.0 f.1 gs)) (sym (found_place n fs j f p).1))
-    at false false (Some j) s l e p ih =
-        let is : suc j ≡ old = cc in
-        rw (← is, behind-suc j place, l) (ap (field f.0 f.1) (ih j p))
+pub taken : (c : Contents) (n : ℕ) (r : Option Held) → r ≡ value_under n (out-Contents c).fields → option_map val_of r ≡ get n (fields (content_of c))
+taken c n r e = ap (option_map val_of) e ∙ get_held n (out-Contents c).fields ∙ ap (λ x. get n (fields x)) (sym (content_of_lem c))
 
--- the tree's list with a value put in
-abbrev pub put_in : List Field → ℕ → Held → ℕ → List Field
-put_in xs n h k = insert xs k (roll-Field (record { number = n; held = h }))
+pub left : (c : Contents) (n : ℕ) (fs : List (ℕ × Held)) → fs ≡ without_entry n (out-Contents c).fields
+    → content_of (roll-Contents (record { fields = fs; kept = (out-Contents c).kept })) ≡ with_fields (content_of c) (without n (fields (content_of c)))
+left c n fs e =
+    rw (content_of_lem c, rolled) (ap (λ x. content x (out-Contents c).kept) (ap held_fields e ∙ without_held n (out-Contents c).fields))
 
-put_entries : (xs : List Field) (n : ℕ) (h : Held) (k : ℕ) → map entry_of (put_in xs n h k) ≡ insert (map entry_of xs) k (n, val_of h)
-put_entries xs n h k = map-insert entry_of xs k _
+pub put : (c : Contents) (n : ℕ) (h : Held) (fs : List (ℕ × Held)) → IsAscending (out-Contents c).fields → fs ≡ with_entry n h (out-Contents c).fields
+    → content_of (roll-Contents (record { fields = fs; kept = (out-Contents c).kept })) ≡ with_fields (content_of c) (with_value n (val_of h) (fields (content_of c)))
+put c n h fs o e =
+    rw (content_of_lem c, rolled) (ap (λ x. content x (out-Contents c).kept) (ap held_fields e ∙ with_held n h (out-Contents c).fields o))
 
-pub put_new : (xs : List Field) (n : ℕ) (h : Held) (k : ℕ) → None ≡ place_of n (held_fields xs) → k ≡ place_after n (held_fields xs)
-    → held_fields (put_in xs n h k) ≡ with_value n (val_of h) (held_fields xs)
-put_new xs n h k none e =
-    ap fields_in (put_entries xs n h k) ∙ (rw e (sym (added_place n (val_of h) (map entry_of xs))))
-    ∙ ap (added n (val_of h)) (sym (absent_place n (held_fields xs) (sym none)).1)
-
-put_old : (xs : List Field) (n : ℕ) (h : Held) (k old at : ℕ) → Some old ≡ place_of n (held_fields xs) → k ≡ place_after n (held_fields xs) → behind old k ≡ at
-    → held_fields (remove (put_in xs n h k) at) ≡ with_value n (val_of h) (held_fields xs)
-put_old xs n h k old at found e is =
-    ap fields_in (map-remove entry_of (put_in xs n h k) at ∙ ap (λ (es : List (ℕ × Val)). remove es at) (put_entries xs n h k))
-    ∙ (rw (← is, e) (replaced n (val_of h) (map entry_of xs) old (sym found)))
-
--- the new field stands behind the old one
-pub put_behind : (xs : List Field) (n : ℕ) (h : Held) (k old : ℕ) → Some old ≡ place_of n (held_fields xs) → k ≡ place_after n (held_fields xs)
-    → old < k → held_fields (remove (put_in xs n h k) old) ≡ with_value n (val_of h) (held_fields xs)
-put_behind xs n h k old found e lt = put_old xs n h k old old found e (grind (arith, nat_tests))
-
--- the new field stands before the old one, which it has moved up
-pub put_before : (xs : List Field) (n : ℕ) (h : Held) (k old : ℕ) → Some old ≡ place_of n (held_fields xs) → k ≡ place_after n (held_fields xs)
-    → k ≤ old → held_fields (remove (put_in xs n h k) (old + 1)) ≡ with_value n (val_of h) (held_fields xs)
-put_before xs n h k old found e le = put_old xs n h k old (old + 1) found e (grind (arith, nat_tests))
+pub put_told : {E : Type 0} (c : Contents) (n : ℕ) (h : Held) (fs : List (ℕ × Held)) (r : Result (Unit {0}) E) → IsAscending (out-Contents c).fields
+    → OnOk r (fs ≡ with_entry n h (out-Contents c).fields)
+    → OnOk r (content_of (roll-Contents (record { fields = fs; kept = (out-Contents c).kept })) ≡ with_fields (content_of c) (with_value n (val_of h) (fields
+    (content_of c))))
+put_told c n h fs (Ok u) o e = put c n h fs o e
+put_told c n h fs (Err e) o is = tt

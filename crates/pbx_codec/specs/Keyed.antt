@@ -2,13 +2,6 @@
 use Rattle.std.specs.Prelude.{◌≡◌, ℕ, zero, suc, ℤ, pos, Bool, true, false, not, List, [], ◌∷◌}
 use Rattle.std.specs.List.{AllByRecursion}
 use Rattle.pbx_meaning.specs.Content.{Key, truth_key, number_key, text_key, key_before, Val}
-use Rattle.pbx_codec.specs.declared.contents.Pair.{Pair}
-use Rattle.pbx_codec.specs.declared.contents.Held.TheViews.{out-Pair}
-use Rattle.pbx_codec.specs.View.{val_of, key_of}
-
--- a key and what stands under it
-abbrev pub pair_of : Pair → Key × Val
-pair_of p = (key_of (out-Pair p).key, val_of (out-Pair p).held)
 
 -- the number that a key is, or 0
 abbrev pub number_in : Key → ℤ

@@ -1,9 +1,8 @@
 pub mod View
 pub mod Places
-pub mod Forms
 pub mod Code
 pub mod Fields
 pub mod Breaks
 pub mod Merging
 pub mod Keyed
-pub mod Settling
+pub mod Stability

@@ -6,9 +6,8 @@ use Rattle.pbx_codec.specs.declared.key.MapKey.{MapKey}
 use Rattle.pbx_codec.specs.declared.key.MapKey.TheVariants as map_key
 use Rattle.pbx_codec.specs.declared.contents.Held.{Held, fold-Held}
 use Rattle.pbx_codec.specs.declared.contents.Contents.{Contents, fold-Contents}
-use Rattle.pbx_codec.specs.declared.contents.Field.{Field}
 use Rattle.pbx_codec.specs.declared.contents.Pair.{Pair}
-use Rattle.pbx_codec.specs.declared.contents.Held.TheOpen.{Held-F, Contents-F, Field-F, Pair-F}
+use Rattle.pbx_codec.specs.declared.contents.Held.TheOpen.{Held-F, Contents-F, Pair-F}
 
 -- the key that a MapKey is
 abbrev pub key_of : MapKey → Key
@@ -25,7 +24,7 @@ fields_in [] = no_fields
 fields_in (f ∷ fs) = field f.0 f.1 (fields_in fs)
 
 -- what a field holds, with all below it given
-abbrev pub val_step : Held-F Val Content (ℕ × Val) (Key × Val) → Val
+abbrev pub val_step : Held-F Val Content (Key × Val) → Val
 val_step (Held-F.I32 z) = number z
 val_step (Held-F.I64 z) = number z
 val_step (Held-F.U32 n) = number (pos n)
@@ -38,28 +37,24 @@ val_step (Held-F.Many vs) = many (vals_of vs)
 val_step (Held-F.Pairs ps) = keyed (pairs_of ps)
 
 -- a tree, with all below it given
-abbrev pub content_step : Contents-F Val Content (ℕ × Val) (Key × Val) → Content
+abbrev pub content_step : Contents-F Val Content (Key × Val) → Content
 content_step c = content (fields_in c.fields) c.kept
 
--- a number and what stands there, with all below it given
-abbrev pub field_step : Field-F Val Content (ℕ × Val) (Key × Val) → ℕ × Val
-field_step f = (f.number, f.held)
-
 -- a key and what stands under it, with all below it given
-abbrev pub pair_step : Pair-F Val Content (ℕ × Val) (Key × Val) → Key × Val
+abbrev pub pair_step : Pair-F Val Content (Key × Val) → Key × Val
 pair_step p = (key_of p.key, p.held)
 
 -- the value that a tree's field holds
 abbrev pub val_of : Held → Val
-val_of = fold-Held Val Content (ℕ × Val) (Key × Val) val_step content_step field_step pair_step
+val_of = fold-Held Val Content (Key × Val) val_step content_step pair_step
 
 -- the content that a tree stands for
 abbrev pub content_of : Contents → Content
-content_of = fold-Contents Val Content (ℕ × Val) (Key × Val) val_step content_step field_step pair_step
+content_of = fold-Contents Val Content (Key × Val) val_step content_step pair_step
 
--- the number and value of an entry of a tree
-abbrev pub entry_of : Field → ℕ × Val
-entry_of f = (f.number, val_of f.held)
+-- a number and the value that stands there
+abbrev pub entry_of : ℕ × Held → ℕ × Val
+entry_of f = (f.0, val_of f.1)
 
 -- the key and value of a pair of a tree
 abbrev pub pair_of : Pair → Key × Val

@@ -1,12 +1,12 @@
-ghost use Rattle.std.specs.Prelude.{◌≡◌, [], ◌≤◌, ◌<◌, length, map, remove, option_map, IfSome, IfOk, OnOk, OnErr};
+ghost use Rattle.std.specs.Prelude.{◌≡◌, [], option_map, IfOk, OnOk, OnErr};
 ghost use Rattle.pbx_meaning.specs.Content.{content, no_fields, get, fields, with_value, without, with_fields};
-ghost use Rattle.pbx_codec.specs.View.{val_of, content_of, entry_of, fields_in};
-ghost use Rattle.pbx_codec.specs.Places.{place_of as place_of_number, place_after as place_after_number};
+ghost use Rattle.pbx_codec.specs.View.{val_of, content_of};
 
 use crate::copying::copy_contents;
 use crate::key::MapKey;
 use crate::levels::DEEPEST;
 use bytes::Bytes;
+use pbx_number_map::NumberMap;
 use pbx_wire::{List, NoMemory, Recs, Text};
 use std::alloc::Global;
 
@@ -46,22 +46,12 @@ pub struct Pair {
     pub held: Held,
 }
 
-/// A number and what stands there.
-#[cycle(tree)]
-#[derive(Drop)]
-pub struct Field {
-    /// The field's number.
-    pub number: u32,
-    /// The field's value.
-    pub held: Held,
-}
-
 /// What a message holds.
 #[cycle(tree)]
 #[derive(Drop)]
 pub struct Contents {
     /// The fields that have a value, by ascending number.
-    pub fields: List<Field>,
+    pub fields: NumberMap<Held>,
     /// The records that no field reads, in order of arrival.
     pub kept: Recs,
 }
@@ -72,7 +62,7 @@ impl Contents {
         ensures { content_of result ≡ content no_fields [] }
     {
         Contents {
-            fields: List::new(alloc),
+            fields: NumberMap::new(alloc),
             kept: Recs::new(alloc),
         }
     }
@@ -89,8 +79,7 @@ impl Contents {
     pub fn get(&self, number: u32) -> Option<&Held>
         ensures { option_map (λ held. val_of held.now) result ≡ get number (fields (content_of self.now)) }
     {
-        let at = place_of(self.fields.as_slice(), number)?;
-        Some(&self.fields.as_slice()[at].held)
+        self.fields.get(number)
     }
 
     /// Takes the value of a number out.
@@ -98,9 +87,7 @@ impl Contents {
         ensures value { option_map val_of result ≡ get number (fields (content_of self.old)) }
         ensures rest { content_of self.new ≡ with_fields (content_of self.old) (without number (fields (content_of self.old))) }
     {
-        let at = place_of(self.fields.as_slice(), number)?;
-        let field = self.fields.remove(at);
-        Some(field.held)
+        self.fields.take(number)
     }
 
     /// Drops the value of a number.
@@ -115,65 +102,6 @@ impl Contents {
         ensures ok { OnOk result (content_of self.new ≡ with_fields (content_of self.old) (with_value number (val_of held) (fields (content_of self.old)))) }
         ensures err { OnErr result (content_of self.new ≡ content_of self.old) }
     {
-        put_value(&mut self.fields, number, held)
+        self.fields.put(number, held)
     }
-}
-
-/// Puts a value at a number, in the place of the one that is there. A refused call changes nothing.
-fn put_value(fields: &mut List<Field>, number: u32, held: Held) -> Result<(), NoMemory>
-    ensures ok { OnOk result (fields_in (map entry_of fields.new) ≡ with_value number (val_of held) (fields_in (map entry_of fields.old))) }
-    ensures err { OnErr result (fields.new ≡ fields.old) }
-{
-    let old = place_of(fields.as_slice(), number);
-    let at = place_after(fields.as_slice(), number);
-    fields.insert(at, Field { number, held })?;
-    match old {
-        None => Ok(()),
-        // The new field may have moved the old one up.
-        Some(old) => {
-            if old < at {
-                drop_at(fields, old);
-            } else {
-                drop_at(fields, old + 1);
-            }
-            Ok(())
-        }
-    }
-}
-
-fn drop_at(fields: &mut List<Field>, at: usize)
-    requires { at < length fields.old }
-    ensures { fields.new ≡ remove fields.old at }
-{
-    fields.remove(at);
-}
-
-/// How many fields at the front have no greater number.
-fn place_after(fields: &[Field], number: u32) -> usize
-    ensures place { result ≡ place_after_number number (fields_in (map entry_of fields.now)) }
-    ensures within { result ≤ length fields.now }
-{
-    let mut at = 0;
-    for field in fields {
-        if number < field.number {
-            return at;
-        }
-        at += 1;
-    }
-    at
-}
-
-/// Where the first field of this number stands.
-fn place_of(fields: &[Field], number: u32) -> Option<usize>
-    ensures place { result ≡ place_of_number number (fields_in (map entry_of fields.now)) }
-    ensures within { IfSome result (λ at. at < length fields.now) }
-{
-    let mut at = 0;
-    for field in fields {
-        if number == field.number {
-            return Some(at);
-        }
-        at += 1;
-    }
-    None
 }

@@ -1,6 +1,7 @@
 ghost use Rattle.std.specs.Prelude.{◌≡◌, IfOk};
 
-use crate::contents::{Contents, Field, Held, Pair};
+use crate::contents::{Contents, Held, Pair};
+use pbx_number_map::NumberMap;
 use pbx_wire::{List, NoMemory, copy_recs};
 use std::alloc::Global;
 
@@ -22,18 +23,19 @@ pub(crate) fn copy_contents(
 }
 
 #[cycle(copy)]
-fn copy_fields(fields: &List<Field>, alloc: Global, room: u32) -> Result<List<Field>, NoMemory>
+fn copy_fields(
+    fields: &NumberMap<Held>,
+    alloc: Global,
+    room: u32,
+) -> Result<NumberMap<Held>, NoMemory>
     ensures { IfOk result (λ copy. copy ≡ fields.now) }
 {
     let mut copies = List::with_capacity(alloc, fields.len())?;
     for field in fields.as_slice() {
-        let held = copy_held(&field.held, alloc, room)?;
-        copies.add(Field {
-            number: field.number,
-            held,
-        })?;
+        let held = copy_held(&field.1, alloc, room)?;
+        copies.add((field.0, held))?;
     }
-    Ok(copies)
+    Ok(NumberMap::from_ascending(copies.into_vec()))
 }
 
 /// An equal value.

@@ -7,13 +7,13 @@ ghost use Rattle.pbx_meaning.specs.Sound.{IsProper};
 ghost use Rattle.pbx_meaning.specs.Faults.{IsFaultOf, IsFaultOfParts, MessageFaults, IsToldFault};
 ghost use Rattle.pbx_meaning.specs.Laws.{meaning_with, IsFirstWith};
 ghost use Rattle.pbx_codec.specs.View.{content_of};
-ghost use Rattle.pbx_codec.specs.Settling.{IsSettledUnless};
+ghost use Rattle.pbx_codec.specs.Stability.{IsStabilizedUnless};
 
 use crate::contents::Contents;
 use crate::fields::Owner;
 use crate::levels::DEEPEST;
 use crate::merging::merge_bytes;
-use crate::settling::{is_settled, settle_unless};
+use crate::stabilizing::{is_stable, stabilize_unless};
 use pbx_meaning::Schema;
 use pbx_wire::{DecodeError, NoMemory};
 use std::alloc::Global;
@@ -94,19 +94,19 @@ pub fn decode_parts(
     decode_with(alloc, schema, 100, 101, type_at, bytes)
 }
 
-/// A copy of the content, settled where it is not.
-fn settled_copy(
+/// A copy of the content, stable where it is not.
+fn stable_copy(
     alloc: Global,
     schema: &Schema,
-    settled: bool,
+    stable: bool,
     type_at: usize,
     old: &Contents,
 ) -> Result<Contents, NoMemory>
     requires { IsProper schema.now }
-    ensures { IfOk result (λ copy. IsSettledUnless settled schema.now (fields_of schema.now type_at) (content_of old.now) (content_of copy)) }
+    ensures { IfOk result (λ copy. IsStabilizedUnless stable schema.now (fields_of schema.now type_at) (content_of old.now) (content_of copy)) }
 {
     let mut copy = old.copy(alloc)?;
-    settle_unless(alloc, schema, settled, type_at, &mut copy)?;
+    stabilize_unless(alloc, schema, stable, type_at, &mut copy)?;
     Ok(copy)
 }
 
@@ -114,7 +114,7 @@ fn settled_copy(
 /// of the bytes are counted by themselves.
 ///
 /// Any content may be the old one. One that was decoded is copied; of another, where numbers do not ascend or values
-/// are not of their fields' kinds, each message is settled where records come to it. As in `Contents::copy`, messages
+/// are not of their fields' kinds, each message is stable where records come to it. As in `Contents::copy`, messages
 /// that nest deeper than 1,024 are `DecodeError::NoMemory`.
 pub fn merge(
     alloc: Global,
@@ -127,14 +127,14 @@ pub fn merge(
     ensures fault { IfErr result (IsToldFault (merged_of schema.now type_at (content_of old.now) bytes.now) (IsFaultOf schema.now type_at bytes.now)) }
 {
     let _proper = schema.shape();
-    let settled = is_settled(schema, type_at, old, 100);
-    let Ok(mut contents) = settled_copy(alloc, schema, settled, type_at, old) else {
+    let stable = is_stable(schema, type_at, old, 100);
+    let Ok(mut contents) = stable_copy(alloc, schema, stable, type_at, old) else {
         return Err(DecodeError::NoMemory);
     };
     match merge_bytes(
         alloc,
         schema,
-        settled,
+        stable,
         100,
         100,
         DEEPEST,

@@ -6,7 +6,7 @@ ghost use Rattle.pbx_meaning.specs.Encoding.{encoded, content_recs, fields_recs,
 ghost use Rattle.pbx_meaning.specs.Encoding.{key_rec, type_of, keys_of, payload, number_rec, packed_text, numeral as numeral_of};
 ghost use Rattle.pbx_codec.specs.View.{val_of, content_of, entry_of, pair_of, key_of, fields_in};
 
-use crate::contents::{Contents, Field, Held, Pair};
+use crate::contents::{Contents, Held, Pair};
 use crate::key::MapKey;
 use crate::levels::DEEPEST;
 use crate::numeral::{
@@ -15,6 +15,7 @@ use crate::numeral::{
 use crate::order::with_kept;
 use bytes::Bytes;
 use pbx_meaning::{Cardinality, FieldShape, Kind, Schema};
+use pbx_number_map::NumberMap;
 use pbx_wire::{Blob, List, NoMemory, Rec, Recs, recs_text};
 use std::alloc::Global;
 
@@ -228,7 +229,7 @@ fn add_held(
 /// The records of the fields, field by field. Of a number of no field nothing is written.
 #[cycle(encode)]
 fn fields_records(
-    fields: &List<Field>,
+    fields: &NumberMap<Held>,
     alloc: Global,
     schema: &Schema,
     type_at: usize,
@@ -238,8 +239,8 @@ fn fields_records(
 {
     let mut recs = Recs::new(alloc);
     for field in fields.as_slice() {
-        if let Some(found) = schema.field_of(type_at, field.number) {
-            add_held(&field.held, alloc, schema, found, room, &mut recs)?;
+        if let Some(found) = schema.field_of(type_at, field.0) {
+            add_held(&field.1, alloc, schema, found, room, &mut recs)?;
         }
     }
     Ok(recs)

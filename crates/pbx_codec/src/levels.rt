@@ -4,7 +4,8 @@ ghost use Rattle.pbx_meaning.specs.Content.{vals_of, pairs_of};
 ghost use Rattle.pbx_meaning.specs.Sound.{depth as depth_of, fields_depth as fields_depth_of, val_depth, vals_depth, pairs_depth as pairs_depth_of};
 ghost use Rattle.pbx_codec.specs.View.{val_of, content_of, entry_of, pair_of, fields_in};
 
-use crate::contents::{Contents, Field, Held, Pair};
+use crate::contents::{Contents, Held, Pair};
+use pbx_number_map::NumberMap;
 use pbx_wire::{List, Rec, Recs};
 
 /// How many levels of messages below the top the stack is given, whatever levels a caller allows: each takes that of a few calls.
@@ -72,12 +73,12 @@ fn pairs_depth(pairs: &List<Pair>) -> u32
 
 /// The deepest of the fields.
 #[cycle(levels)]
-fn fields_depth(fields: &List<Field>) -> u32
+fn fields_depth(fields: &NumberMap<Held>) -> u32
     ensures { result ≡ min (fields_depth_of (fields_in (map entry_of fields.now))) (2 ^ 32 - 1) }
 {
     let mut deepest = 0;
     for field in fields.as_slice() {
-        deepest = held_depth(&field.held).max(deepest);
+        deepest = held_depth(&field.1).max(deepest);
     }
     deepest
 }

@@ -15,10 +15,10 @@ mod numeral;
 mod order;
 mod pairs;
 mod scalars;
-mod settling;
+mod stabilizing;
 mod values;
 
-pub use contents::{Contents, Field, Held, Pair};
+pub use contents::{Contents, Held, Pair};
 pub use decoding::{decode, decode_parts, decode_within, merge};
 pub use encoding::{content_records, encode};
 pub use key::MapKey;

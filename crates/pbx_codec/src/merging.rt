@@ -17,18 +17,19 @@ ghost use Rattle.pbx_meaning.specs.Meaning.{pair_in};
 ghost use Rattle.pbx_codec.specs.Keyed.{AreInOrder};
 ghost use Rattle.pbx_codec.specs.View.{content_of, val_of, fields_in, entry_of};
 ghost use Rattle.pbx_codec.specs.Fields.{fields_at, field_like};
-ghost use Rattle.pbx_codec.specs.Settling.{HasSettled, IsReady, IsSettledUnless};
+ghost use Rattle.pbx_codec.specs.Stability.{HasStable, IsReady, IsStabilizedUnless};
 ghost use Rattle.pbx_codec.specs.Merging.{put_option, is_rival_to, without_rivals, kept_more, onto_with, GoesOn, HasOrdered};
 ghost use Rattle.pbx_codec.specs.Merging.{IsToldAt, PayloadFits, PayloadMeans, PayloadFails, ValueFails, RecFails};
 
-use crate::contents::{Contents, Field, Held};
+use crate::contents::{Contents, Held};
 use crate::fields::{FieldView, Owner, is_float, takes_key, view_in};
 use crate::pairs::{pairs_held, with_entry};
 use crate::scalars::list_held;
-use crate::settling::settle_unless;
+use crate::stabilizing::stabilize_unless;
 use crate::values::{add_values, payload, set_value};
 use pbx_meaning::{Cardinality, Kind, Schema};
-use pbx_wire::{DecodeError, List, NoMemory, RecRef, front_key, read_rec_ref};
+use pbx_number_map::NumberMap;
+use pbx_wire::{DecodeError, NoMemory, RecRef, front_key, read_rec_ref};
 use std::alloc::Global;
 
 /// Adds a record that no field reads.
@@ -75,15 +76,16 @@ fn is_rival(schema: &Schema, owner: Owner, view: FieldView, number: u32) -> bool
 }
 
 /// Drops the field at the place.
-fn drop_field(fields: &mut List<Field>, place: usize)
+fn drop_field(fields: &mut NumberMap<Held>, place: usize)
     requires { place < length fields.old }
     ensures { fields.new ≡ remove fields.old place }
 {
-    fields.remove(place);
+    let number = fields.as_slice()[place].0;
+    fields.take(number);
 }
 
 /// Drops the values of the other members of the field's oneof, sought among the fields that have a value.
-fn clear_rivals(schema: &Schema, owner: Owner, view: FieldView, fields: &mut List<Field>)
+fn clear_rivals(schema: &Schema, owner: Owner, view: FieldView, fields: &mut NumberMap<Held>)
     ensures { fields_in (map entry_of fields.new) ≡ without_rivals (fields_at schema.now owner) (field_like view) (fields_in (map entry_of fields.old)) }
 {
     if view.oneof.is_none() {
@@ -92,7 +94,7 @@ fn clear_rivals(schema: &Schema, owner: Owner, view: FieldView, fields: &mut Lis
     let mut place = fields.len();
     while place > 0 {
         place -= 1;
-        let number = fields.as_slice()[place].number;
+        let number = fields.as_slice()[place].0;
         if is_rival(schema, owner, view, number) {
             drop_field(fields, place);
         }
@@ -134,20 +136,20 @@ fn take_message(alloc: Global, held: &mut Option<Held>) -> Contents
     }
 }
 
-/// Takes the message that a field has out, settled where the tree is not.
-fn take_settled(
+/// Takes the message that a field has out, stable where the tree is not.
+fn take_stable(
     alloc: Global,
     schema: &Schema,
-    settled: bool,
+    stable: bool,
     type_at: usize,
     held: &mut Option<Held>,
 ) -> Result<Contents, NoMemory>
     requires { IsProper schema.now }
     ensures { IfOk result (λ contents.
-        IsSettledUnless settled schema.now (fields_of schema.now type_at) (message_held_of (option_map val_of held.old)) (content_of contents)) }
+        IsStabilizedUnless stable schema.now (fields_of schema.now type_at) (message_held_of (option_map val_of held.old)) (content_of contents)) }
 {
     let mut contents = take_message(alloc, held);
-    settle_unless(alloc, schema, settled, type_at, &mut contents)?;
+    stabilize_unless(alloc, schema, stable, type_at, &mut contents)?;
     Ok(contents)
 }
 
@@ -199,7 +201,7 @@ fn add_pair(
 fn merge_payload(
     alloc: Global,
     schema: &Schema,
-    settled: bool,
+    stable: bool,
     messages: usize,
     room: u32,
     owner: Owner,
@@ -210,7 +212,7 @@ fn merge_payload(
 ) -> Result<(), DecodeError>
     requires proper { IsProper schema.now }
     requires ends { PayloadFits (rec_of rec.now) end }
-    requires ready { (deeper : ℕ) → messages ≡ suc deeper → IsReady settled schema.now deeper (fields_at schema.now owner) (content_of into.old) }
+    requires ready { (deeper : ℕ) → messages ≡ suc deeper → IsReady stable schema.now deeper (fields_at schema.now owner) (content_of into.old) }
     ensures found { OnOk result (PayloadMeans schema.now messages (fields_at schema.now owner) (content_of into.old) (rec_of rec.now) (content_of into.new)) }
     ensures fault { IfErr result (λ e. (e ≡ OutOfMemory) ⊎ PayloadFails schema.now messages (fields_at schema.now owner) at end (rec_of rec.now) e) }
 {
@@ -226,7 +228,7 @@ fn merge_payload(
     merge_bytes(
         alloc,
         schema,
-        settled,
+        stable,
         messages - 1,
         messages - 1,
         room - 1,
@@ -242,7 +244,7 @@ fn merge_payload(
 fn join_message(
     alloc: Global,
     schema: &Schema,
-    settled: bool,
+    stable: bool,
     groups: usize,
     messages: usize,
     room: u32,
@@ -258,17 +260,17 @@ fn join_message(
     requires kind { view.kind ≡ MessageKind type_at }
     requires once { view.cardinality ≡ Singular }
     requires ends { PayloadFits (rec_of rec.now) end }
-    requires settled { HasSettled settled schema.now messages (field_like view) (option_map val_of held.old) }
+    requires stable { HasStable stable schema.now messages (field_like view) (option_map val_of held.old) }
     ensures found { OnOk result (value_onto schema.now (onto_at schema.now messages) (field_like view) (option_map val_of held.old) (rec_of rec.now ∷ [])
         ≡ Some (option_map val_of held.new)) }
     ensures fault { IfErr result (λ e. (e ≡ OutOfMemory) ⊎ ValueFails schema.now groups messages (field_like view) at end (rec_of rec.now) e) }
 {
-    let Ok(mut inner) = take_settled(alloc, schema, settled, type_at, held) else {
+    let Ok(mut inner) = take_stable(alloc, schema, stable, type_at, held) else {
         return Err(DecodeError::NoMemory);
     };
     let owner = Owner::Type(type_at);
     match merge_payload(
-        alloc, schema, settled, messages, room, owner, at, end, &mut inner, rec,
+        alloc, schema, stable, messages, room, owner, at, end, &mut inner, rec,
     ) {
         Ok(()) => {
             set_message(held, inner);
@@ -352,7 +354,7 @@ fn put_entry(
 fn merge_value(
     alloc: Global,
     schema: &Schema,
-    settled: bool,
+    stable: bool,
     groups: usize,
     messages: usize,
     room: u32,
@@ -366,7 +368,7 @@ fn merge_value(
     requires left { (groups ≡ 0) ↔ (messages ≡ 0) }
     requires read { is_float_of view.kind ≡ false }
     requires ends { PayloadFits (rec_of rec.now) end }
-    requires settled { HasSettled settled schema.now messages (field_like view) (option_map val_of held.old) }
+    requires stable { HasStable stable schema.now messages (field_like view) (option_map val_of held.old) }
     requires ordered { HasOrdered (field_like view) (option_map val_of held.old) }
     ensures found { OnOk result (value_onto schema.now (onto_at schema.now messages) (field_like view) (option_map val_of held.old) (rec_of rec.now ∷ [])
         ≡ Some (option_map val_of held.new)) }
@@ -375,7 +377,7 @@ fn merge_value(
     match view.cardinality {
         Cardinality::Singular => match view.kind {
             Kind::Message(type_at) => join_message(
-                alloc, schema, settled, groups, messages, room, view, type_at, at, end, held, rec,
+                alloc, schema, stable, groups, messages, room, view, type_at, at, end, held, rec,
             ),
             _ => set_value(alloc, schema, view.presence, view.kind, at, held, rec),
         },
@@ -396,7 +398,7 @@ fn merge_value(
 fn merge_rec(
     alloc: Global,
     schema: &Schema,
-    settled: bool,
+    stable: bool,
     groups: usize,
     messages: usize,
     room: u32,
@@ -409,7 +411,7 @@ fn merge_rec(
     requires proper { IsProper schema.now }
     requires left { (groups ≡ 0) ↔ (messages ≡ 0) }
     requires ends { PayloadFits (rec_of rec) end }
-    requires ready { IsReady settled schema.now messages (fields_at schema.now owner) (content_of into.old) }
+    requires ready { IsReady stable schema.now messages (fields_at schema.now owner) (content_of into.old) }
     ensures found { OnOk result (meaning_onto schema.now messages (fields_at schema.now owner) (content_of into.old) (rec_of rec.entry ∷ [])
         ≡ Some (content_of into.new)) }
     ensures fault { IfErr result (λ e. (e ≡ OutOfMemory) ⊎ RecFails schema.now groups messages (fields_at schema.now owner) at end (rec_of rec.entry) e) }
@@ -422,7 +424,7 @@ fn merge_rec(
     }
     let mut held = take_value(schema, owner, view, into);
     match merge_value(
-        alloc, schema, settled, groups, messages, room, view, at, end, &mut held, &rec,
+        alloc, schema, stable, groups, messages, room, view, at, end, &mut held, &rec,
     ) {
         Ok(()) => put_value(into, view.number, held),
         Err(fault) => Err(fault),
@@ -434,7 +436,7 @@ fn merge_rec(
 fn merge_next<'a>(
     alloc: Global,
     schema: &Schema,
-    settled: bool,
+    stable: bool,
     groups: usize,
     messages: usize,
     room: u32,
@@ -446,7 +448,7 @@ fn merge_next<'a>(
     requires proper { IsProper schema.now }
     requires left { (groups ≡ 0) ↔ (messages ≡ 0) }
     requires ends { length bytes.now ≤ end }
-    requires ready { IsReady settled schema.now messages (fields_at schema.now owner) (content_of into.old) }
+    requires ready { IsReady stable schema.now messages (fields_at schema.now owner) (content_of into.old) }
     ensures found { IfOk result (λ rest.
         GoesOn schema.now groups messages (fields_at schema.now owner) (content_of into.old) (content_of into.new) bytes.now rest.now) }
     ensures fault { IfErr result (IsToldAt (end - length bytes.now) (IsFirstWith schema.now groups messages (fields_at schema.now owner) bytes.now)) }
@@ -459,7 +461,7 @@ fn merge_next<'a>(
         Ok(Some((rec, rest))) => {
             let last = end - rest.len();
             match merge_rec(
-                alloc, schema, settled, groups, messages, room, owner, at, last, into, rec,
+                alloc, schema, stable, groups, messages, room, owner, at, last, into, rec,
             ) {
                 Ok(()) => Ok(rest),
                 Err(fault) => Err(fault),
@@ -470,13 +472,13 @@ fn merge_next<'a>(
     }
 }
 
-/// The records of the bytes, which end at `end`, behind a content that stays where no record comes. Of a settled one the
+/// The records of the bytes, which end at `end`, behind a content that stays where no record comes. Of a stable one the
 /// messages inside do so, too.
 #[cycle(merge)]
 pub(crate) fn merge_bytes(
     alloc: Global,
     schema: &Schema,
-    settled: bool,
+    stable: bool,
     groups: usize,
     messages: usize,
     room: u32,
@@ -488,7 +490,7 @@ pub(crate) fn merge_bytes(
     requires proper { IsProper schema.now }
     requires left { (groups ≡ 0) ↔ (messages ≡ 0) }
     requires ends { length bytes.now ≤ end }
-    requires ready { IsReady settled schema.now messages (fields_at schema.now owner) (content_of into.old) }
+    requires ready { IsReady stable schema.now messages (fields_at schema.now owner) (content_of into.old) }
     ensures found { OnOk result (onto_with schema.now groups messages (fields_at schema.now owner) (content_of into.old) bytes.now
         ≡ Some (content_of into.new)) }
     ensures fault { IfErr result (IsToldAt (end - length bytes.now) (IsFirstWith schema.now groups messages (fields_at schema.now owner) bytes.now)) }
@@ -496,7 +498,7 @@ pub(crate) fn merge_bytes(
     let mut rest = bytes;
     while rest.len() > 0 {
         match merge_next(
-            alloc, schema, settled, groups, messages, room, owner, end, into, rest,
+            alloc, schema, stable, groups, messages, room, owner, end, into, rest,
         ) {
             Ok(after) => rest = after,
             Err(fault) => return Err(fault),

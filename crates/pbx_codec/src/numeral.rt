@@ -5,31 +5,12 @@ ghost use Rattle.pbx_meaning.specs.Content.{vals_of};
 ghost use Rattle.pbx_meaning.specs.Shape.{as_four, form_of};
 ghost use Rattle.pbx_meaning.specs.Encoding.{zigzag as zigzag_of, wire_number, numeral as numeral_of, number_rec, packed_text, is_packed as is_packed_of};
 ghost use Rattle.pbx_codec.specs.View.{val_of};
-ghost use Rattle.pbx_codec.specs.Forms.{form_in};
 
 use crate::contents::Held;
+use crate::fields::{Form, form_of_kind};
 use pbx_meaning::{FieldShape, Kind};
 use pbx_wire::{Blob, List, NoMemory, Rec, varints_text};
 use std::alloc::Global;
-
-/// How a value stands behind its key.
-enum Form {
-    Varint,
-    Four,
-    Eight,
-    Payload,
-}
-
-fn kind_form(kind: Kind) -> Form
-    ensures { form_in result ≡ form_of kind }
-{
-    match kind {
-        Kind::Fixed32 | Kind::Sfixed32 | Kind::Float => Form::Four,
-        Kind::Fixed64 | Kind::Sfixed64 | Kind::Double => Form::Eight,
-        Kind::String | Kind::Bytes | Kind::Message(_) => Form::Payload,
-        _ => Form::Varint,
-    }
-}
 
 fn zigzag(value: i64) -> u64
     ensures { result ≡ zigzag_of value % 2 ^ 64 }
@@ -87,7 +68,7 @@ pub(crate) fn number_record(
     requires { form_of kind ≡ as_four → value < 2 ^ 32 }
     ensures { IfOk result (λ it. it ≡ number_rec number (form_of kind) value) }
 {
-    match kind_form(kind) {
+    match form_of_kind(kind) {
         Form::Varint => Ok(Rec::Varint(number, value)),
         Form::Four => Ok(Rec::Fixed32(number, value as u32)),
         Form::Eight => Ok(Rec::Fixed64(number, value)),
@@ -140,7 +121,7 @@ fn eights_text(alloc: Global, values: &[u64]) -> Result<Blob, NoMemory>
 pub(crate) fn packed_payload(alloc: Global, kind: Kind, many: &[Held]) -> Result<Blob, NoMemory>
     ensures { IfOk result (λ blob. blob ≡ packed_text kind (vals_of (map val_of many.now))) }
 {
-    match kind_form(kind) {
+    match form_of_kind(kind) {
         Form::Varint => varints_text(alloc, numerals(alloc, kind, many)?.as_slice()),
         Form::Four => fours_text(alloc, numerals(alloc, kind, many)?.as_slice()),
         Form::Eight => eights_text(alloc, numerals(alloc, kind, many)?.as_slice()),

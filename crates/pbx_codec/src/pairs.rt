@@ -3,8 +3,8 @@ ghost use Rattle.pbx_meaning.specs.Content.{key_before, bytes_before as bytes_be
 ghost use Rattle.pbx_meaning.specs.Content.{get, fields as fields_of_content};
 ghost use Rattle.pbx_meaning.specs.Meaning.{zero_of, key_in, or_else, pair_in};
 ghost use Rattle.pbx_meaning.specs.Onto.{pairs_held as pairs_held_of};
-ghost use Rattle.pbx_codec.specs.View.{content_of, val_of, key_of};
-ghost use Rattle.pbx_codec.specs.Keyed.{pair_of, number_in, AreInOrder, IsPlaceOf, stands_at as stands_at_of};
+ghost use Rattle.pbx_codec.specs.View.{content_of, val_of, key_of, pair_of};
+ghost use Rattle.pbx_codec.specs.Keyed.{number_in, AreInOrder, IsPlaceOf, stands_at as stands_at_of};
 
 use crate::contents::{Contents, Held, Pair};
 use crate::key::MapKey;

@@ -7,14 +7,15 @@ use Rattle.pbx_wire.specs.Text.{text as text_of_rec, text_of, are_fit}
 use Rattle.pbx_wire.proofs.Texts.{text_of-append}
 use Rattle.pbx_wire.specs.declared.rec.Rec.{Rec, the_lemmas as rec_lemmas}
 use Rattle.pbx_wire.specs.declared.rec.Rec.TheVariants as rec
-use Rattle.pbx_codec.specs.declared.contents.Field.{Field}
+use Rattle.pbx_number_map.specs.Entries.{IsAscending}
+use Rattle.pbx_codec.specs.declared.contents.Held.{Held}
 use Rattle.pbx_meaning.specs.declared.shape.Cardinality.{Cardinality}
 use Rattle.pbx_meaning.specs.declared.shape.Cardinality.TheVariants.{Repeated}
 use Rattle.pbx_meaning.specs.declared.shape.FieldShape.{FieldShape}
 use Rattle.pbx_meaning.specs.declared.shape.Shape.{Shape}
 use Rattle.pbx_meaning.specs.declared.shape.Kind.{Kind}
 use Rattle.pbx_meaning.specs.declared.shape.Kind.TheVariants as kind
-use Rattle.pbx_meaning.specs.Content.{Content, content, Fields, Val, number, truth, text, octets, message, many, keyed, vals_of}
+use Rattle.pbx_meaning.specs.Content.{IsAscending as AreAscending, no_fields, Content, content, Fields, Val, number, truth, text, octets, message, many, keyed, vals_of}
 use Rattle.pbx_meaning.specs.Meaning.{with_field}
 use Rattle.pbx_meaning.specs.Shape.{fields_of, keeps_order_of, field_of, is_packable}
 use Rattle.pbx_meaning.specs.Encoding.{encoded, content_recs, payload, with_kept, fields_recs, field_recs, vals_recs, packed_text, keys_of}
@@ -29,7 +30,7 @@ use Rattle.pbx_desc.specs.Content.{of_records, fields_from, record_content}
 use Rattle.pbx_desc.specs.Sound.{AreOf}
 use Rattle.pbx_desc.specs.Unknown.{is_writable_beside}
 use Rattle.pbx_desc.proofs.Ascending.{Remains, remains_next, front_alone, is_run, fields_remain, fields_recs-followed}
-use Rattle.pbx_desc.proofs.Built.{entries-same, puts_behind}
+use Rattle.pbx_desc.proofs.Built.{entries-same, puts_behind, with-followed, list_ascends, values_ascend, front_ascends, back_ascends}
 use Rattle.pbx_desc.proofs.Fields.{AreValues, are_plain, numbers, kept_is, content_sound}
 
 -- ---- payloads and records
@@ -118,9 +119,10 @@ with_recs all g k n (Some v) fs e is keys packed here =
 -- ---- the whole, part by part
 
 -- Of the values these are left to be written, behind those of the list, which is made before it is written.
-pub record IsOpen (t : ℕ) (all : List FieldShape) (values : List (Option Val)) (kept : List Rec) (whole : List ℕ) (gs : List FieldShape) (vs : List (Option Val)) (list : List Field) (text : List ℕ) : Type 0 where
+pub record IsOpen (t : ℕ) (all : List FieldShape) (values : List (Option Val)) (kept : List Rec) (whole : List ℕ) (gs : List FieldShape) (vs : List (Option Val)) (list : List (ℕ × Held)) (text : List ℕ) : Type 0 where
   left : Remains (keeps_order_of descriptor_shape t) whole (fields_recs descriptor_shape all (followed_by (entries list) (fields_from gs vs))) kept text
   each : AreValues descriptor_shape gs vs → AreValues descriptor_shape all values
+  order : AreAscending (followed_by (entries list) (fields_from gs vs))
 
 -- the text that is to be
 abbrev pub goal_text : ℕ → List FieldShape → List (Option Val) → List Rec → List ℕ → List ℕ
@@ -139,26 +141,28 @@ begin t all values unknown old type run =
         apart = remain.1;
       };
       each = λ h. h;
+      order = values_ascend all values above;
     }
 
 -- a list is begun
-pub anew : {t : ℕ} {all : List FieldShape} {values : List (Option Val)} {kept : List Rec} {whole : List ℕ} {gs : List FieldShape} {vs : List (Option Val)} {text : List ℕ} (list : List Field)
+pub anew : {t : ℕ} {all : List FieldShape} {values : List (Option Val)} {kept : List Rec} {whole : List ℕ} {gs : List FieldShape} {vs : List (Option Val)} {text : List ℕ} (list : List (ℕ × Held))
     → IsOpen t all values kept whole gs vs [] text → list ≡ [] → IsOpen t all values kept whole gs vs list text
-anew {t} {all} {values} {kept} {whole} {gs} {vs} {text} list state e = subst (λ (fs : List Field). IsOpen t all values kept whole gs vs fs text) (sym e) state
+anew {t} {all} {values} {kept} {whole} {gs} {vs} {text} list state e = subst (λ (fs : List (ℕ × Held)). IsOpen t all values kept whole gs vs fs text) (sym e) state
 
 -- a value is put into the list
 pub added : {t : ℕ} {all : List FieldShape} {values : List (Option Val)} {kept : List Rec} {whole : List ℕ} {g : FieldShape} {gs : List FieldShape} {v : Option Val} {vs : List (Option Val)} {text : List ℕ}
-    {old new : List Field} {c : Cardinality} {k : Kind} {n : ℕ} → IsOpen t all values kept whole (g ∷ gs) (v ∷ vs) old text → Puts c k n v old new → g.number ≡ n → g.cardinality ≡ c → g.kind ≡ k
+    {old new : List (ℕ × Held)} {c : Cardinality} {k : Kind} {n : ℕ} → IsOpen t all values kept whole (g ∷ gs) (v ∷ vs) old text → Puts c k n v old new → g.number ≡ n → g.cardinality ≡ c → g.kind ≡ k
     → IsOpen t all values kept whole gs vs new text
 added {t} {all} {values} {kept} {whole} {g} {gs} {v} {vs} {text} {old} {new} {c} {k} {n} state puts e cardinality is = record {
   left = subst (λ (fs : Fields). Remains (keeps_order_of descriptor_shape t) whole (fields_recs descriptor_shape all fs) kept text) (sym (puts_behind g gs vs puts e)) state.left;
   each = λ h. state.each (rw (cardinality, is) puts.value, h);
+  order = subst AreAscending (sym (puts_behind g gs vs puts e)) state.order;
 }
 
 -- the list is written
-pub flushed : {t : ℕ} {all : List FieldShape} {values : List (Option Val)} {kept : List Rec} {whole : List ℕ} {gs : List FieldShape} {vs : List (Option Val)} {old : List ℕ} (list : List Field)
+pub flushed : {t : ℕ} {all : List FieldShape} {values : List (Option Val)} {kept : List Rec} {whole : List ℕ} {gs : List FieldShape} {vs : List (Option Val)} {old : List ℕ} (list : List (ℕ × Held))
     (shape : Shape) (p : Rec → Bool) (none : List Rec) (new : List ℕ) → IsOpen t all values kept whole gs vs list old → fields_of descriptor_shape t ≡ all → shape ≡ descriptor_shape
-    → none ≡ [] → new ≡ old ++ encoded shape t (content (entries list) (filter p none)) → IsOpen t all values kept whole gs vs [] new
+    → none ≡ [] → (IsAscending list → new ≡ old ++ encoded shape t (content (entries list) (filter p none))) → IsOpen t all values kept whole gs vs [] new
 flushed {t} {all} {values} {kept} {whole} {gs} {vs} {old} list shape p none new state type same nothing e =
     let keeps = keeps_order_of descriptor_shape t in
     let xs = fields_recs descriptor_shape all (entries list) in
@@ -170,7 +174,13 @@ flushed {t} {all} {values} {kept} {whole} {gs} {vs} {old} list shape p none new 
     ∙ ap (λ (hs : List FieldShape). text_of (with_kept keeps (fields_recs descriptor_shape hs (entries list)) [])) type
     ∙ ap text_of (front_alone keeps xs ys left.ascend)
     in
-    record { left = remains_next keeps whole xs ys kept old new left (e ∙ ap (λ (b : List ℕ). old ++ b) here); each = state.each }
+    let rest = fields_from gs vs in
+    let ascending = list_ascends list (front_ascends (entries list) rest state.order) in
+    record {
+      left = remains_next keeps whole xs ys kept old new left (e ascending ∙ ap (λ (b : List ℕ). old ++ b) here);
+      each = state.each;
+      order = back_ascends (entries list) rest state.order;
+    }
 
 -- a value is written
 pub written : {t : ℕ} {all : List FieldShape} {values : List (Option Val)} {kept : List Rec} {whole : List ℕ} {g : FieldShape} {gs : List FieldShape} {v : Option Val} {vs : List (Option Val)} {old new : List ℕ}
@@ -183,19 +193,21 @@ written {t} {all} {values} {kept} {whole} {g} {gs} {v} {vs} {old} {new} {c} {k} 
       left = remains_next keeps whole (value_recs n k v) ys kept old new
           (subst (λ (rs : List Rec). Remains keeps whole rs kept old) (with_recs all g k n v (fields_from gs vs) e is keys packed here) state.left) writes.text;
       each = λ h. state.each (rw (cardinality, is) writes.value, h);
+      order = back_ascends (with_field g.number v no_fields) (fields_from gs vs) (subst AreAscending (sym (with-followed g.number v (fields_from gs vs))) state.order);
     }
 
 -- the last list is written, with the kept records
-pub closed : {t : ℕ} {all : List FieldShape} {values : List (Option Val)} {old : List ℕ} (unknown : List Rec) (first : List ℕ) (list : List Field) (shape : Shape) (new : List ℕ)
+pub closed : {t : ℕ} {all : List FieldShape} {values : List (Option Val)} {old : List ℕ} (unknown : List Rec) (first : List ℕ) (list : List (ℕ × Held)) (shape : Shape) (new : List ℕ)
     → IsOpen t all values (filter (is_writable_beside (numbers all)) unknown) (goal_text t all values unknown first) [] [] list old → fields_of descriptor_shape t ≡ all → are_plain all ≡ true
-    → shape ≡ descriptor_shape → new ≡ old ++ encoded shape t (content (entries list) (filter (is_writable_beside (numbers all)) unknown))
+    → shape ≡ descriptor_shape → (IsAscending list → new ≡ old ++ encoded shape t (content (entries list) (filter (is_writable_beside (numbers all)) unknown)))
     → are_fit (filter (is_writable_beside (numbers all)) unknown) ≡ true → IsWritten t (record_content all values unknown) first new
 closed {t} {all} {values} {old} unknown first list shape new state type plain same e fit =
     let kept = filter (is_writable_beside (numbers all)) unknown in
     let keeps = keeps_order_of descriptor_shape t in
     let kept_are = kept_is all unknown plain in
+    let ascending = list_ascends list (front_ascends (entries list) no_fields state.order) in
     record {
-      text = e
+      text = e ascending
           ∙ ap (λ (s : Shape). old ++ encoded s t (content (entries list) kept)) same
           ∙ ap (λ (hs : List FieldShape). old ++ text_of (with_kept keeps (fields_recs descriptor_shape hs (entries list)) kept)) type
           ∙ ap (λ (fs : Fields). old ++ text_of (with_kept keeps (fields_recs descriptor_shape all fs) kept)) (entries-same list)

@@ -74,12 +74,12 @@ ascend_with : (m n : ℕ) (v : Option Val) (fs : Fields) → m < n → IsAbove n
 ascend_with m n None fs lt h = fields_lower m n fs (omega arith) h
 ascend_with m n (Some v) fs lt h = (lt, h)
 
-ascend_from : (n : ℕ) (gs : List FieldShape) (vs : List (Option Val)) → AreAbove n gs → IsAbove n (fields_from gs vs)
+pub ascend_from : (n : ℕ) (gs : List FieldShape) (vs : List (Option Val)) → AreAbove n gs → IsAbove n (fields_from gs vs)
 ascend_from n [] vs above = tt
 ascend_from n (g ∷ gs) [] above = tt
 ascend_from n (g ∷ gs) (v ∷ vs) above = ascend_with n g.number v (fields_from gs vs) above.0 (ascend_from g.number gs vs above.2)
 
-ascends : (fs : Fields) → IsAbove 0 fs → IsAscending fs
+pub ascends : (fs : Fields) → IsAbove 0 fs → IsAscending fs
 ascends no_fields h = tt
 ascends (field n v fs) h = h.1
 

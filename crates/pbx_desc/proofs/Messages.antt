@@ -1,6 +1,5 @@
 -- The content of a message, one level down.
 use Rattle.std.proofs.Common.{◌≡◌, ℕ, List, [], ◌∷◌, map, subst, refl, sym, ap, ◌∙◌}
-use Rattle.pbx_codec.specs.declared.contents.Field.{Field}
 use Rattle.pbx_codec.specs.declared.contents.Held.{Held}
 use Rattle.pbx_meaning.specs.declared.shape.Cardinality.TheVariants.{Repeated}
 use Rattle.pbx_meaning.specs.declared.shape.Kind.{Kind}
@@ -43,7 +42,7 @@ nested_map [] = refl
 nested_map (m ∷ ms) = ap (λ (vs : List Val). message (message_content m) ∷ vs) (nested_map ms)
 
 -- the nested messages are put in as the value of their field
-pub nested_put : (n : ℕ) (ms : List DescriptorProto) (hs : List Held) (old new : List Field) → map val_of hs ≡ map (λ (m : DescriptorProto). message (message_content m)) ms
+pub nested_put : (n : ℕ) (ms : List DescriptorProto) (hs : List Held) (old new : List (ℕ × Held)) → map val_of hs ≡ map (λ (m : DescriptorProto). message (message_content m)) ms
     → AreOf descriptor_shape (kind.Message 2) (map (λ (m : DescriptorProto). message (message_content m)) ms) → ((j : Kind) → AreOf descriptor_shape j (map val_of hs) → Puts Repeated j n (listed (map val_of hs)) old new)
     → Puts Repeated (kind.Message 2) n (listed (map message (map message_content ms))) old new
 nested_put n ms hs old new e all h = puts_some (kind.Message 2) n hs (map message (map message_content ms)) old new (e ∙ sym (nested_map ms)) (subst (AreOf descriptor_shape (kind.Message 2)) (sym (nested_map ms)) all) h

@@ -3,7 +3,7 @@ use Rattle.std.specs.Prelude.{◌≡◌, ℕ, List, [], ◌++◌, map, Option, S
 use Rattle.pbx_wire.specs.Text.{text_of}
 use Rattle.pbx_wire.specs.declared.rec.Rec.{Rec}
 use Rattle.pbx_codec.specs.declared.contents.Contents.{Contents}
-use Rattle.pbx_codec.specs.declared.contents.Field.{Field}
+use Rattle.pbx_codec.specs.declared.contents.Held.{Held}
 use Rattle.pbx_meaning.specs.declared.shape.Cardinality.{Cardinality}
 use Rattle.pbx_meaning.specs.declared.shape.Kind.{Kind}
 use Rattle.pbx_meaning.specs.Content.{Content, Fields, no_fields, field, Val}
@@ -14,8 +14,8 @@ use Rattle.pbx_desc_shape.specs.Shape.{descriptor_shape, list_field}
 use Rattle.pbx_meaning.specs.Sound.{IsSound}
 use Rattle.pbx_desc.specs.Sound.{MayBe}
 
--- the fields that entries of a tree hold
-abbrev pub entries : List Field → Fields
+-- the fields that numbers with values stand for
+abbrev pub entries : List (ℕ × Held) → Fields
 entries fs = fields_in (map entry_of fs)
 
 -- fields, and others behind them
@@ -24,7 +24,7 @@ followed_by no_fields gs = gs
 followed_by (field n v fs) gs = field n v (followed_by fs gs)
 
 -- a value, if there is one, is put behind the others, and a field of this cardinality and kind may have it
-pub record Puts (c : Cardinality) (k : Kind) (n : ℕ) (v : Option Val) (old new : List Field) : Type 0 where
+pub record Puts (c : Cardinality) (k : Kind) (n : ℕ) (v : Option Val) (old new : List (ℕ × Held)) : Type 0 where
   pub fields : entries new ≡ followed_by (entries old) (with_field n v no_fields)
   pub value : MayBe descriptor_shape c k v
 

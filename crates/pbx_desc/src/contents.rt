@@ -2,6 +2,7 @@ ghost use Rattle.std.specs.Prelude.{◌≡◌, ℕ, [], true, filter, map, IfOk,
 ghost use Rattle.std.specs.Int.{w32};
 ghost use Rattle.std.specs.Int.RustNames.{FitsSigned};
 ghost use Rattle.pbx_wire.specs.Text.{are_fit};
+ghost use Rattle.pbx_number_map.specs.Entries.{IsAscending};
 ghost use Rattle.pbx_meaning.specs.declared.shape.Cardinality.TheVariants.{Singular, Repeated};
 ghost use Rattle.pbx_meaning.specs.declared.shape.Kind.{Kind};
 ghost use Rattle.pbx_meaning.specs.declared.shape.Kind.TheVariants as kind;
@@ -15,8 +16,9 @@ ghost use Rattle.pbx_desc.specs.Sound.{AreOf};
 ghost use Rattle.pbx_desc.specs.Unknown.{is_writable_beside};
 
 use crate::unknown::writable;
-use pbx_codec::{Contents, Field, Held};
+use pbx_codec::{Contents, Held};
 use pbx_desc_records::Options;
+use pbx_number_map::NumberMap;
 use pbx_wire::{List, NoMemory, Recs, Text, Texts};
 use std::alloc::Global;
 
@@ -39,7 +41,7 @@ pub(crate) trait HasContents {
 #[derive(Drop)]
 pub(crate) struct FieldList {
     alloc: Global,
-    list: List<Field>,
+    list: List<(u32, Held)>,
 }
 
 impl FieldList {
@@ -57,10 +59,7 @@ impl FieldList {
     {
         if let Some(text) = text {
             let copy = Text::from_str(self.alloc, text.as_str())?;
-            self.list.add(Field {
-                number,
-                held: Held::Text(copy),
-            })?;
+            self.list.add((number, Held::Text(copy)))?;
         }
         Ok(())
     }
@@ -69,10 +68,7 @@ impl FieldList {
         ensures { OnOk result (Puts Singular kind.Int32 number (of_number value) self.old.list self.new.list) }
     {
         if let Some(value) = value {
-            self.list.add(Field {
-                number,
-                held: number_value(value),
-            })?;
+            self.list.add((number, number_value(value)))?;
         }
         Ok(())
     }
@@ -81,10 +77,7 @@ impl FieldList {
         ensures { OnOk result (Puts Singular kind.Bool number (of_truth value) self.old.list self.new.list) }
     {
         if let Some(value) = value {
-            self.list.add(Field {
-                number,
-                held: Held::Bool(value),
-            })?;
+            self.list.add((number, Held::Bool(value)))?;
         }
         Ok(())
     }
@@ -99,10 +92,7 @@ impl FieldList {
     {
         if let Some(record) = record {
             let contents = record.to_contents(self.alloc)?;
-            self.list.add(Field {
-                number,
-                held: Held::Message(contents),
-            })?;
+            self.list.add((number, Held::Message(contents)))?;
         }
         Ok(())
     }
@@ -114,10 +104,7 @@ impl FieldList {
     {
         if let Some(options) = options {
             let contents = FieldList::new(self.alloc).with_unknown(&options.recs, &[])?;
-            self.list.add(Field {
-                number,
-                held: Held::Message(contents),
-            })?;
+            self.list.add((number, Held::Message(contents)))?;
         }
         Ok(())
     }
@@ -128,10 +115,7 @@ impl FieldList {
             → Puts Repeated k number (listed (map val_of values)) self.old.list self.new.list) }
     {
         if !values.is_empty() {
-            self.list.add(Field {
-                number,
-                held: Held::Many(values),
-            })?;
+            self.list.add((number, Held::Many(values)))?;
         }
         Ok(())
     }
@@ -161,15 +145,13 @@ impl FieldList {
 
     /// The fields, with those of the unknown records that may be written and have no known number.
     pub(crate) fn with_unknown(self, unknown: &Recs, known: &[u32]) -> Result<Contents, NoMemory>
-        ensures content { IfOk result (λ contents.
+        ensures content { IfOk result (λ contents. IsAscending self.list →
             content_of contents ≡ content_from (entries self.list) (filter (is_writable_beside known.now) unknown.now)) }
         ensures fit { OnOk result (are_fit (filter (is_writable_beside known.now) unknown.now) ≡ true) }
     {
         let kept = writable(self.alloc, unknown, known)?;
-        Ok(Contents {
-            fields: self.list,
-            kept,
-        })
+        let fields = NumberMap::from_entries(self.alloc, self.list.into_vec())?;
+        Ok(Contents { fields, kept })
     }
 }
 

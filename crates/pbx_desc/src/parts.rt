@@ -1,6 +1,7 @@
 ghost use Rattle.std.specs.Prelude.{◌≡◌, ◌++◌, true, filter, OnOk};
 ghost use Rattle.pbx_wire.specs.Text.{text as text_of_rec, are_fit};
 ghost use Rattle.pbx_wire.specs.declared.rec.Rec.TheVariants as rec;
+ghost use Rattle.pbx_number_map.specs.Entries.{IsAscending};
 ghost use Rattle.pbx_meaning.specs.declared.shape.Cardinality.TheVariants.{Singular, Repeated};
 ghost use Rattle.pbx_meaning.specs.declared.shape.Kind.TheVariants as kind;
 ghost use Rattle.pbx_meaning.specs.Content.{content};
@@ -44,7 +45,7 @@ pub(crate) fn put_fields(
     known: &[u32],
     out: &mut Vec<u8>,
 ) -> Result<(), NoMemory>
-    ensures text { OnOk result (out.new.items
+    ensures text { OnOk result (IsAscending fields.list → out.new.items
         ≡ out.old.items ++ encoded schema.now type_at (content (entries fields.list) (filter (is_writable_beside known.now) unknown.now))) }
     ensures fit { OnOk result (are_fit (filter (is_writable_beside known.now) unknown.now) ≡ true) }
 {

@@ -9,7 +9,7 @@ use Rattle.std.specs.BTreeMap.{insert_entry}
 use Rattle.pbx_codec.specs.View.{content_of, fields_in, entry_of, val_of}
 use Rattle.pbx_codec.specs.declared.contents.Contents.{Contents, out-Contents}
 use Rattle.pbx_json.proofs.ViewLemmas.{content_of_lem}
-use Rattle.pbx_codec.specs.declared.contents.Field.{Field, out-Field}
+use Rattle.pbx_codec.specs.declared.contents.Held.{Held}
 use Rattle.pbx_meaning.specs.Shape.{field_of}
 use Rattle.pbx_meaning.specs.declared.shape.FieldShape.{FieldShape}
 use Rattle.pbx_json.specs.Canonical.{put_tree, members_onto, object_of}
@@ -27,7 +27,7 @@ module _ (m : List FieldShape) (c : Contents) where
   pub object_says : (r : Option Members) → members_onto (fields_in (map entry_of (out-Contents c).fields)) m no_members ≡ r → object_of m (content_of c) ≡ option_map object r
   object_says r h = ap (λ x. object_of m x) (content_of_lem c) ∙ ap (option_map object) h
 
-module _ (m : List FieldShape) (all fs : List Field) (same : fs ≡ all) (i : ℕ) (ms : Members) where
+module _ (m : List FieldShape) (all fs : List (ℕ × Held)) (same : fs ≡ all) (i : ℕ) (ms : Members) where
   abbrev KeptFields : Type 0
   KeptFields = members_onto (fields_in (map entry_of fs)) m no_members ≡ members_onto (fields_in (map entry_of (drop i fs))) m ms
 
@@ -36,8 +36,8 @@ module _ (m : List FieldShape) (all fs : List Field) (same : fs ≡ all) (i : �
       ap (λ ys. members_onto (fields_in (map entry_of ys)) m no_members) (sym same) ∙ kept
       ∙ at_drop_all (λ ys. members_onto (fields_in (map entry_of ys)) m ms) fs i past
 
-  pub fields_fault : (d : Field) → i < length fs → KeptFields → d ≡ get_or fs i d
-      → put_tree (field_of (out-Field d).number m) (field_tree (val_of (out-Field d).held)) ms ≡ None
+  pub fields_fault : (d : ℕ × Held) → i < length fs → KeptFields → d ≡ get_or fs i d
+      → put_tree (field_of d.0 m) (field_tree (val_of d.1)) ms ≡ None
       → members_onto (fields_in (map entry_of all)) m no_members ≡ None
   fields_fault d within kept is fault =
       ap (λ ys. members_onto (fields_in (map entry_of ys)) m no_members) (sym same) ∙ kept

@@ -53,7 +53,7 @@ pub fn write_contents(
 {
     let mut map = Map::new(alloc);
     for field in contents.fields.as_slice() {
-        write_member(alloc, schema, type_at, field.number, &field.held, &mut map)?;
+        write_member(alloc, schema, type_at, field.0, &field.1, &mut map)?;
     }
     Ok(Value::Object(map))
 }

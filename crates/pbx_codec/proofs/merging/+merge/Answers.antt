@@ -13,7 +13,7 @@ use Rattle.pbx_codec.specs.View.{content_of, val_of}
 use Rattle.pbx_codec.proofs.Packs.{nil_of}
 use Rattle.pbx_codec.proofs.Likeness.{fields_are}
 use Rattle.pbx_codec.proofs.Decoded.{start_ready}
-use Rattle.pbx_codec.proofs.Ready.{ready_unless, onto_unless, has_settled, has_ordered, field_merges, unread_merges, float_merges, rec_told}
+use Rattle.pbx_codec.proofs.Ready.{ready_unless, onto_unless, has_stable, has_ordered, field_merges, unread_merges, float_merges, rec_told}
 use Rattle.pbx_codec.proofs.Reading.{gone_none, gone_more, gone_all, told_behind, told_key, told_front, told_rec}
 use Rattle.pbx_codec.proofs.Single.{single_found, list_found, joined_found, added_found, alone_breaks, spread_breaks, joined_reads, added_reads, joined_inside, added_inside, payload_breaks, payload_told, err_more}
 use Rattle.pbx_codec.proofs.merging.+merge.Goals as goal
@@ -50,10 +50,10 @@ join_message-merge_payload-requires t c = (
     c.requires.proper,
     (
       c.requires.ends,
-      λ deeper deep. (ready_unless c.args.settled c.args.schema.now deeper (fields_of c.args.schema.now c.args.type_at) (message_held
+      λ deeper deep. (ready_unless c.args.stable c.args.schema.now deeper (fields_of c.args.schema.now c.args.type_at) (message_held
           (option_map val_of c.args.held.now)) (content_of c.in-Ok.inner)
           c.requires.proper (inl (c.args.type_at, refl))
-          (c.requires.settled c.args.type_at deeper c.requires.once c.requires.kind deep) c.in-Ok.ensures).0,
+          (c.requires.stable c.args.type_at deeper c.requires.once c.requires.kind deep) c.in-Ok.ensures).0,
     ),
   ),
 )
@@ -64,10 +64,10 @@ join_message-returns-in-Ok-merge_payload-clause-found t c =
     joined_found c.args.schema.now c.args.messages means.0 c.args.type_at c.args.view (option_map val_of c.args.held.now)
     (rec_of c.args.rec.now) means.1
     (content_of c.merge_payload.new.into) c.requires.kind c.requires.once means.2 means.3
-    (onto_unless c.args.settled c.args.schema.now means.0 means.0 (fields_of c.args.schema.now c.args.type_at) (message_held
+    (onto_unless c.args.stable c.args.schema.now means.0 means.0 (fields_of c.args.schema.now c.args.type_at) (message_held
     (option_map val_of c.args.held.now)) (content_of c.in-Ok.inner) means.1
     c.requires.proper (inl (c.args.type_at, refl))
-    (c.requires.settled c.args.type_at means.0 c.requires.once c.requires.kind means.2) c.in-Ok.ensures
+    (c.requires.stable c.args.type_at means.0 c.requires.once c.requires.kind means.2) c.in-Ok.ensures
     ∙ means.4)
     ∙ ap (λ (x : Option Val). Some x) (sym c.set_message.ensures)
 
@@ -151,7 +151,7 @@ put_entry-returns-in-Err-clause-fault t c =
 
 pub merge_rec-returns-in_default : goal.merge_rec-returns-in_default
 merge_rec-returns-in_default t c = record {
-  found = on_ok_more c.keep.result (λ kept. unread_merges c.args.settled c.args.schema.now c.args.messages c.args.owner (content_of c.args.into.now)
+  found = on_ok_more c.keep.result (λ kept. unread_merges c.args.stable c.args.schema.now c.args.messages c.args.owner (content_of c.args.into.now)
       (content_of c.keep.new.into) (rec_of c.args.rec) c.requires.proper
       (rw c.number.ensures at c.in_default.ensures) c.requires.ready kept) c.keep.ensures.kept;
   fault = err_more c.keep.result (λ e none. inl none) c.keep.ensures.fault;
@@ -159,7 +159,7 @@ merge_rec-returns-in_default t c = record {
 
 pub merge_rec-returns-then-is_float : goal.merge_rec-returns-then-is_float
 merge_rec-returns-then-is_float t c = record {
-  found = on_ok_more c.keep-then-is_float.result (λ kept. float_merges c.args.settled c.args.schema.now c.args.messages c.args.owner
+  found = on_ok_more c.keep-then-is_float.result (λ kept. float_merges c.args.stable c.args.schema.now c.args.messages c.args.owner
       (content_of c.args.into.now) (content_of c.keep-then-is_float.new.into)
       (rec_of c.args.rec) c.in-Some.view c.requires.proper
       (rw c.number.ensures at c.in-Some.ensures) (sym c.is_float.ensures ∙ c.if-is_float.true) c.requires.ready kept) c.keep-then-is_float.ensures.kept;
@@ -179,10 +179,10 @@ merge_rec-merge_value-requires t c =
             (
               c.requires.ends,
               (
-                has_settled c.args.settled c.args.schema.now c.args.messages c.args.owner (content_of c.args.into.now) (rec_of c.args.rec) c.in-Some.view
+                has_stable c.args.stable c.args.schema.now c.args.messages c.args.owner (content_of c.args.into.now) (rec_of c.args.rec) c.in-Some.view
                     (option_map val_of c.take_value-held.result) c.requires.proper
                     (rw c.number.ensures at c.in-Some.ensures) plain c.requires.ready c.take_value-held.ensures.value,
-                has_ordered c.args.settled c.args.schema.now c.args.messages c.args.owner (content_of c.args.into.now) (rec_of c.args.rec) c.in-Some.view
+                has_ordered c.args.stable c.args.schema.now c.args.messages c.args.owner (content_of c.args.into.now) (rec_of c.args.rec) c.in-Some.view
                     (option_map val_of c.take_value-held.result) c.requires.proper
                     (rw c.number.ensures at c.in-Some.ensures) plain c.requires.ready c.take_value-held.ensures.value,
               ),
@@ -196,7 +196,7 @@ pub merge_rec-returns-in-Ok : goal.merge_rec-returns-in-Ok
 merge_rec-returns-in-Ok t c =
     let plain : is_float c.in-Some.view.kind ≡ false = sym c.is_float.ensures ∙ c.if-is_float.false in
     record {
-      found = on_ok_more c.put_value.result (λ put. field_merges c.args.settled c.args.schema.now c.args.messages c.args.owner
+      found = on_ok_more c.put_value.result (λ put. field_merges c.args.stable c.args.schema.now c.args.messages c.args.owner
           (content_of c.args.into.now) (content_of c.take_value-held.new.into)
           (content_of c.put_value.new.into) (rec_of c.args.rec) c.in-Some.view
           (option_map val_of c.take_value-held.result) (option_map val_of c.merge_value.new.held) c.requires.proper
@@ -232,27 +232,27 @@ merge_next-returns-in-Err-clause-fault t c =
 
 pub merge_bytes-loop-rest-init : goal.merge_bytes-loop-rest-init
 merge_bytes-loop-rest-init t c =
-    gone_none c.args.settled c.args.schema.now c.args.groups c.args.messages (fields_at c.args.schema.now c.args.owner)
+    gone_none c.args.stable c.args.schema.now c.args.groups c.args.messages (fields_at c.args.schema.now c.args.owner)
     (content_of c.args.into.now) c.args.bytes.now c.requires.proper
     (fields_are c.args.schema.now c.args.owner) c.requires.ready
 
 pub merge_bytes-loop-rest-preserved : goal.merge_bytes-loop-rest-preserved
 merge_bytes-loop-rest-preserved t c =
-    gone_more c.args.settled c.args.schema.now c.args.groups c.args.messages (fields_at c.args.schema.now c.args.owner) (content_of c.args.into.now)
+    gone_more c.args.stable c.args.schema.now c.args.groups c.args.messages (fields_at c.args.schema.now c.args.owner) (content_of c.args.into.now)
     (content_of c.loop-rest.into) (content_of c.merge_next.new.into)
     c.args.bytes.now c.loop-rest.rest.now c.in-Ok.after.now c.requires.proper
     (fields_are c.args.schema.now c.args.owner) c.loop-rest.invariant c.in-Ok.ensures.found
 
 pub merge_bytes-returns-in-Err-clause-fault : goal.merge_bytes-returns-in-Err-clause-fault
 merge_bytes-returns-in-Err-clause-fault t c =
-    told_behind c.args.settled c.args.schema.now c.args.groups c.args.messages (fields_at c.args.schema.now c.args.owner) (content_of c.args.into.now)
+    told_behind c.args.stable c.args.schema.now c.args.groups c.args.messages (fields_at c.args.schema.now c.args.owner) (content_of c.args.into.now)
     (content_of c.loop-rest.into) c.args.bytes.now c.loop-rest.rest.now
     c.args.end c.in-Err.fault c.requires.proper c.requires.left
     (fields_are c.args.schema.now c.args.owner) c.requires.ends c.loop-rest.invariant c.in-Err.ensures.fault
 
 pub merge_bytes-returns-clause-found : goal.merge_bytes-returns-clause-found
 merge_bytes-returns-clause-found t c =
-    gone_all c.args.settled c.args.schema.now c.args.groups c.args.messages (fields_at c.args.schema.now c.args.owner) (content_of c.args.into.now)
+    gone_all c.args.stable c.args.schema.now c.args.groups c.args.messages (fields_at c.args.schema.now c.args.owner) (content_of c.args.into.now)
     (content_of c.loop-rest.into) c.args.bytes.now c.loop-rest.rest.now
     (nil_of c.loop-rest.rest.now (omega arith)) c.loop-rest.invariant
 

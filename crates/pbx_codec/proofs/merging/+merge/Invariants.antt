@@ -23,7 +23,7 @@ abbrev pub decreases-merge_bytes : goal.decreases-merge_bytes
 decreases-merge_bytes l = 6 * l.messages + 5
 
 abbrev pub invariant-merge_bytes-loop-rest : goal.invariant-merge_bytes-loop-rest
-invariant-merge_bytes-loop-rest l = HasGone l.settled l.schema l.groups l.messages (fields_at l.schema l.owner) (content_of l.initial.into)
+invariant-merge_bytes-loop-rest l = HasGone l.stable l.schema l.groups l.messages (fields_at l.schema l.owner) (content_of l.initial.into)
     (content_of l.into) l.bytes l.rest
 
 abbrev pub decreases-merge_bytes-loop-rest : goal.decreases-merge_bytes-loop-rest

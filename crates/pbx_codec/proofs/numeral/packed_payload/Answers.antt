@@ -3,13 +3,13 @@ use Rattle.std.specs.List.{concat}
 use Rattle.std.specs.Int.{w32, w64, to_le_bytes}
 use Rattle.pbx_wire.specs.Varint.{varint}
 use Rattle.pbx_meaning.specs.Shape.{as_varint, as_four, as_eight}
-use Rattle.pbx_codec.specs.Forms.{form_in}
+use Rattle.pbx_codec.specs.Fields.{form_in}
 use Rattle.pbx_codec.proofs.EncodedNumbers.{packed_as, nothing_packed}
 use Rattle.pbx_codec.proofs.numeral.packed_payload.Goals as goal
 
 pub returns-in_ok-numerals-in-Varint : goal.returns-in_ok-numerals-in-Varint
 returns-in_ok-numerals-in-Varint c =
-    let form = sym c.kind_form.ensures ∙ ap form_in c.in-Varint.is in
+    let form = sym c.form_of_kind.ensures ∙ ap form_in c.in-Varint.is in
     let numbers = c.as_slice-in-Varint.ensures ∙ c.in_ok-numerals-in-Varint.ensures in
     subst
     (λ (b : List ℕ). IfOk c.varints_text.result (λ blob. blob ≡ b))
@@ -17,7 +17,7 @@ returns-in_ok-numerals-in-Varint c =
 
 pub returns-in_ok-numerals-in-Four : goal.returns-in_ok-numerals-in-Four
 returns-in_ok-numerals-in-Four c =
-    let form = sym c.kind_form.ensures ∙ ap form_in c.in-Four.is in
+    let form = sym c.form_of_kind.ensures ∙ ap form_in c.in-Four.is in
     let numbers = c.as_slice-in-Four-2.ensures ∙ c.in_ok-numerals-in-Four.ensures in
     subst
     (λ (b : List ℕ). IfOk c.fours_text.result (λ blob. blob ≡ b))
@@ -25,11 +25,11 @@ returns-in_ok-numerals-in-Four c =
 
 pub returns-in_ok-numerals-in-Eight : goal.returns-in_ok-numerals-in-Eight
 returns-in_ok-numerals-in-Eight c =
-    let form = sym c.kind_form.ensures ∙ ap form_in c.in-Eight.is in
+    let form = sym c.form_of_kind.ensures ∙ ap form_in c.in-Eight.is in
     let numbers = c.as_slice-in-Eight-2.ensures ∙ c.in_ok-numerals-in-Eight.ensures in
     subst
     (λ (b : List ℕ). IfOk c.eights_text.result (λ blob. blob ≡ b))
     (ap (λ ns. concat (map (to_le_bytes w64) ns)) numbers ∙ packed_as as_eight c.args.kind c.args.many.now form) c.eights_text.ensures
 
 pub returns-in-Payload : goal.returns-in-Payload
-returns-in-Payload c = c.new.ensures ∙ nothing_packed c.args.kind c.args.many.now (sym c.kind_form.ensures ∙ ap form_in c.in-Payload.is)
+returns-in-Payload c = c.new.ensures ∙ nothing_packed c.args.kind c.args.many.now (sym c.form_of_kind.ensures ∙ ap form_in c.in-Payload.is)

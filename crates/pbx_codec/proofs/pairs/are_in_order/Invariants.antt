@@ -1,5 +1,6 @@
 use Rattle.std.proofs.Common.{◌≤◌, ◌-◌, length, map, drop}
-use Rattle.pbx_codec.specs.Keyed.{pair_of, AreInOrder}
+use Rattle.pbx_codec.specs.View.{pair_of}
+use Rattle.pbx_codec.specs.Keyed.{AreInOrder}
 use Rattle.pbx_codec.proofs.pairs.are_in_order.Given as goal
 
 abbrev pub invariant-loop-place : goal.invariant-loop-place

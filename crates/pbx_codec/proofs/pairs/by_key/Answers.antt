@@ -1,7 +1,7 @@
 use Rattle.std.proofs.Common.{[], ◌∷◌, map, sym, ap, ◌∙◌}
 use Rattle.std.proofs.lemmas.List.{map-append}
 use Rattle.pbx_meaning.specs.Content.{pairs_of, by_key}
-use Rattle.pbx_codec.specs.Keyed.{pair_of}
+use Rattle.pbx_codec.specs.View.{pair_of}
 use Rattle.pbx_codec.proofs.Keyed.{sorted_order, sorted_more}
 use Rattle.pbx_codec.proofs.pairs.by_key.Goals as goal
 

@@ -1,6 +1,5 @@
 use Rattle.std.proofs.Common.{◌+◌, ◌-◌, ◌/◌, map, sym, ◌∙◌, arith}
-use Rattle.pbx_codec.specs.Keyed.{pair_of}
-use Rattle.pbx_codec.specs.View.{key_of}
+use Rattle.pbx_codec.specs.View.{key_of, pair_of}
 use Rattle.pbx_codec.proofs.Keyed.{between_up, between_down, between_none, key_there}
 use Rattle.pbx_codec.proofs.pairs.place_of.Goals as goal
 

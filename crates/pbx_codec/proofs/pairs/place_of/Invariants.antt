@@ -1,6 +1,5 @@
 use Rattle.std.proofs.Common.{◌-◌, map}
-use Rattle.pbx_codec.specs.View.{key_of}
-use Rattle.pbx_codec.specs.Keyed.{pair_of}
+use Rattle.pbx_codec.specs.View.{key_of, pair_of}
 use Rattle.pbx_codec.proofs.Keyed.{AreBetween}
 use Rattle.pbx_codec.proofs.pairs.place_of.Given as goal
 

@@ -1,6 +1,6 @@
 use Rattle.std.proofs.Common.{◌≡◌, true, false, map, sym, ◌∙◌}
-use Rattle.pbx_codec.specs.Keyed.{pair_of, IsPlaceOf, stands_at}
-use Rattle.pbx_codec.specs.View.{key_of, val_of}
+use Rattle.pbx_codec.specs.Keyed.{IsPlaceOf, stands_at}
+use Rattle.pbx_codec.specs.View.{key_of, val_of, pair_of}
 use Rattle.pbx_codec.proofs.Keyed.{put_at_new, put_at_old, stands_within, place_within, on_ok_more}
 use Rattle.pbx_codec.proofs.Tree.{pair_made}
 use Rattle.pbx_codec.proofs.pairs.put_pair.Goals as goal

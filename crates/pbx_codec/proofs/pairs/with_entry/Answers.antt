@@ -1,8 +1,7 @@
 use Rattle.std.proofs.Common.{map, Option, ap, ◌∙◌}
 use Rattle.pbx_meaning.specs.Content.{Val, pairs_of}
 use Rattle.pbx_meaning.specs.Meaning.{or_else, zero_of}
-use Rattle.pbx_codec.specs.Keyed.{pair_of}
-use Rattle.pbx_codec.specs.View.{content_of, key_of, val_of}
+use Rattle.pbx_codec.specs.View.{content_of, key_of, val_of, pair_of}
 use Rattle.pbx_codec.proofs.Keyed.{entry_pair, second_there}
 use Rattle.pbx_codec.proofs.Tree.{val_of-Pairs}
 use Rattle.pbx_codec.proofs.pairs.with_entry.Goals as goal

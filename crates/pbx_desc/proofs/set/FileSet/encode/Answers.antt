@@ -1,9 +1,9 @@
-use Rattle.std.proofs.Common.{◌≡◌, ◌≤◌, true, List, [], ◌∷◌, map, subst, refl}
+use Rattle.std.proofs.Common.{◌≡◌, ℕ, ◌≤◌, true, List, [], ◌∷◌, map, subst, refl}
 use Rattle.std.specs.List.{filter}
 use Rattle.pbx_wire.specs.Text.{are_fit}
 use Rattle.pbx_wire.specs.declared.rec.Rec.{Rec}
+use Rattle.pbx_number_map.specs.Entries.{IsAscending}
 use Rattle.pbx_codec.specs.declared.contents.Contents.{Contents}
-use Rattle.pbx_codec.specs.declared.contents.Field.{Field}
 use Rattle.pbx_codec.specs.declared.contents.Held.{Held}
 use Rattle.pbx_meaning.specs.declared.shape.Cardinality.TheVariants.{Repeated}
 use Rattle.pbx_meaning.specs.declared.shape.Kind.{Kind}
@@ -23,9 +23,9 @@ use Rattle.pbx_desc.proofs.Types.{file_set_type}
 use Rattle.pbx_desc.proofs.set.FileSet.encode.Goals as goal
 
 -- the files are put in, and nothing is kept beside them
-set_made : (files : List Held) (before list : List Field) (unknown : List Rec) (contents : Contents) → before ≡ [] → unknown ≡ [] → AreOf descriptor_shape (kind.Message 1) (map val_of files)
+set_made : (files : List Held) (before list : List (ℕ × Held)) (unknown : List Rec) (contents : Contents) → before ≡ [] → unknown ≡ [] → AreOf descriptor_shape (kind.Message 1) (map val_of files)
     → ((k : Kind) → AreOf descriptor_shape k (map val_of files) → Puts Repeated k 1 (listed (map val_of files)) before list)
-    → content_of contents ≡ content (entries list) (filter (is_writable_beside (1 ∷ [])) unknown) → are_fit (filter (is_writable_beside (1 ∷ [])) unknown) ≡ true → Holds 0 (set_content (map val_of files)) contents
+    → (IsAscending list → content_of contents ≡ content (entries list) (filter (is_writable_beside (1 ∷ [])) unknown)) → are_fit (filter (is_writable_beside (1 ∷ [])) unknown) ≡ true → Holds 0 (set_content (map val_of files)) contents
 set_made files before list unknown contents empty none all puts is fit =
     let vs = listed (map val_of files) ∷ [] in
     let left = next (start set_fields vs before empty) (puts (kind.Message 1) all) refl refl refl in

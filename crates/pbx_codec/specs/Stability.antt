@@ -21,44 +21,44 @@ IsStableTo shape (suc deeper) fs c =
     × ((f : FieldShape) (t : ℕ) → field_of f.number fs ≡ Some f → f.cardinality ≡ Singular → f.kind ≡ kinds.Message t
     → IsStableTo shape deeper (fields_of shape t) (message_held (get f.number (fields c))))
 
--- so it is of the message in a field of at most one, where the content is settled
-abbrev pub HasSettled : Bool → Shape → ℕ → FieldShape → Option Val → Type 0
-HasSettled settled shape messages f old =
-    (t deeper : ℕ) → f.cardinality ≡ Singular → f.kind ≡ kinds.Message t → messages ≡ suc deeper → settled ≡ true
+-- so it is of the message in a field of at most one, where the content is stable
+abbrev pub HasStable : Bool → Shape → ℕ → FieldShape → Option Val → Type 0
+HasStable stable shape messages f old =
+    (t deeper : ℕ) → f.cardinality ≡ Singular → f.kind ≡ kinds.Message t → messages ≡ suc deeper → stable ≡ true
     → IsStableTo shape deeper (fields_of shape t) (message_held old)
 
--- the content stays where no record comes, and where it is settled, the messages inside do
+-- the content stays where no record comes, and where it is stable, the messages inside do
 abbrev pub IsReady : Bool → Shape → ℕ → List FieldShape → Content → Type 0
-IsReady settled shape messages fs c = IsStableIn shape messages fs c × (settled ≡ true → IsStableTo shape messages fs c)
+IsReady stable shape messages fs c = IsStableIn shape messages fs c × (stable ≡ true → IsStableTo shape messages fs c)
 
 -- ---- what is left
 
 -- of a value of such a field: lists and maps without elements are absent, and pairs ascend by key
-abbrev pub settled_by : Shape → FieldShape → Cardinality → Option Val → Option Val
-settled_by shape f Singular v = v
-settled_by shape f Repeated v = shown shape false f.kind (Some (many (vals_of (elements v))))
-settled_by shape f (Map key) v = shown shape false f.kind (Some (keyed (by_key (pairs_held v))))
+abbrev pub stabilized_by : Shape → FieldShape → Cardinality → Option Val → Option Val
+stabilized_by shape f Singular v = v
+stabilized_by shape f Repeated v = shown shape false f.kind (Some (many (vals_of (elements v))))
+stabilized_by shape f (Map key) v = shown shape false f.kind (Some (keyed (by_key (pairs_held v))))
 
 -- the same, where floats and numbers of no field have no values
-abbrev pub settled_at : Shape → Option FieldShape → Option Val → Option Val
-settled_at shape None v = None
-settled_at shape (Some f) v = if is_float f.kind then None else settled_by shape f f.cardinality v
+abbrev pub stabilized_at : Shape → Option FieldShape → Option Val → Option Val
+stabilized_at shape None v = None
+stabilized_at shape (Some f) v = if is_float f.kind then None else stabilized_by shape f f.cardinality v
 
 -- of a content, at any levels
-abbrev pub IsSettledFrom : Shape → List FieldShape → Content → Content → Type 0
-IsSettledFrom shape fs old new = (levels : ℕ) → meaning_onto shape levels fs old [] ≡ Some new
+abbrev pub IsStabilizedFrom : Shape → List FieldShape → Content → Content → Type 0
+IsStabilizedFrom shape fs old new = (levels : ℕ) → meaning_onto shape levels fs old [] ≡ Some new
 
--- a settled content is the same
-abbrev pub IsSettledUnless : Bool → Shape → List FieldShape → Content → Content → Type 0
-IsSettledUnless true shape fs old new = new ≡ old
-IsSettledUnless false shape fs old new = IsSettledFrom shape fs old new
+-- a stable content is the same
+abbrev pub IsStabilizedUnless : Bool → Shape → List FieldShape → Content → Content → Type 0
+IsStabilizedUnless true shape fs old new = new ≡ old
+IsStabilizedUnless false shape fs old new = IsStabilizedFrom shape fs old new
 
 -- ---- one by one
 
 -- the value of a number is one that stays, and its message to so many levels
 abbrev pub IsStableAt : Shape → ℕ → List FieldShape → ℕ → Val → Type 0
 IsStableAt shape levels fs n v =
-    (f : FieldShape) × (field_of n fs ≡ Some f) × (settled_at shape (Some f) (Some v) ≡ Some v) × HasSettled true shape levels f (Some v)
+    (f : FieldShape) × (field_of n fs ≡ Some f) × (stabilized_at shape (Some f) (Some v) ≡ Some v) × HasStable true shape levels f (Some v)
 
 -- each value is
 abbrev pub AreStableAt : Shape → ℕ → List FieldShape → Fields → Type 0

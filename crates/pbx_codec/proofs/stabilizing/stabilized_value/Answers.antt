@@ -2,10 +2,9 @@ use Rattle.std.proofs.Common.{◌≡◌, false, map, Some, ap, ◌∙◌}
 use Rattle.pbx_meaning.specs.Content.{Val, keyed, pairs_of, by_key}
 use Rattle.pbx_meaning.specs.Meaning.{shown}
 use Rattle.pbx_meaning.specs.Onto.{pairs_held}
-use Rattle.pbx_codec.specs.Keyed.{pair_of}
-use Rattle.pbx_codec.specs.View.{val_of}
+use Rattle.pbx_codec.specs.View.{val_of, pair_of}
 use Rattle.pbx_codec.proofs.Tree.{val_of-Pairs}
-use Rattle.pbx_codec.proofs.settling.settled_value.Goals as goal
+use Rattle.pbx_codec.proofs.stabilizing.stabilized_value.Goals as goal
 
 pub returns-in_ok-pairs-in-Map : goal.returns-in_ok-pairs-in-Map
 returns-in_ok-pairs-in-Map c =

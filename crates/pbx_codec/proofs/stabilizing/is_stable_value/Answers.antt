@@ -1,8 +1,8 @@
 use Rattle.std.proofs.Common.{true}
 use Rattle.pbx_codec.specs.Fields.{field_like}
 use Rattle.pbx_codec.proofs.Keyed.{unnot}
-use Rattle.pbx_codec.proofs.Settled.{not_empty, list_stays, pairs_stay}
-use Rattle.pbx_codec.proofs.settling.is_settled_value.Goals as goal
+use Rattle.pbx_codec.proofs.Stable.{not_empty, list_stays, pairs_stay}
+use Rattle.pbx_codec.proofs.stabilizing.is_stable_value.Goals as goal
 
 pub returns-in-Many : goal.returns-in-Many
 returns-in-Many c = λ some shape.
