@@ -3,7 +3,7 @@ use Rattle.std.proofs.Common.{◌≡◌, ◌∙◌, ℕ, ◌+◌, ◌&&◌, not,
 use Rattle.std.specs.List.{list_all, cons_option}
 use Rattle.pbx_desc_records.specs.declared.file.FileDescriptorProto.{FileDescriptorProto}
 use Rattle.pbx_link.specs.Linked.{linked}
-use Rattle.pbx_link.specs.Definitions.{Place}
+use Rattle.pbx_definitions.specs.Definitions.{Place}
 use Rattle.pbx_link.specs.Rules.{has_file, file_twice, missing_imports, bad_file_name, bad_names, is_none, keeps_rules}
 use Rattle.pbx_link.specs.Pool.{ArePooled}
 use Rattle.pbx_link.specs.Laws.{StandsBehind}

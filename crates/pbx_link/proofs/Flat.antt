@@ -10,13 +10,13 @@ use Rattle.pbx_desc_records.specs.declared.enumeration.EnumDescriptorProto.{Enum
 use Rattle.pbx_desc_records.specs.declared.field.FieldDescriptorProto.{FieldDescriptorProto}
 use Rattle.pbx_desc_records.specs.declared.message.DescriptorProto.{DescriptorProto, out-DescriptorProto}
 use Rattle.pbx_desc_records.specs.declared.file.FileDescriptorProto.{FileDescriptorProto}
-use Rattle.pbx_link.specs.Names.{text_or_empty, is_named, dotted}
-use Rattle.pbx_link.specs.Says.{own_name, own_fields, number_or_zero, is_number, is_proto3}
-use Rattle.pbx_link.specs.Definitions.{Place, Part, part, parts, around, itself, nothing, message_name, enums_in, extensions_in, package_of, messages, top_enums, enums, top_extensions, extensions}
+use Rattle.pbx_definitions.specs.Names.{text_or_empty, is_named, dotted}
+use Rattle.pbx_definitions.specs.Says.{own_name, own_fields, number_or_zero, is_number, is_proto3}
+use Rattle.pbx_definitions.specs.Definitions.{Place, Part, part, parts, messages_from, extensions_from, message_name, enums_in, extensions_in, package_of, messages, top_enums, enums, top_extensions, extensions}
 use Rattle.pbx_link.specs.Described.{Described, described, every_enum, every_extension, fields_of_message}
 use Rattle.pbx_link.specs.Shapes.{kind_by, scalar_kind, field_shape, extension_shape, message_shape, enum_shape, shape_of}
 use Rattle.pbx_link.specs.Flat.{flat_field, flat_message, flat_shape}
-use Rattle.pbx_link.proofs.Around.{around_is}
+use Rattle.pbx_definitions.proofs.Told.{messages_from_at, extensions_from_at}
 use Rattle.pbx_link.specs.Built.{is_empty, has_only_fields, is_plain_field, is_plain_message, is_plain_source, has_only_messages, is_plain, is_simple_field, is_simple_message, is_simple}
 
 both : (a b : Bool) → (a && b) ≡ true → (a ≡ true) × (b ≡ true)
@@ -33,10 +33,12 @@ none_if (Some x) h = absurd (cc)
 
 -- ---- a message that nests none
 
-flat_around : {X : Type 0} (first last : Part DescriptorProto → List X) (p : Part DescriptorProto) → (out-DescriptorProto p.item).nested_type ≡ [] → around first last p ≡ first p ++ last p
-flat_around {X} first last p flat =
-    around_is first last p ∙ ap (λ (ms : List DescriptorProto). first p ++ flat_map (around first last) (parts (message_name p) p.place 3 ms) ++ last p) flat
-    ∙ ap (λ (xs : List X). xs ++ last p) (append-nil (first p))
+flat_messages : (p : Part DescriptorProto) → (out-DescriptorProto p.item).nested_type ≡ [] → messages_from p ≡ p ∷ []
+flat_messages p flat = messages_from_at p ∙ ap (λ (ms : List DescriptorProto). p ∷ flat_map messages_from (parts (message_name p) p.place 3 ms)) flat
+
+flat_extensions : (p : Part DescriptorProto) → (out-DescriptorProto p.item).nested_type ≡ [] → extensions_from p ≡ extensions_in p
+flat_extensions p flat =
+    extensions_from_at p ∙ ap (λ (ms : List DescriptorProto). flat_map extensions_from (parts (message_name p) p.place 3 ms) ++ extensions_in p) flat
 
 -- ---- what is in a plain message
 
@@ -64,12 +66,12 @@ abbrev tops_from : List ℕ → ℕ → List DescriptorProto → List (Part Desc
 tops_from scope i ms = map (λ x. part scope [] 4 x.0 x.1) (enumerate_from i ms)
 
 messages_alone : (scope : List ℕ) (i : ℕ) (ms : List DescriptorProto) → list_all is_plain_message ms ≡ true
-    → flat_map (around itself nothing) (tops_from scope i ms) ≡ tops_from scope i ms
+    → flat_map messages_from (tops_from scope i ms) ≡ tops_from scope i ms
 messages_alone scope i [] h = refl
 messages_alone scope i (m ∷ ms) h =
     let each = both (is_plain_message m) _ h in
     let p = part scope [] 4 i m in
-    ap (λ (ps : List (Part DescriptorProto)). ps ++ flat_map (around itself nothing) (tops_from scope (i + 1) ms)) (flat_around itself nothing p (flat_if m each.0).nested)
+    ap (λ (ps : List (Part DescriptorProto)). ps ++ flat_map messages_from (tops_from scope (i + 1) ms)) (flat_messages p (flat_if m each.0).nested)
     ∙ ap (λ (ps : List (Part DescriptorProto)). p ∷ ps) (messages_alone scope (i + 1) ms each.1)
 
 no_enums_inside : (scope : List ℕ) (i : ℕ) (ms : List DescriptorProto) → list_all is_plain_message ms ≡ true → flat_map enums_in (tops_from scope i ms) ≡ []
@@ -80,13 +82,13 @@ no_enums_inside scope i (m ∷ ms) h =
     ap (λ es. parts (message_name p) p.place 4 es ++ flat_map enums_in (tops_from scope (i + 1) ms)) (flat_if m each.0).enums ∙ no_enums_inside scope (i + 1) ms each.1
 
 no_extensions_inside : (scope : List ℕ) (i : ℕ) (ms : List DescriptorProto) → list_all is_plain_message ms ≡ true
-    → flat_map (around nothing extensions_in) (tops_from scope i ms) ≡ []
+    → flat_map extensions_from (tops_from scope i ms) ≡ []
 no_extensions_inside scope i [] h = refl
 no_extensions_inside scope i (m ∷ ms) h =
     let each = both (is_plain_message m) _ h in
     let flat = flat_if m each.0 in
     let p = part scope [] 4 i m in
-    ap (λ xs. xs ++ flat_map (around nothing extensions_in) (tops_from scope (i + 1) ms)) (flat_around nothing extensions_in p flat.nested ∙ ap (parts (message_name p) p.place 6) flat.extensions)
+    ap (λ xs. xs ++ flat_map extensions_from (tops_from scope (i + 1) ms)) (flat_extensions p flat.nested ∙ ap (parts (message_name p) p.place 6) flat.extensions)
     ∙ no_extensions_inside scope (i + 1) ms each.1
 
 -- ---- what is in a plain file
@@ -118,7 +120,7 @@ flat_file f h =
 file_messages : (f : FileDescriptorProto) → is_plain f ≡ true → messages f ≡ tops_from [] 0 f.message_type
 file_messages f h =
     let flat = flat_file f h in
-    ap (λ (scope : List ℕ). flat_map (around itself nothing) (tops_from scope 0 f.message_type)) flat.no_package ∙ messages_alone [] 0 f.message_type flat.plain
+    ap (λ (scope : List ℕ). flat_map messages_from (tops_from scope 0 f.message_type)) flat.no_package ∙ messages_alone [] 0 f.message_type flat.plain
 
 file_enums : (f : FileDescriptorProto) → is_plain f ≡ true → enums f ≡ []
 file_enums f h =

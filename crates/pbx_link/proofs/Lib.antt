@@ -5,7 +5,6 @@ pub mod Pooled
 pub mod LookedUp
 mod Rows
 mod MapRow
-pub mod Around
 pub mod Flat
 pub mod Proper
 pub mod Behind

@@ -7,8 +7,8 @@ use Rattle.std.proofs.lemmas.Bool.Decides.{nat_tests}
 use Rattle.std.proofs.lemmas.List.Elements.{Contains-append_right, Contains-get_or}
 use Rattle.std.proofs.lemmas.Option.{slice_get-get_or}
 use Rattle.pbx_desc_records.specs.declared.file.FileDescriptorProto.{FileDescriptorProto}
-use Rattle.pbx_link.specs.Names.{is_named}
-use Rattle.pbx_link.specs.Says.{own_name}
+use Rattle.pbx_definitions.specs.Names.{is_named}
+use Rattle.pbx_definitions.specs.Says.{own_name}
 use Rattle.pbx_link.specs.Descriptors.{MessageDescribed, described_file, described_message, file_of_name, empty_message, message_at}
 
 pub find_mapped : {X Y : Type 0} (p : Y → Bool) (g : X → Y) (xs : List X) → find p (map g xs) ≡ option_map g (find (λ x. p (g x)) xs)

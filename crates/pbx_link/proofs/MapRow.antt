@@ -12,11 +12,11 @@ use Rattle.pbx_desc_records.specs.declared.field.FieldDescriptorProto.{FieldDesc
 use Rattle.pbx_desc_records.specs.declared.file.FileDescriptorProto.{FileDescriptorProto}
 use Rattle.pbx_desc_records.specs.declared.message.DescriptorProto.{DescriptorProto, out-DescriptorProto, roll-DescriptorProto, out-roll-DescriptorProto}
 use Rattle.pbx_desc_records.specs.declared.message.DescriptorProto.TheOpen.{DescriptorProto-F}
-use Rattle.pbx_link.specs.Says.{is_set, is_entry, own_fields}
-use Rattle.pbx_link.specs.Definitions.{Part, part, parts, message_name, around, itself, nothing, nested_in, messages}
+use Rattle.pbx_definitions.specs.Says.{is_set, is_entry, own_fields}
+use Rattle.pbx_definitions.specs.Definitions.{Part, part, parts, message_name, messages_from, nested_in, messages}
 use Rattle.pbx_link.specs.Described.{Described, described, every_message, message_referred, with_number}
 use Rattle.pbx_link.specs.Shapes.{field_shape, part_kind, entry_kind}
-use Rattle.pbx_link.proofs.Around.{messages_told}
+use Rattle.pbx_definitions.proofs.Told.{messages_from_at}
 
 -- a field with this name, number, label, type number and type name
 abbrev field_with : List ℕ → ℕ → ℕ → ℕ → Option (List ℕ) → FieldDescriptorProto
@@ -102,12 +102,12 @@ in_m = rw m_out refl
 in_entry : nested_in entry_part ≡ []
 in_entry = rw entry_out refl
 
-told_entry : around itself nothing entry_part ≡ entry_part ∷ []
-told_entry = messages_told entry_part ∙ ap (λ (ps : List (Part DescriptorProto)). entry_part ∷ flat_map (around itself nothing) ps) in_entry
+told_entry : messages_from entry_part ≡ entry_part ∷ []
+told_entry = messages_from_at entry_part ∙ ap (λ (ps : List (Part DescriptorProto)). entry_part ∷ flat_map messages_from ps) in_entry
 
-told_m : around itself nothing m_part ≡ m_part ∷ entry_part ∷ []
+told_m : messages_from m_part ≡ m_part ∷ entry_part ∷ []
 told_m =
-    messages_told m_part ∙ ap (λ (ps : List (Part DescriptorProto)). m_part ∷ flat_map (around itself nothing) ps) in_m
+    messages_from_at m_part ∙ ap (λ (ps : List (Part DescriptorProto)). m_part ∷ flat_map messages_from ps) in_m
     ∙ ap (λ (ps : List (Part DescriptorProto)). m_part ∷ ps ++ []) told_entry
 
 both_messages : messages m_file ≡ m_part ∷ entry_part ∷ []

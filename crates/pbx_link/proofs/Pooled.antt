@@ -6,12 +6,12 @@ use Rattle.pbx_desc_records.specs.declared.field.FieldDescriptorProto.{FieldDesc
 use Rattle.pbx_desc_records.specs.declared.message.DescriptorProto.{DescriptorProto, out-DescriptorProto, roll-DescriptorProto, out-roll-DescriptorProto}
 use Rattle.pbx_desc_records.specs.declared.message.DescriptorProto.TheOpen.{DescriptorProto-F}
 use Rattle.pbx_desc_records.specs.declared.file.FileDescriptorProto.{FileDescriptorProto}
-use Rattle.pbx_link.specs.Names.{text_or_empty}
-use Rattle.pbx_link.specs.Says.{own_name, own_fields, number_or_zero, is_proto3}
+use Rattle.pbx_definitions.specs.Names.{text_or_empty, among, is_ident}
+use Rattle.pbx_definitions.specs.Says.{own_name, own_fields, number_or_zero, is_proto3}
 use Rattle.pbx_link.specs.Linked.{linked, linked_field, linked_message}
 use Rattle.pbx_link.specs.Built.{has_only_fields, is_plain_field, is_plain_message, is_plain, is_plain_source, has_only_messages, is_simple_field, is_simple_message, is_simple, is_built_field, is_built_message, is_built}
-use Rattle.pbx_link.specs.Definitions.{Place}
-use Rattle.pbx_link.specs.Rules.{among, is_ident, is_field_number, field_names, field_numbers, message_names, pool_names, places_where, in_messages, file_twice, missing_imports, bad_file_name, bad_names_in, bad_names, names_twice_in, names_twice, bad_numbers_in, bad_numbers, is_none, keeps_rules}
+use Rattle.pbx_definitions.specs.Definitions.{Place}
+use Rattle.pbx_link.specs.Rules.{is_field_number, field_names, field_numbers, message_names, pool_names, places_where, in_messages, file_twice, missing_imports, bad_file_name, bad_names_in, bad_names, names_twice_in, names_twice, bad_numbers_in, bad_numbers, is_none, keeps_rules}
 use Rattle.pbx_link.specs.Pool.{is_linkable, ArePooled, IsPool}
 
 -- ---- the parts of a linked message

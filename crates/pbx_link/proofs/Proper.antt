@@ -15,10 +15,10 @@ use Rattle.pbx_meaning.proofs.SchemaTypes.{HasProperFields, proper_at, no_enums}
 use Rattle.pbx_desc_records.specs.declared.field.FieldDescriptorProto.{FieldDescriptorProto}
 use Rattle.pbx_desc_records.specs.declared.message.DescriptorProto.{DescriptorProto}
 use Rattle.pbx_desc_records.specs.declared.file.FileDescriptorProto.{FileDescriptorProto}
-use Rattle.pbx_link.specs.Says.{own_fields, number_or_zero}
+use Rattle.pbx_definitions.specs.Says.{own_fields, number_or_zero}
 use Rattle.pbx_link.specs.Own.{has_no_extension}
 use Rattle.pbx_link.specs.Flat.{flat_field, flat_message, flat_shape}
-use Rattle.pbx_link.specs.Definitions.{Place}
+use Rattle.pbx_definitions.specs.Definitions.{Place}
 use Rattle.pbx_link.specs.Rules.{is_field_number, field_numbers, file_twice, missing_imports, bad_names, names_twice, bad_numbers_in, bad_numbers, is_none, keeps_rules}
 use Rattle.pbx_link.specs.Pool.{ArePooled}
 use Rattle.pbx_link.proofs.Searched.{places_from, messages_from}

@@ -11,8 +11,8 @@ use Rattle.pbx_desc_records.specs.declared.enumeration.EnumDescriptorProto.{Enum
 use Rattle.pbx_desc_records.specs.declared.enumeration.EnumValueDescriptorProto.{EnumValueDescriptorProto}
 use Rattle.pbx_desc_records.specs.declared.field.FieldDescriptorProto.{FieldDescriptorProto}
 use Rattle.pbx_desc_records.specs.declared.file.FileDescriptorProto.{FileDescriptorProto}
-use Rattle.pbx_link.specs.Names.{qualified}
-use Rattle.pbx_link.specs.Definitions.{part, top_enums, top_extensions}
+use Rattle.pbx_definitions.specs.Names.{qualified}
+use Rattle.pbx_definitions.specs.Definitions.{part, top_enums, top_extensions}
 use Rattle.pbx_link.specs.Described.{described}
 use Rattle.pbx_link.specs.Shapes.{scalar_kind, field_shape, extension_shape, enum_shape}
 

@@ -8,9 +8,10 @@ use Rattle.std.proofs.lemmas.List.Elements.{Contains-append_left, Contains-appen
 use Rattle.std.proofs.lemmas.List.Folds.{list_any-append}
 use Rattle.pbx_desc_records.specs.declared.message.DescriptorProto.{DescriptorProto}
 use Rattle.pbx_desc_records.specs.declared.file.FileDescriptorProto.{FileDescriptorProto}
-use Rattle.pbx_link.specs.Definitions.{Place}
-use Rattle.pbx_link.specs.Rules.{among, message_names, pool_names}
-use Rattle.pbx_link.specs.Says.{own_name}
+use Rattle.pbx_definitions.specs.Definitions.{Place}
+use Rattle.pbx_definitions.specs.Names.{among}
+use Rattle.pbx_link.specs.Rules.{message_names, pool_names}
+use Rattle.pbx_definitions.specs.Says.{own_name}
 use Rattle.pbx_link.specs.Found.{IsIndex}
 
 -- the places among the items that are left

@@ -14,7 +14,7 @@ use Rattle.pbx_desc_records.specs.declared.source.Location.{Location}
 use Rattle.pbx_desc_records.specs.declared.source.SourceCodeInfo.{SourceCodeInfo}
 use Rattle.pbx_desc.specs.Content.{files_content}
 use Rattle.pbx_desc.specs.Levels.{below, below_one, options_levels, enum_levels, service_levels, extension_range_levels, oneof_levels, reserved_range_levels, field_levels, location_levels, source_code_info_levels, message_levels_step, message_levels, file_levels}
-use Rattle.pbx_link.specs.Says.{own_fields}
+use Rattle.pbx_definitions.specs.Says.{own_fields}
 use Rattle.pbx_link.specs.Built.{is_empty, has_only_fields, is_plain_field, is_plain_message, is_plain_location, is_plain_source, has_only_messages, is_plain}
 
 both : (a b : Bool) → (a && b) ≡ true → (a ≡ true) × (b ≡ true)

@@ -7,8 +7,8 @@ use Rattle.pbx_desc_records.specs.declared.source.SourceCodeInfo.{SourceCodeInfo
 use Rattle.pbx_desc_records.specs.declared.field.FieldDescriptorProto.{FieldDescriptorProto}
 use Rattle.pbx_desc_records.specs.declared.message.DescriptorProto.{DescriptorProto, out-DescriptorProto}
 use Rattle.pbx_desc_records.specs.declared.file.FileDescriptorProto.{FileDescriptorProto}
-use Rattle.pbx_link.specs.Names.{text_or_empty}
-use Rattle.pbx_link.specs.Says.{own_fields, number_or_zero, is_proto3}
+use Rattle.pbx_definitions.specs.Names.{text_or_empty}
+use Rattle.pbx_definitions.specs.Says.{own_fields, number_or_zero, is_proto3}
 
 -- no item is in the list
 abbrev pub is_empty : {X : Type 0} → List X → Bool

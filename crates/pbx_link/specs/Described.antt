@@ -8,9 +8,9 @@ use Rattle.pbx_desc_records.specs.declared.enumeration.EnumValueDescriptorProto.
 use Rattle.pbx_desc_records.specs.declared.field.FieldDescriptorProto.{FieldDescriptorProto}
 use Rattle.pbx_desc_records.specs.declared.file.FileDescriptorProto.{FileDescriptorProto}
 use Rattle.pbx_desc_records.specs.declared.message.DescriptorProto.{DescriptorProto}
-use Rattle.pbx_link.specs.Names.{text_or_empty, is_named, dotted}
-use Rattle.pbx_link.specs.Says.{is_number, number_or_zero, option_bool, is_repeated, is_proto3, is_entry}
-use Rattle.pbx_link.specs.Definitions.{Part, message_name, field_name, fields_in, values_in, messages, enums, extensions}
+use Rattle.pbx_definitions.specs.Names.{text_or_empty, is_named, dotted}
+use Rattle.pbx_definitions.specs.Says.{is_number, number_or_zero, option_bool, is_repeated, is_proto3, is_entry}
+use Rattle.pbx_definitions.specs.Definitions.{Part, message_name, field_name, fields_in, values_in, messages, enums, extensions}
 
 -- a part of a file of a pool: a message, field, enum, value or extension
 pub record Described (X : Type 0) : Type 0 where

@@ -7,8 +7,8 @@ use Rattle.pbx_desc_records.specs.contracts.message.DescriptorProto as message_p
 use Rattle.pbx_desc_records.specs.contracts.file.FileDescriptorProto as file_proto
 use Rattle.pbx_desc_records.specs.declared.message.DescriptorProto.{DescriptorProto, roll-DescriptorProto}
 use Rattle.pbx_desc_records.specs.declared.file.FileDescriptorProto.{FileDescriptorProto}
-use Rattle.pbx_link.specs.Names.{is_named}
-use Rattle.pbx_link.specs.Says.{own_name}
+use Rattle.pbx_definitions.specs.Names.{is_named}
+use Rattle.pbx_definitions.specs.Says.{own_name}
 
 -- a file of a pool
 pub record FileDescribed : Type 0 where

@@ -9,8 +9,8 @@ use Rattle.pbx_meaning.specs.declared.shape.Shape.{Shape}
 use Rattle.pbx_desc_records.specs.declared.field.FieldDescriptorProto.{FieldDescriptorProto}
 use Rattle.pbx_desc_records.specs.declared.message.DescriptorProto.{DescriptorProto}
 use Rattle.pbx_desc_records.specs.declared.file.FileDescriptorProto.{FileDescriptorProto}
-use Rattle.pbx_link.specs.Names.{text_or_empty}
-use Rattle.pbx_link.specs.Says.{own_name, own_fields, number_or_zero}
+use Rattle.pbx_definitions.specs.Names.{text_or_empty}
+use Rattle.pbx_definitions.specs.Says.{own_name, own_fields, number_or_zero}
 use Rattle.pbx_link.specs.Shapes.{scalar_kind}
 
 -- an optional scalar of proto3, without presence

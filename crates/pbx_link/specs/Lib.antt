@@ -1,6 +1,3 @@
-pub mod Names
-pub mod Says
-pub mod Definitions
 pub mod Described
 pub mod Shapes
 pub mod Flat

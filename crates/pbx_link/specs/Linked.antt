@@ -4,8 +4,8 @@ use Rattle.std.specs.Char.{to_ascii_uppercase}
 use Rattle.pbx_desc_records.specs.declared.field.FieldDescriptorProto.{FieldDescriptorProto}
 use Rattle.pbx_desc_records.specs.declared.message.DescriptorProto.{DescriptorProto, out-DescriptorProto, roll-DescriptorProto}
 use Rattle.pbx_desc_records.specs.declared.file.FileDescriptorProto.{FileDescriptorProto}
-use Rattle.pbx_link.specs.Names.{text_or_empty}
-use Rattle.pbx_link.specs.Says.{own_fields}
+use Rattle.pbx_definitions.specs.Names.{text_or_empty}
+use Rattle.pbx_definitions.specs.Says.{own_fields}
 
 -- a name without its `_`, what stands behind one in upper case; the flag says whether the next byte stands behind one
 unfoldable pub camel_from : Bool → List ℕ → List ℕ

@@ -4,9 +4,9 @@ use Rattle.std.specs.List.{list_all}
 use Rattle.pbx_desc_records.specs.declared.file.FileDescriptorProto.{FileDescriptorProto}
 use Rattle.pbx_link.specs.declared.error.DescriptorError.{DescriptorError}
 use Rattle.pbx_link.specs.declared.error.DescriptorError.TheVariants.{Rule, Decode, NoMemory, NotBuilt}
-use Rattle.pbx_link.specs.Names.{text_or_empty}
+use Rattle.pbx_definitions.specs.Names.{text_or_empty}
 use Rattle.pbx_link.specs.Linked.{linked}
-use Rattle.pbx_link.specs.Definitions.{Place}
+use Rattle.pbx_definitions.specs.Definitions.{Place}
 use Rattle.pbx_link.specs.Rules.{breaches, keeps_rules}
 use Rattle.pbx_link.specs.Built.{is_built, is_plain, is_simple}
 

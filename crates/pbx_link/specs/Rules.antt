@@ -4,16 +4,11 @@
 use Rattle.std.specs.Prelude.{ℕ, nat_lt, nat_le, ◌==◌, ◌&&◌, ◌||◌, not, pos, List, [], ◌∷◌, ◌++◌, map, take}
 use Rattle.std.specs.Prelude.{Bool, true, false, Option, Some, None, if◌then◌else◌}
 use Rattle.std.specs.List.{list_any, list_all, filter_map, flat_map, enumerate_from}
-use Rattle.std.specs.Str.{bytes_eq}
 use Rattle.pbx_desc_records.specs.declared.message.DescriptorProto.{DescriptorProto}
 use Rattle.pbx_desc_records.specs.declared.file.FileDescriptorProto.{FileDescriptorProto}
-use Rattle.pbx_link.specs.Names.{text_or_empty, is_named}
-use Rattle.pbx_link.specs.Says.{own_name, own_fields, number_or_zero}
-pub use Rattle.pbx_link.specs.Definitions.{Place}
-
--- the name is one of these
-abbrev pub among : List (List ℕ) → List ℕ → Bool
-among names name = list_any (λ other. bytes_eq other name) names
+use Rattle.pbx_definitions.specs.Names.{text_or_empty, is_named, among, is_ident}
+use Rattle.pbx_definitions.specs.Says.{own_name, own_fields, number_or_zero}
+pub use Rattle.pbx_definitions.specs.Definitions.{Place}
 
 -- one of the files has this name
 abbrev pub has_file : List FileDescriptorProto → List ℕ → Bool
@@ -42,19 +37,6 @@ places_where P place xs = filter_map (λ x. if P x.0 x.1 then Some (place x.0) e
 -- the places in each message
 abbrev pub in_messages : (ℕ → DescriptorProto → List Place) → FileDescriptorProto → List Place
 in_messages places f = flat_map (λ x. places x.0 x.1) (enumerate_from 0 f.message_type)
-
--- an ASCII letter or `_`
-abbrev pub begins_ident : ℕ → Bool
-begins_ident b = (nat_le 97 b && nat_le b 122) || (nat_le 65 b && nat_le b 90) || b == 95
-
--- such a byte, or a digit
-abbrev pub goes_on_ident : ℕ → Bool
-goes_on_ident b = begins_ident b || (nat_le 48 b && nat_le b 57)
-
--- an identifier of the language
-abbrev pub is_ident : List ℕ → Bool
-is_ident [] = false
-is_ident (b ∷ bs) = begins_ident b && list_all goes_on_ident bs
 
 -- 1 to 536,870,911 without 19,000 to 19,999
 abbrev pub is_field_number : ℕ → Bool

@@ -16,9 +16,9 @@ use Rattle.pbx_desc_records.specs.declared.enumeration.EnumValueDescriptorProto.
 use Rattle.pbx_desc_records.specs.declared.field.FieldDescriptorProto.{FieldDescriptorProto}
 use Rattle.pbx_desc_records.specs.declared.message.DescriptorProto.{DescriptorProto}
 use Rattle.pbx_desc_records.specs.declared.file.FileDescriptorProto.{FileDescriptorProto}
-pub use Rattle.pbx_link.specs.Names.{text_or_empty}
-use Rattle.pbx_link.specs.Says.{number_or_zero, signed_or_zero, is_repeated}
-use Rattle.pbx_link.specs.Definitions.{message_name, enum_name, field_name}
+pub use Rattle.pbx_definitions.specs.Names.{text_or_empty}
+use Rattle.pbx_definitions.specs.Says.{number_or_zero, signed_or_zero, is_repeated}
+use Rattle.pbx_definitions.specs.Definitions.{message_name, enum_name, field_name}
 use Rattle.pbx_link.specs.Described.{Described, number_of_field, every_message, every_enum, fields_of_message, extensions_of_message, extension_json_name}
 use Rattle.pbx_link.specs.Described.{values_of_enum, message_referred, referred, is_map, is_packed, has_presence, extension_has_presence, with_number}
 

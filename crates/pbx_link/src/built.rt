@@ -1,28 +1,17 @@
 // Which records are built so far.
 ghost use Rattle.std.specs.Prelude.{◌≡◌};
 ghost use Rattle.std.specs.List.{list_all};
-ghost use Rattle.pbx_link.specs.Names.{is_named as is_named_of, text_or_empty as text_or_empty_of};
 ghost use Rattle.pbx_link.specs.Built.{is_empty as is_empty_of, is_plain_field as is_plain_field_of, has_only_fields as has_only_fields_of};
 ghost use Rattle.pbx_link.specs.Built.{is_plain_message as is_plain_message_of, is_plain_location as is_plain_location_of};
 ghost use Rattle.pbx_link.specs.Built.{is_plain_source as is_plain_source_of, has_only_messages as has_only_messages_of, is_plain as is_plain_of};
 ghost use Rattle.pbx_link.specs.Built.{is_own_json_name as is_own_json_name_of, is_built_field as is_built_field_of};
 ghost use Rattle.pbx_link.specs.Built.{is_built_message as is_built_message_of, is_built as is_built_of};
 
-use crate::absent::{number_or_zero, text_or_empty};
+use pbx_definitions::{is_named, number_or_zero, text_or_empty};
 use pbx_desc::{
     DescriptorProto, FieldDescriptorProto, FileDescriptorProto, Location, SourceCodeInfo,
 };
 use pbx_wire::{List, Text};
-
-/// Whether the text is there, and is this name.
-pub(crate) fn is_named(text: &Option<Text>, name: &str) -> bool
-    ensures { result ≡ is_named_of text.now name.now }
-{
-    match text {
-        Some(text) => text.as_str() == name,
-        None => false,
-    }
-}
 
 fn is_empty<T>(list: &List<T>) -> bool
     ensures { result ≡ is_empty_of list.now }

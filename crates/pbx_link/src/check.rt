@@ -1,12 +1,12 @@
 // Whether a record may be added to the files of a pool.
 ghost use Rattle.std.specs.Prelude.{◌≡◌, true, IfOk, OnOk, IfErr};
 ghost use Rattle.pbx_link.specs.Pool.{is_linkable, IsRefused};
-ghost use Rattle.pbx_link.specs.Names.{text_or_empty as text_or_empty_of};
+ghost use Rattle.pbx_definitions.specs.Names.{text_or_empty as text_or_empty_of};
 
-use crate::absent::text_or_empty;
 use crate::built::is_built;
 use crate::error::DescriptorError;
 use crate::rules::first_breach;
+use pbx_definitions::text_or_empty;
 use pbx_desc::FileDescriptorProto;
 use pbx_shared::Shared;
 use pbx_wire::{NoMemory, Text};

@@ -1,11 +1,11 @@
 // Handles of the files and messages of a pool.
 ghost use Rattle.std.specs.Prelude.{◌≡◌, ◌<◌, length, IfOk, Contains};
-ghost use Rattle.pbx_link.specs.Names.{text_or_empty as text_or_empty_of};
-ghost use Rattle.pbx_link.specs.Says.{own_name};
+ghost use Rattle.pbx_definitions.specs.Names.{text_or_empty as text_or_empty_of};
+ghost use Rattle.pbx_definitions.specs.Says.{own_name};
 ghost use Rattle.pbx_link.specs.Descriptors.{described_file, described_message, message_at};
 
-use crate::absent::text_or_empty;
 use crate::pool::DescriptorPool;
+use pbx_definitions::text_or_empty;
 use pbx_desc::{DescriptorProto, FileDescriptorProto};
 use pbx_shared::Shared;
 use pbx_wire::NoMemory;

@@ -1,7 +1,6 @@
 //! Linking: what the records of files declare together.
 #![tactic(auto)]
 
-mod absent;
 mod built;
 mod check;
 mod descriptors;
@@ -19,7 +18,7 @@ mod shapes;
 
 pub use descriptors::{FileDescriptor, MessageDescriptor};
 pub use error::DescriptorError;
-pub use laws::{linked_is_linked, nested_are_told, pooled_stand_behind};
+pub use laws::{linked_is_linked, pooled_stand_behind};
 pub use pool::DescriptorPool;
 pub use pool_files::PoolFiles;
 pub use shapes::{find_message, shape_of};

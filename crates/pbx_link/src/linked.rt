@@ -2,9 +2,9 @@
 ghost use Rattle.std.specs.Prelude.{◌≡◌, IfOk, map};
 ghost use Rattle.pbx_link.specs.Linked.{default_json_name as default_json_name_of, json_name_or_default as json_name_or_default_of};
 ghost use Rattle.pbx_link.specs.Linked.{linked as linked_of, linked_field as linked_field_of, linked_message as linked_message_of};
-ghost use Rattle.pbx_link.specs.Names.{text_or_empty as text_or_empty_of};
+ghost use Rattle.pbx_definitions.specs.Names.{text_or_empty as text_or_empty_of};
 
-use crate::absent::text_or_empty;
+use pbx_definitions::text_or_empty;
 use pbx_desc::{DescriptorProto, FieldDescriptorProto, FileDescriptorProto};
 use pbx_wire::{List, NoMemory, Text};
 use std::alloc::Global;

@@ -2,14 +2,13 @@
 ghost use Rattle.std.specs.Prelude.{◌≡◌, position, find};
 ghost use Rattle.std.specs.Str.{bytes_eq};
 ghost use Rattle.std.specs.Option.{option_copied};
-ghost use Rattle.pbx_link.specs.Names.{is_named as is_named_of};
-ghost use Rattle.pbx_link.specs.Says.{own_name};
+ghost use Rattle.pbx_definitions.specs.Names.{is_named as is_named_of};
+ghost use Rattle.pbx_definitions.specs.Says.{own_name};
 ghost use Rattle.pbx_link.specs.Descriptors.{file_of_name, message_of_name};
 
-use crate::absent::text_or_empty;
-use crate::built::is_named;
 use crate::descriptors::{FileDescriptor, MessageDescriptor};
 use crate::pool::DescriptorPool;
+use pbx_definitions::{is_named, text_or_empty};
 use pbx_desc::{DescriptorProto, FileDescriptorProto};
 use pbx_shared::Shared;
 

@@ -1,17 +1,15 @@
 // The rules of linking, each as a search for a place at which it is broken.
 ghost use Rattle.std.specs.Prelude.{◌≡◌, ◌||◌, ◌==◌, ◌++◌, ℕ, not, List, IfOk, map, position, take};
-ghost use Rattle.std.specs.List.{list_any, list_all};
-ghost use Rattle.pbx_link.specs.Rules.{among, has_file, pool_names, message_names, begins_ident as begins_ident_of};
-ghost use Rattle.pbx_link.specs.Rules.{goes_on_ident as goes_on_ident_of, is_ident as is_ident_of, is_field_number as is_field_number_of};
+ghost use Rattle.std.specs.List.{list_any};
+ghost use Rattle.pbx_link.specs.Rules.{has_file, pool_names, message_names, is_field_number as is_field_number_of};
 ghost use Rattle.pbx_link.specs.Rules.{file_twice as file_twice_of, missing_imports, bad_names_in, bad_names, in_messages, names_twice_in};
 ghost use Rattle.pbx_link.specs.Rules.{names_twice, bad_numbers_in, bad_numbers};
 ghost use Rattle.pbx_link.specs.Found.{IsAmong, IsIndex, IsFirst};
-ghost use Rattle.pbx_link.specs.Names.{text_or_empty as text_or_empty_of};
-ghost use Rattle.pbx_link.specs.Says.{own_name, number_or_zero as number_or_zero_of};
+ghost use Rattle.pbx_definitions.specs.Names.{among, is_ident as is_ident_of, text_or_empty as text_or_empty_of};
+ghost use Rattle.pbx_definitions.specs.Says.{own_name, number_or_zero as number_or_zero_of};
 
-use crate::absent::{number_or_zero, text_or_empty};
-use crate::built::is_named;
 use crate::places::{Place, place};
+use pbx_definitions::{is_ident, is_named, number_or_zero, text_or_empty};
 use pbx_desc::{DescriptorProto, FieldDescriptorProto, FileDescriptorProto};
 use pbx_shared::Shared;
 use pbx_wire::{NoMemory, Text};
@@ -47,34 +45,6 @@ fn defines(files: &[Shared<FileDescriptorProto>], name: &str) -> bool
     ensures { result ≡ among (pool_names files.now) name.now }
 {
     files.iter().any(|file| declares(file.as_ref(), name))
-}
-
-fn begins_ident(byte: u8) -> bool
-    ensures { result ≡ begins_ident_of byte }
-{
-    (97 <= byte && byte <= 122) || (65 <= byte && byte <= 90) || byte == 95
-}
-
-fn goes_on_ident(byte: u8) -> bool
-    ensures { result ≡ goes_on_ident_of byte }
-{
-    begins_ident(byte) || (48 <= byte && byte <= 57)
-}
-
-fn go_on_ident(bytes: &[u8]) -> bool
-    ensures { result ≡ list_all goes_on_ident_of bytes.now }
-{
-    bytes.iter().all(|byte| goes_on_ident(*byte))
-}
-
-/// Whether the text is an identifier.
-fn is_ident(text: &str) -> bool
-    ensures { result ≡ is_ident_of text.now }
-{
-    match text.as_bytes() {
-        [] => false,
-        [first, others @ ..] => begins_ident(*first) && go_on_ident(others),
-    }
 }
 
 /// Whether a field may have the number.

@@ -1,13 +1,13 @@
 // The shape of the types of a pool.
 ghost use Rattle.std.specs.Prelude.{◌≡◌, ◌++◌, ℕ, true, IfOk, OnOk, map};
 ghost use Rattle.pbx_meaning.specs.Shape.{declared_of};
-ghost use Rattle.pbx_link.specs.Names.{text_or_empty as text_or_empty_of};
+ghost use Rattle.pbx_definitions.specs.Names.{text_or_empty as text_or_empty_of};
 ghost use Rattle.pbx_link.specs.Shapes.{scalar_kind as scalar_kind_of, shape_of as shape_of_files, message_named};
 ghost use Rattle.pbx_link.specs.Own.{has_no_extension};
 ghost use Rattle.pbx_link.specs.Flat.{flat_field, flat_message};
 
-use crate::absent::{number_or_zero, text_or_empty};
 use crate::pool::DescriptorPool;
+use pbx_definitions::{number_or_zero, text_or_empty};
 use pbx_desc::{DescriptorProto, FieldDescriptorProto};
 use pbx_meaning::{Cardinality, FieldShape, Kind, MessageShape, Schema, SchemaError, Shape};
 use pbx_wire::{List, NoMemory, Text};

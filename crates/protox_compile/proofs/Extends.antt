@@ -5,7 +5,7 @@ use Rattle.std.specs.Prelude.{nat_lt, ◌&&◌, if◌then◌else◌, reverse, Op
 use Rattle.std.proofs.lemmas.List.{append-nil}
 use Rattle.std.specs.Str.{bytes_eq}
 use Rattle.pbx_link.specs.Pool.{is_linkable}
-use Rattle.pbx_link.specs.Rules.{among}
+use Rattle.pbx_definitions.specs.Names.{among}
 use Rattle.protox_paths.specs.Paths.{path_equal}
 use Rattle.protox_file.specs.Told.{Entry, Lookup, NoFile, IsFile, TextFault}
 use Rattle.protox_compile.specs.Places.{place_of_import}

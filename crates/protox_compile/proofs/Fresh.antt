@@ -4,7 +4,7 @@ use Rattle.std.specs.Prelude.{◌||◌, Result, Ok, Err}
 use Rattle.std.specs.Str.{bytes_eq}
 use Rattle.std.proofs.lemmas.Cmp.{nat_list_eq_equiv}
 use Rattle.std.proofs.lemmas.List.Folds.{list_any-append}
-use Rattle.pbx_link.specs.Rules.{among}
+use Rattle.pbx_definitions.specs.Names.{among}
 use Rattle.protox_compile.specs.Walk.{Done, Open, is_done, done_as}
 use Rattle.protox_compile.specs.Resume.{names_of, past, IsVisit}
 

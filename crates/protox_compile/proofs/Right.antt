@@ -4,7 +4,7 @@ use Rattle.std.specs.Prelude.{◌||◌, if◌then◌else◌}
 use Rattle.std.specs.Str.{bytes_eq}
 use Rattle.std.proofs.lemmas.List.Folds.{list_any-append}
 use Rattle.std.proofs.lemmas.Slice.Eq.{bytes_eq-Decides}
-use Rattle.pbx_link.specs.Rules.{among}
+use Rattle.pbx_definitions.specs.Names.{among}
 use Rattle.protox_file.specs.Told.{Told, Lookup, NoFile, IsLookup, AreLookups}
 use Rattle.protox_compile.specs.Walk.{Done, Open, is_done, done_as}
 use Rattle.protox_compile.specs.Refusals.{without}

@@ -5,7 +5,7 @@ use Rattle.std.specs.List.{list_any}
 use Rattle.std.specs.Str.{bytes_eq}
 use Rattle.std.proofs.lemmas.List.{reverse-append, reverse-reverse, map-append}
 use Rattle.std.proofs.lemmas.List.Folds.{list_any-append}
-use Rattle.pbx_link.specs.Rules.{among}
+use Rattle.pbx_definitions.specs.Names.{among}
 use Rattle.protox_compile.specs.Walk.{Open}
 
 or_swap : (a b : Bool) → (a || b) ≡ (b || a)

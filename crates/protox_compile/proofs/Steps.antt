@@ -3,7 +3,7 @@ use Rattle.std.proofs.Common.{◌≡◌, ◌+◌, ◌<◌, ◌≤◌, ◌∙◌,
 use Rattle.std.specs.Prelude.{nat_lt, None}
 use Rattle.pbx_link.specs.declared.error.DescriptorError.{DescriptorError}
 use Rattle.pbx_link.specs.Pool.{is_linkable, IsRefused}
-use Rattle.pbx_link.specs.Rules.{among}
+use Rattle.pbx_definitions.specs.Names.{among}
 use Rattle.pbx_parse.specs.declared.error.ParseError.TheVariants as parse
 use Rattle.protox_file.specs.Told.{Told, Lookup, NoFile, IsLookup, AreLookups}
 use Rattle.protox_file.specs.declared.error.ErrorKind.{ErrorKind}

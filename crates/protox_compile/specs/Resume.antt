@@ -1,6 +1,6 @@
 -- What is left of a walk whose open files stand on a stack, the innermost first.
 use Rattle.std.specs.Prelude.{◌≡◌, ◌+◌, ◌∷◌, [], ℕ, List, Bool, true, false, ◌||◌, map, take, drop, slice_index_or, Option, None}
-use Rattle.pbx_link.specs.Rules.{among}
+use Rattle.pbx_definitions.specs.Names.{among}
 use Rattle.protox_file.specs.Told.{Told, Lookup, IsLookup, AreLookups}
 use Rattle.protox_compile.specs.Places.{place_of_import}
 use Rattle.protox_compile.specs.Walk.{Done, Fault, Visited, Finished, Missing, Faulted, Open, imports_of, is_done, visit_imports, finish, visits}

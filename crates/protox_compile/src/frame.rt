@@ -1,6 +1,6 @@
 ghost use Rattle.std.specs.Prelude.{◌≡◌, ◌+◌, ◌<◌, length, slice_index_or, take, nat_lt, [], true};
 ghost use Rattle.std.specs.Str.{bytes_eq};
-ghost use Rattle.pbx_link.specs.Rules.{among};
+ghost use Rattle.pbx_definitions.specs.Names.{among};
 ghost use Rattle.protox_compile.specs.Places.{place_of_import};
 ghost use Rattle.protox_compile.specs.Walk.{imports_of, declared_name};
 

@@ -1,7 +1,7 @@
 ghost use Rattle.std.specs.Prelude.{◌≡◌, ◌∷◌, ◌++◌, [], length, map, reverse, IfOk, OnOk, OnErr, MatchOption};
 ghost use Rattle.std.specs.List.{list_any};
 ghost use Rattle.std.specs.Str.{bytes_eq};
-ghost use Rattle.pbx_link.specs.Rules.{among};
+ghost use Rattle.pbx_definitions.specs.Names.{among};
 
 use crate::frame::Frame;
 use pbx_wire::{NoMemory, Text, Texts};

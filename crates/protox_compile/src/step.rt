@@ -1,6 +1,6 @@
 ghost use Rattle.std.specs.Prelude.{◌≡◌, ◌≤◌, ◌<◌, ◌^◌, ◌+◌, ◌∷◌, IfOk, IfErr, OnOk, IsTrue, ℕ, List, length};
 ghost use Rattle.std.specs.Str.{bytes_eq};
-ghost use Rattle.pbx_link.specs.Rules.{among};
+ghost use Rattle.pbx_definitions.specs.Names.{among};
 ghost use Rattle.protox_io.specs.Count.{Rose};
 ghost use Rattle.protox_file.specs.Told.{Told};
 ghost use Rattle.protox_compile.specs.Walk.{imports_of};

@@ -1,7 +1,7 @@
 use Rattle.std.proofs.Common.{◌≡◌, ◌∙◌, ◌∷◌, ◌+◌, List, [], drop, ap, sym, subst}
 use Rattle.std.specs.Prelude.{Contains}
 use Rattle.std.proofs.lemmas.List.{at_drop_more}
-use Rattle.pbx_link.specs.Definitions.{Place}
+use Rattle.pbx_definitions.specs.Definitions.{Place}
 use Rattle.pbx_link.specs.Rules.{bad_names_in}
 use Rattle.pbx_link.proofs.Searched.{messages_from, message_here, message_not}
 use Rattle.pbx_link.proofs.rules.bad_name.Goals as goal

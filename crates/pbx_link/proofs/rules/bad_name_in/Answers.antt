@@ -2,10 +2,10 @@ use Rattle.std.proofs.Common.{◌≡◌, ◌∙◌, ℕ, List, [], ◌∷◌, po
 use Rattle.std.specs.Prelude.{Contains}
 use Rattle.pbx_desc_records.specs.declared.field.FieldDescriptorProto.{FieldDescriptorProto}
 use Rattle.pbx_desc_records.specs.declared.message.DescriptorProto.{DescriptorProto}
-use Rattle.pbx_link.specs.Definitions.{Place}
-use Rattle.pbx_link.specs.Rules.{is_ident, bad_names_in, field_names, places_where}
-use Rattle.pbx_link.specs.Names.{text_or_empty}
-use Rattle.pbx_link.specs.Says.{own_name, own_fields}
+use Rattle.pbx_definitions.specs.Definitions.{Place}
+use Rattle.pbx_link.specs.Rules.{bad_names_in, field_names, places_where}
+use Rattle.pbx_definitions.specs.Names.{text_or_empty, is_ident}
+use Rattle.pbx_definitions.specs.Says.{own_name, own_fields}
 use Rattle.pbx_link.proofs.Searched.{index_mapped}
 use Rattle.pbx_link.proofs.rules.bad_name_in.Goals as goal
 

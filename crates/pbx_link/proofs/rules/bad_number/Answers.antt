@@ -3,7 +3,7 @@ use Rattle.std.specs.List.{list_any}
 use Rattle.std.proofs.lemmas.Result.{IfOk-weaker}
 use Rattle.pbx_desc_records.specs.declared.field.FieldDescriptorProto.{FieldDescriptorProto}
 use Rattle.pbx_link.specs.Rules.{is_field_number}
-use Rattle.pbx_link.specs.Says.{number_or_zero}
+use Rattle.pbx_definitions.specs.Says.{number_or_zero}
 use Rattle.pbx_link.proofs.Searched.{index_first, index_second}
 use Rattle.pbx_link.proofs.rules.bad_number.Goals as goal
 

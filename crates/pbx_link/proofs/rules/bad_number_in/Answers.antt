@@ -1,6 +1,6 @@
 use Rattle.std.proofs.Common.{[], ◌∷◌, pos, sym, subst}
 use Rattle.std.specs.Prelude.{Contains}
-use Rattle.pbx_link.specs.Definitions.{Place}
+use Rattle.pbx_definitions.specs.Definitions.{Place}
 use Rattle.pbx_link.specs.Rules.{bad_numbers_in}
 use Rattle.pbx_link.proofs.rules.bad_number_in.Goals as goal
 

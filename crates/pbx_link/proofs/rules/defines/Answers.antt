@@ -1,7 +1,8 @@
 use Rattle.std.proofs.Common.{◌∙◌, sym, rules, tests}
 use Rattle.std.proofs.lemmas.Iterator.{YieldsList-from_slice}
 use Rattle.std.proofs.lemmas.Iterator.Search.{any_from_yields_List}
-use Rattle.pbx_link.specs.Rules.{among, message_names}
+use Rattle.pbx_definitions.specs.Names.{among}
+use Rattle.pbx_link.specs.Rules.{message_names}
 use Rattle.pbx_link.proofs.Searched.{among_pool}
 use Rattle.pbx_link.proofs.rules.defines.Goals as goal
 

@@ -1,8 +1,9 @@
 use Rattle.std.proofs.Common.{Some, take, refl, sym, bytes_eq}
 use Rattle.std.proofs.lemmas.List.Folds.{list_any-append}
 use Rattle.std.proofs.lemmas.Result.{IfOk-weaker}
-use Rattle.pbx_link.specs.Rules.{among, pool_names, message_names}
-use Rattle.pbx_link.specs.Says.{own_name}
+use Rattle.pbx_definitions.specs.Names.{among}
+use Rattle.pbx_link.specs.Rules.{pool_names, message_names}
+use Rattle.pbx_definitions.specs.Says.{own_name}
 use Rattle.pbx_link.proofs.Searched.{index_first, index_second, index_same}
 use Rattle.pbx_link.proofs.rules.message_again.Goals as goal
 

@@ -1,6 +1,6 @@
 use Rattle.std.proofs.Common.{[], ◌∷◌, pos, not, sym, subst}
 use Rattle.std.specs.Prelude.{Contains}
-use Rattle.pbx_link.specs.Definitions.{Place}
+use Rattle.pbx_definitions.specs.Definitions.{Place}
 use Rattle.pbx_link.specs.Rules.{has_file, missing_imports}
 use Rattle.pbx_link.proofs.Searched.{position_is_index}
 use Rattle.pbx_link.proofs.rules.missing_import.Goals as goal

@@ -1,7 +1,8 @@
 use Rattle.std.proofs.Common.{◌≡◌, ℕ, List, map, take, drop, bytes_eq}
 use Rattle.std.specs.List.{list_any}
-use Rattle.pbx_link.specs.Definitions.{Place}
-use Rattle.pbx_link.specs.Rules.{among, places_where}
+use Rattle.pbx_definitions.specs.Definitions.{Place}
+use Rattle.pbx_definitions.specs.Names.{among}
+use Rattle.pbx_link.specs.Rules.{places_where}
 use Rattle.pbx_link.proofs.Searched.{places_from}
 use Rattle.pbx_link.proofs.rules.name_again.Given as goal
 

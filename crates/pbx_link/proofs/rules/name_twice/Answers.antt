@@ -3,7 +3,7 @@ use Rattle.std.specs.Prelude.{Contains}
 use Rattle.std.proofs.lemmas.List.Elements.{Contains-append_left}
 use Rattle.std.proofs.lemmas.Result.{IfOk-weaker}
 use Rattle.pbx_link.specs.Found.{IsAmong}
-use Rattle.pbx_link.specs.Definitions.{Place}
+use Rattle.pbx_definitions.specs.Definitions.{Place}
 use Rattle.pbx_link.specs.Rules.{names_twice, names_twice_in, in_messages}
 use Rattle.pbx_link.proofs.rules.name_twice.Goals as goal
 

@@ -1,6 +1,6 @@
 use Rattle.std.proofs.Common.{[], ◌∷◌, pos, sym, subst}
 use Rattle.std.specs.Prelude.{Contains}
-use Rattle.pbx_link.specs.Definitions.{Place}
+use Rattle.pbx_definitions.specs.Definitions.{Place}
 use Rattle.pbx_link.specs.Rules.{names_twice_in}
 use Rattle.pbx_link.proofs.rules.name_twice_in.Goals as goal
 

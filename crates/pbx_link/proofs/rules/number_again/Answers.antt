@@ -3,7 +3,7 @@ use Rattle.std.proofs.Math.ListN.{get_or-map}
 use Rattle.std.proofs.lemmas.Bool.Decides.{nat_tests, Decides-eqb}
 use Rattle.std.proofs.lemmas.List.{at_drop_all, length-map}
 use Rattle.pbx_desc_records.specs.declared.field.FieldDescriptorProto.{FieldDescriptorProto}
-use Rattle.pbx_link.specs.Says.{number_or_zero}
+use Rattle.pbx_definitions.specs.Says.{number_or_zero}
 use Rattle.pbx_link.proofs.Searched.{places_from}
 use Rattle.pbx_link.proofs.Seen.{earlier, again, left_more, seen_after}
 use Rattle.pbx_link.proofs.rules.number_again.Goals as goal

@@ -1,8 +1,8 @@
 use Rattle.std.proofs.Common.{◌≡◌, ◌==◌, ℕ, map, take, drop}
 use Rattle.std.specs.List.{list_any}
-use Rattle.pbx_link.specs.Definitions.{Place}
+use Rattle.pbx_definitions.specs.Definitions.{Place}
 use Rattle.pbx_link.specs.Rules.{places_where}
-use Rattle.pbx_link.specs.Says.{number_or_zero}
+use Rattle.pbx_definitions.specs.Says.{number_or_zero}
 use Rattle.pbx_link.proofs.Searched.{places_from}
 use Rattle.pbx_link.proofs.rules.number_again.Given as goal
 

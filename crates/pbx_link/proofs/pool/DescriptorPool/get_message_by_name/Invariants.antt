@@ -1,6 +1,6 @@
 use Rattle.std.proofs.Common.{◌≡◌, map, drop, find, bytes_eq}
 use Rattle.std.specs.List.{flat_map}
-use Rattle.pbx_link.specs.Says.{own_name}
+use Rattle.pbx_definitions.specs.Says.{own_name}
 use Rattle.pbx_link.specs.Descriptors.{described_message, message_of_name}
 use Rattle.pbx_link.proofs.pool.DescriptorPool.get_message_by_name.Given as goal
 

@@ -1,11 +1,15 @@
 -- What parts of records say, absent or not (Protocol Buffers `descriptor.proto`).
-use Rattle.std.specs.Prelude.{ℕ, ◌==◌, ℤ, pos, negsuc, List, Bool, false, Option, Some, None, codes, option_and_then}
+use Rattle.std.specs.Prelude.{ℕ, ◌==◌, ◌&&◌, ℤ, pos, negsuc, int_le, List, Bool, false, Option, Some, None, codes, option_and_then}
+use Rattle.std.specs.List.{list_any}
+use Rattle.pbx_wire.specs.Text.{is_numbered}
+use Rattle.pbx_wire.specs.declared.rec.Rec.{Rec}
+use Rattle.pbx_meaning.specs.Records.{number_of}
 use Rattle.pbx_desc_records.specs.Options.{bool_of}
 use Rattle.pbx_desc_records.specs.declared.field.FieldDescriptorProto.{FieldDescriptorProto}
 use Rattle.pbx_desc_records.specs.declared.file.FileDescriptorProto.{FileDescriptorProto}
 use Rattle.pbx_desc_records.specs.declared.message.DescriptorProto.{DescriptorProto, out-DescriptorProto}
 use Rattle.pbx_desc_records.specs.declared.options.Options.{Options}
-use Rattle.pbx_link.specs.Names.{text_or_empty, is_named}
+use Rattle.pbx_definitions.specs.Names.{text_or_empty, is_named}
 
 -- the message's own name, or the empty text where it has none
 abbrev pub own_name : DescriptorProto → List ℕ
@@ -52,3 +56,25 @@ is_entry m = is_set (option_bool 7 (out-DescriptorProto m).options)
 -- the label `repeated`
 abbrev pub is_repeated : FieldDescriptorProto → Bool
 is_repeated x = is_number x.label 3
+
+-- the label `optional`, which a field of proto3 without a label has too
+abbrev pub is_optional : FieldDescriptorProto → Bool
+is_optional x = is_number x.label 1
+
+-- both numbers are there, and are equal
+abbrev pub are_equal : Option ℤ → Option ℤ → Bool
+are_equal (Some a) (Some b) = int_le a b && int_le b a
+are_equal a b = false
+
+-- a record of this number, one that may be written, is among them
+abbrev pub has_record : ℕ → List Rec → Bool
+has_record n rs = list_any (λ r. is_numbered r && number_of r == n) rs
+
+-- the options say so, as a truth value of this number
+abbrev pub has_option : ℕ → Option Options → Bool
+has_option n o = is_set (option_bool n o)
+
+-- the options hold an UninterpretedOption, which is the number 999
+abbrev pub is_uninterpreted : Option Options → Bool
+is_uninterpreted None = false
+is_uninterpreted (Some o) = has_record 999 o.recs

@@ -1,0 +1,4 @@
+pub mod Around
+pub mod Told
+pub mod Listed
+pub mod Defined

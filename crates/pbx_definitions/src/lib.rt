@@ -1,0 +1,16 @@
+//! The parts of descriptor records with their full names and places, and all that a file defines.
+#![tactic(auto)]
+
+mod absent;
+mod definitions;
+mod file_parts;
+mod laws;
+mod names;
+mod parts;
+
+pub use absent::{is_named, number_or_zero, text_or_empty};
+pub use definitions::{Definition, Sort, file_definitions};
+pub use file_parts::FileParts;
+pub use laws::nested_are_told;
+pub use names::is_ident;
+pub use parts::{Part, PartRef, name_in, place_at, place_in};
