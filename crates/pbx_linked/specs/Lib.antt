@@ -1,0 +1,5 @@
+pub mod Unknown
+pub mod Settled
+pub mod Linked
+pub mod Parts
+pub mod Laws
