@@ -3,6 +3,7 @@ use Rattle.std.proofs.Common.{◌≡◌, pos, negsuc, [], ◌∷◌, Ok, Err, co
 use Rattle.base64.specs.Rfc4648.{encode_symbols}
 use Rattle.pbx_text.specs.Decimal.{signed_read, unsigned_read}
 use Rattle.pbx_text.specs.Base64.{base64_read, base64_of, base64_text}
+use Rattle.pbx_text.specs.Mask.{mask_read, mask_of, mask_written, mask_text}
 use Rattle.pbx_text.specs.declared.fault.TextFault.TheVariants.{Form, Range}
 
 -- `+007` is 7, and a `-` is of no unsigned kind
@@ -98,3 +99,32 @@ row_f = refl
 row_foobar : base64_text (codes "foobar") ≡ codes "Zm9vYmFy"
 unfolding base64_text encode_symbols
 row_foobar = refl
+
+-- masks
+row_mask : mask_read (codes "fooBar,,a.bC") ≡ Ok (codes "foo_bar" ∷ codes "a.b_c" ∷ [])
+unfolding mask_of
+row_mask = refl
+
+row_mask_written : mask_written (codes "foo_bar" ∷ codes "a.b_c" ∷ []) ≡ Ok (codes "fooBar,a.bC")
+unfolding mask_text
+row_mask_written = refl
+
+row_mask_underscore : mask_read (codes "a_b") ≡ Err Form
+unfolding mask_of
+row_mask_underscore = refl
+
+row_mask_trailing : mask_written (codes "foo_" ∷ []) ≡ Err Form
+unfolding mask_text
+row_mask_trailing = refl
+
+row_mask_empty : mask_read [] ≡ Ok []
+unfolding mask_of
+row_mask_empty = refl
+
+row_mask_empty_path : mask_written ([] ∷ []) ≡ Err Form
+unfolding mask_text
+row_mask_empty_path = refl
+
+row_mask_dots : mask_written (codes "a..b" ∷ []) ≡ Ok (codes "a..b")
+unfolding mask_text
+row_mask_dots = refl

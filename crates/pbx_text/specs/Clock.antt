@@ -1,7 +1,22 @@
--- Fractions of a second (ProtoJSON Format: `Timestamp` and `Duration`; RFC 3339, section 5.6).
-use Rattle.std.specs.Prelude.{ℕ, ◌/◌, ◌%◌, ◌==◌, List, [], ◌∷◌, ◌++◌, length, take, drop, replicate, if◌then◌else◌, Option, Some, None}
+-- Fractions of a second, and texts of a fixed picture (ProtoJSON Format: `Timestamp` and `Duration`; RFC 3339, section 5.6).
+use Rattle.std.specs.Prelude.{ℕ, ◌/◌, ◌%◌, ◌&&◌, ◌==◌, List, [], ◌∷◌, ◌++◌, length, take, drop, replicate, Bool, true, false, if◌then◌else◌, Option, Some, None}
 use Rattle.std.specs.List.{take_while}
 use Rattle.pbx_text.specs.Decimal.{is_digit, digits_value, padded}
+
+-- a character of a picture: `0` stands for any digit, and all else for itself
+abbrev pub fits_mark : ℕ → ℕ → Bool
+fits_mark mark c = if mark == 48 then is_digit c else mark == c
+
+-- the text has the form of the picture
+abbrev pub fits_picture : List ℕ → List ℕ → Bool
+fits_picture [] [] = true
+fits_picture [] (c ∷ cs) = false
+fits_picture (m ∷ ms) [] = false
+fits_picture (m ∷ ms) (c ∷ cs) = fits_mark m c && fits_picture ms cs
+
+-- the number of so many digits from a place on
+abbrev pub digits_at : ℕ → ℕ → List ℕ → ℕ
+digits_at from count text = digits_value (take count (drop from text))
 
 -- the digits at the front
 abbrev pub front_digits : List ℕ → List ℕ

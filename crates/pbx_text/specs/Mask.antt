@@ -1,7 +1,8 @@
 -- Field masks (ProtoJSON Format: `FieldMask`, paths in lowerCamelCase, joined by commas; google/protobuf/field_mask.proto: "JSON Encoding of
 -- Field Masks").
-use Rattle.std.specs.Prelude.{ℕ, ◌+◌, ◌-◌, ◌&&◌, ◌||◌, ◌==◌, nat_le, List, [], ◌∷◌, length, Bool, true, false, not, if◌then◌else◌, Option, Some, None, option_map, Result}
-use Rattle.std.specs.List.{list_any, flat_map}
+use Rattle.std.specs.Prelude.{ℕ, ◌+◌, ◌-◌, ◌&&◌, ◌||◌, ◌==◌, nat_le, List, [], ◌∷◌, filter, length, Bool, true, false, not, if◌then◌else◌, Option}
+use Rattle.std.specs.Prelude.{Some, None, option_map, option_and_then, Result}
+use Rattle.std.specs.List.{list_any, flat_map, join_with_byte, slice_split}
 use Rattle.pbx_text.specs.Decimal.{or_form}
 use Rattle.pbx_text.specs.declared.fault.TextFault.{TextFault}
 
@@ -25,6 +26,19 @@ snake_char c = if is_upper c then 95 ∷ (c + 32) ∷ [] else c ∷ []
 abbrev pub snake_of : List ℕ → Option (List ℕ)
 snake_of part = if list_any (λ c. c == 95) part then None else Some (flat_map snake_char part)
 
+-- the pieces between commas that are not empty
+abbrev pub filled_pieces : List ℕ → List (List ℕ)
+filled_pieces text = filter is_filled (slice_split (λ c. c == 44) text)
+
+-- each in its other case, if each has one
+abbrev pub each_of : (List ℕ → Option (List ℕ)) → List (List ℕ) → Option (List (List ℕ))
+each_of f [] = Some []
+each_of f (p ∷ ps) = option_and_then (λ q. option_map (λ qs. q ∷ qs) (each_of f ps)) (f p)
+
+-- the paths that a mask text says: its pieces in snake_case, empty ones dropped; None: no mask text
+unfoldable pub mask_of : List ℕ → Option (List (List ℕ))
+mask_of text = each_of snake_of (filled_pieces text)
+
 -- `_` and an ASCII letter in lower case are the letter in upper case; a comma, an ASCII letter in upper case and any other `_` have no form
 abbrev pub camel_after : Bool → List ℕ → Option (List ℕ)
 camel_after false [] = Some []
@@ -46,3 +60,15 @@ snake_read part = or_form (snake_of part)
 -- the same of a path in lowerCamelCase
 abbrev pub camel_written : List ℕ → Result (List ℕ) TextFault
 camel_written path = or_form (camel_of path)
+
+-- the mask text that is written; None: a path is refused
+unfoldable pub mask_text : List (List ℕ) → Option (List ℕ)
+mask_text paths = option_map (join_with_byte 44) (each_of camel_of paths)
+
+-- the same of a mask text
+abbrev pub mask_read : List ℕ → Result (List (List ℕ)) TextFault
+mask_read text = or_form (mask_of text)
+
+-- the same of paths
+abbrev pub mask_written : List (List ℕ) → Result (List ℕ) TextFault
+mask_written paths = or_form (mask_text paths)

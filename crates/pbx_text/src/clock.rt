@@ -1,10 +1,45 @@
-ghost use Rattle.std.specs.Prelude.{◌≡◌, true, ◌≤◌, ◌<◌, ◌+◌, ◌++◌, ◌∷◌, [], if◌then◌else◌, nat_le, Some, None, IfOk, IfSome, IfErr, IsTrue, OnOk, option_map, get_or, replicate, string_bytes};
+ghost use Rattle.std.specs.Prelude.{◌≡◌, true, ◌≤◌, ◌<◌, ◌+◌, ◌++◌, ◌∷◌, [], if◌then◌else◌, nat_le, Some, None, IfOk, IfSome, IfErr, IsTrue, OnOk};
+ghost use Rattle.std.specs.Prelude.{option_map, get_or, replicate, string_bytes};
 ghost use Rattle.std.specs.List.{list_all};
 ghost use Rattle.pbx_text.specs.Decimal.{digits_value, is_digit, padded};
-ghost use Rattle.pbx_text.specs.Clock.{after_digits, fraction_of, fraction_text as fraction_text_of, front_digits, nanos_of_digits};
+ghost use Rattle.pbx_text.specs.Clock.{after_digits, fits_mark as fits_mark_of, fits_picture, fraction_of, fraction_text as fraction_text_of};
+ghost use Rattle.pbx_text.specs.Clock.{front_digits, nanos_of_digits};
 
 use pbx_wire::NoMemory;
 use std::alloc::Global;
+
+/// Whether the character is what a character of a picture stands for.
+fn fits_mark(mark: u8, c: u8) -> bool
+    ensures { result ≡ fits_mark_of mark c }
+{
+    if mark == b'0' {
+        c.is_ascii_digit()
+    } else {
+        mark == c
+    }
+}
+
+/// Whether the text has the form of the picture, in which `0` stands for any digit and all else for itself.
+#[tactic(auto, using(crate::proofs::Pictures::mark_fits, crate::proofs::Pictures::mark_fails, crate::proofs::Pictures::marks_end, crate::proofs::Pictures::text_ends,))]
+pub(crate) fn fits(picture: &[u8], text: &[u8]) -> bool
+    ensures { result ≡ fits_picture picture.now text.now }
+{
+    let mut marks = picture;
+    let mut rest = text;
+    'marks: loop {
+        let [mark, later_marks @ ..] = marks else {
+            return rest.is_empty();
+        };
+        let [c, behind @ ..] = rest else {
+            return false;
+        };
+        if !fits_mark(*mark, *c) {
+            return false;
+        }
+        marks = later_marks;
+        rest = behind;
+    }
+}
 
 /// The digits at the front, and the text behind them.
 pub(crate) fn split_digits(text: &[u8]) -> (&[u8], &[u8])

@@ -1,4 +1,4 @@
-//! The texts that JSON has for numbers, bytes and durations, and the parts of field masks, each by one grammar (ProtoJSON Format).
+//! The texts that JSON has for numbers, bytes, durations, timestamps and field masks, each by one grammar (ProtoJSON Format).
 #![tactic(auto)]
 
 mod base_64;
@@ -8,10 +8,12 @@ mod duration;
 mod fault;
 mod laws;
 mod mask;
+mod timestamp;
 
 pub use base_64::{read_base64, write_base64};
 pub use decimal::{read_signed, read_unsigned, write_signed, write_unsigned};
 pub use duration::{read_duration, write_duration};
 pub use fault::TextFault;
-pub use laws::{bytes_read_back, durations_read_back, numbers_read_back};
-pub use mask::{camel_case_to_snake_case, snake_case_to_camel_case};
+pub use laws::{bytes_read_back, durations_read_back, masks_read_back, numbers_read_back};
+pub use mask::{camel_case_to_snake_case, read_mask, snake_case_to_camel_case, write_mask};
+pub use timestamp::{read_timestamp, write_timestamp};

@@ -3,15 +3,19 @@
 //! A row's third field and those behind it are what the asked word needs: of `signed` the least and the greatest number
 //! and the text, of `unsigned` the greatest number and the text, of `base64` the text, of `write-signed` and
 //! `write-unsigned` the number, of `write-base64` the bytes, of `duration` the text, of `write-duration` the seconds and the
-//! nanoseconds, of `snake` a part of a mask text, of `camel` a path. Bytes are answered as hexadecimal digits, a duration as its seconds and its nanoseconds.
+//! nanoseconds, of `snake` a part of a mask text, of `camel` a path, of `mask` a mask text, of `write-mask` the paths, of
+//! `timestamp` the text, of `write-timestamp` the seconds and the nanoseconds. Bytes are answered as hexadecimal digits, a duration and a timestamp as its seconds and its
+//! nanoseconds, paths each behind a blank.
 #![tactic(auto)]
 
 mod stop;
 
 use pbx_text::{
-    camel_case_to_snake_case, read_base64, read_duration, read_signed, read_unsigned,
-    snake_case_to_camel_case, write_base64, write_duration, write_signed, write_unsigned,
+    camel_case_to_snake_case, read_base64, read_duration, read_mask, read_signed, read_timestamp,
+    read_unsigned, snake_case_to_camel_case, write_base64, write_duration, write_mask,
+    write_signed, write_timestamp, write_unsigned,
 };
+use pbx_wire::{Text, Texts};
 use std::alloc::{AllocError, Global};
 use std::io;
 use stop::Stop;
@@ -77,6 +81,34 @@ fn camel_text(alloc: Global, row: &Row) -> Result<String, Stop> {
     Ok(String::from_str(alloc, text.as_str())?)
 }
 
+fn mask_paths(alloc: Global, row: &Row) -> Result<String, Stop> {
+    let mut told = String::new(alloc);
+    for path in read_mask(alloc, row.text(0))?.as_slice() {
+        told.push(' ')?;
+        told.push_str(path.as_str())?;
+    }
+    Ok(told)
+}
+
+fn written_mask(alloc: Global, row: &Row) -> Result<String, Stop> {
+    let mut paths = Texts::new(alloc);
+    for at in 0..row.len() {
+        paths.add(Text::from_str(alloc, row.text(at))?)?;
+    }
+    let text = write_mask(alloc, &paths)?;
+    Ok(String::from_str(alloc, text.as_str())?)
+}
+
+fn timestamp_text(alloc: Global, row: &Row) -> Result<String, Stop> {
+    let (seconds, nanos) = read_timestamp(row.text(0))?;
+    Ok(format!(in alloc; "{seconds} {nanos}")?)
+}
+
+fn written_timestamp(alloc: Global, row: &Row) -> Result<String, Stop> {
+    let text = write_timestamp(alloc, signed(row, 0), nanos(row, 1))?;
+    Ok(String::from_str(alloc, text.as_str())?)
+}
+
 /// What the row's word asks for.
 fn answer(alloc: Global, row: &Row) -> Result<String, Stop> {
     match row.asked() {
@@ -90,6 +122,10 @@ fn answer(alloc: Global, row: &Row) -> Result<String, Stop> {
         "write-duration" => written_duration(alloc, row),
         "snake" => snake_text(alloc, row),
         "camel" => camel_text(alloc, row),
+        "mask" => mask_paths(alloc, row),
+        "write-mask" => written_mask(alloc, row),
+        "timestamp" => timestamp_text(alloc, row),
+        "write-timestamp" => written_timestamp(alloc, row),
         _ => Err(Stop::NoSuchWord),
     }
 }
