@@ -1,10 +1,13 @@
 -- Sets of files, which are read file by file: each file has 100 levels of its own.
-use Rattle.std.specs.Prelude.{ℕ, List, Option}
+use Rattle.std.specs.Prelude.{ℕ, nat_lt, List, Bool, false, Option}
 use Rattle.pbx_wire.specs.declared.error.DecodeError.{DecodeError}
-use Rattle.pbx_meaning.specs.Content.{Content}
+use Rattle.pbx_meaning.specs.Content.{Content, Val, number, truth, text, octets, message, many, keyed}
 use Rattle.pbx_meaning.specs.Meaning.{parts_meaning_of}
 use Rattle.pbx_meaning.specs.Same.{DecodesParts}
 use Rattle.pbx_meaning.specs.Faults.{IsFaultOfParts}
+use Rattle.pbx_meaning.specs.Sound.{depth}
+use Rattle.pbx_desc_records.specs.declared.file.FileDescriptorProto.{FileDescriptorProto}
+use Rattle.pbx_desc.specs.Content.{file_content}
 use Rattle.pbx_desc_shape.specs.Shape.{descriptor_shape}
 
 -- what bytes mean as a FileDescriptorSet
@@ -18,3 +21,19 @@ DecodesSet bytes c = DecodesParts descriptor_shape 0 bytes c
 -- the rule that the bytes break as a FileDescriptorSet, and the offset of the key of the innermost record that breaks it
 abbrev pub IsSetFault : List ℕ → DecodeError → Type 0
 IsSetFault bytes e = IsFaultOfParts descriptor_shape 0 bytes e
+
+-- ---- files that nest too many levels to be read again
+
+-- a message with more than 100 levels below its top
+abbrev pub is_deep : Val → Bool
+is_deep (number z) = false
+is_deep (truth b) = false
+is_deep (text s) = false
+is_deep (octets b) = false
+is_deep (message c) = nat_lt 100 (depth c)
+is_deep (many vs) = false
+is_deep (keyed ps) = false
+
+-- the content of the file has more than 100 levels below its top
+abbrev pub is_deep_file : FileDescriptorProto → Bool
+is_deep_file f = nat_lt 100 (depth (file_content f))

@@ -1,15 +1,16 @@
-ghost use Rattle.std.specs.Prelude.{◌≡◌, ◌≤◌, [], ◌∷◌, ◌++◌, map, IfOk, OnOk, OnErr};
+ghost use Rattle.std.specs.Prelude.{◌≡◌, ◌≤◌, [], ◌∷◌, ◌++◌, None, map, position, List as ListOf, IfOk, OnOk, OnErr};
 ghost use Rattle.pbx_meaning.specs.Encoding.{encoded};
 ghost use Rattle.pbx_meaning.specs.Same.{Decodes};
-ghost use Rattle.pbx_meaning.specs.Sound.{depth, PartsFit};
+ghost use Rattle.pbx_meaning.specs.Sound.{depth as depth_of, PartsFit};
 ghost use Rattle.pbx_codec.specs.View.{val_of};
 ghost use Rattle.pbx_desc_shape.specs.Shape.{descriptor_shape};
-ghost use Rattle.pbx_desc.specs.Content.{file_value, set_content};
-ghost use Rattle.pbx_desc.specs.Sets.{DecodesSet};
+ghost use Rattle.pbx_desc_records.specs.declared.file.FileDescriptorProto.{FileDescriptorProto as AFile};
+ghost use Rattle.pbx_desc.specs.Content.{file_value, set_content, files_content};
+ghost use Rattle.pbx_desc.specs.Sets.{DecodesSet, is_deep as is_deep_value, is_deep_file};
 
 use crate::contents::{FieldList, HasContents};
 use crate::encoding::to_bytes;
-use pbx_codec::Held;
+use pbx_codec::{Held, depth};
 use pbx_desc_records::FileDescriptorProto;
 use pbx_desc_shape::place;
 use pbx_wire::{List, NoMemory, Recs};
@@ -41,6 +42,23 @@ impl Model for FileSet {
     ghost invariant = { λ set. AreOf descriptor_shape (Message 1) (map val_of set.files) };
 }
 
+/// Whether it is a message that nests more than 100 levels.
+fn is_deep(value: &Held) -> bool
+    ensures { result ≡ is_deep_value (val_of value.now) }
+{
+    match value {
+        Held::Message(contents) => depth(contents) > 100,
+        _ => false,
+    }
+}
+
+/// The index of the first such message.
+fn deep_index(values: &[Held]) -> Option<usize>
+    ensures { result ≡ position (λ v. is_deep_value (val_of v)) values.now }
+{
+    values.iter().position(|value| is_deep(value))
+}
+
 impl FileSet {
     /// No files; takes no memory.
     pub fn new(alloc: Global) -> FileSet
@@ -61,10 +79,18 @@ impl FileSet {
         Ok(())
     }
 
+    /// The index of the first file that nests more than 100 levels, which no reader of the set takes.
+    pub fn deep_file(&self) -> Option<usize>
+        ensures first { (files : ListOf AFile) → map val_of self.now ≡ map file_value files → result ≡ position is_deep_file files }
+        ensures fits { (files : ListOf AFile) → map val_of self.now ≡ map file_value files → result ≡ None → PartsFit (files_content files) }
+    {
+        deep_index(self.files.as_slice())
+    }
+
     /// The canonical encoding of the set. The only error is want of memory.
     pub fn encode(self, alloc: Global) -> Result<Vec<u8>, NoMemory>
         ensures bytes { IfOk result (λ v. v.items ≡ encoded descriptor_shape 0 (set_content (map val_of self))) }
-        ensures decodes { IfOk result (λ v. depth (set_content (map val_of self)) ≤ 100
+        ensures decodes { IfOk result (λ v. depth_of (set_content (map val_of self)) ≤ 100
             → Decodes descriptor_shape 0 v.items (set_content (map val_of self))) }
         ensures parts { IfOk result (λ v. PartsFit (set_content (map val_of self)) → DecodesSet v.items (set_content (map val_of self))) }
     {
