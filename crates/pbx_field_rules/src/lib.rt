@@ -9,7 +9,7 @@ mod ranges;
 mod types;
 
 pub use labels::bad_labels;
-pub use numbers::bad_field_numbers;
+pub use numbers::{bad_field_numbers, is_field_number};
 pub use oneofs::bad_oneofs;
 pub use ranges::NumberRanges;
 pub use types::bad_types;

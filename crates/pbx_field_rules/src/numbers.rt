@@ -19,8 +19,8 @@ use pbx_wire::NoMemory;
 use std::alloc::Global;
 use std::collections::BTreeSet;
 
-/// Whether a field may have the number.
-fn is_field_number(number: Option<i32>) -> bool
+/// Whether a field may have the number: 1 to 536,870,911 without 19,000 to 19,999.
+pub fn is_field_number(number: Option<i32>) -> bool
     ensures { result ≡ is_field_number_of number }
 {
     match number {

@@ -28,7 +28,7 @@ fn is_entry(message: &DescriptorProto) -> bool
     }
 }
 
-fn is_repeated(field: &FieldDescriptorProto) -> bool
+pub(crate) fn is_repeated(field: &FieldDescriptorProto) -> bool
     ensures { result ≡ is_repeated_of field.now }
 {
     match field.label {
