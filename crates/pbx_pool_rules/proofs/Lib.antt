@@ -1,0 +1,4 @@
+pub mod Listed
+pub mod Looked
+pub mod Prefixes
+pub mod Twice
