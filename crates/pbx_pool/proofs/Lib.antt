@@ -1,0 +1,7 @@
+pub mod Numbered
+pub mod Maps
+pub mod Walk
+pub mod Told
+pub mod Whole
+pub mod Indexed
+pub mod Found

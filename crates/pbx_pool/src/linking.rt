@@ -1,0 +1,91 @@
+// The linked record of a file among the files of a pool.
+ghost use Rattle.std.specs.Prelude.{◌≡◌, true, None, IfOk, IfErr, OnOk};
+ghost use Rattle.pbx_scope.specs.Scope.{visible};
+ghost use Rattle.pbx_linked.specs.Linked.{linked_record};
+ghost use Rattle.pbx_rules.specs.Breaches.{keeps_rules, IsFirstOf};
+ghost use Rattle.pbx_pool.specs.Refused.{IsRefused};
+
+use crate::pool::Pool;
+use crate::refusal::Refusal;
+use pbx_definitions::FileParts;
+use pbx_desc_records::FileDescriptorProto;
+use pbx_linked::linked_file;
+use pbx_rules::{breach_is_first, first_breach, first_breach_alone, rules_are_kept};
+use pbx_visible::VisibleFiles;
+use std::alloc::Global;
+
+/// The linked record of the file that sees these files, or the first of the rules 6 to 16 that it breaks.
+fn linked_seeing(
+    alloc: Global,
+    pool: &Pool,
+    seen: &VisibleFiles<'_, Pool>,
+    parts: &FileParts<'_>,
+) -> Result<FileDescriptorProto, Refusal>
+    requires alone { IsFirstOf pool.now (visible pool.now parts.now) parts.now 1 5 None }
+    requires seen { seen.now ≡ visible pool.now parts.now }
+    ensures kept { OnOk result (keeps_rules pool.now parts.now ≡ true) }
+    ensures linked { IfOk result (λ linked. linked ≡ linked_record pool.now parts.now) }
+    ensures refused { IfErr result (IsRefused pool.now parts.now) }
+{
+    breach_is_first();
+    rules_are_kept();
+    match first_breach(alloc, pool, seen, parts) {
+        Ok(None) => match linked_file(alloc, seen, parts.file()) {
+            Ok(linked) => Ok(linked),
+            Err(_) => Err(Refusal::NoMemory),
+        },
+        Ok(Some(breach)) => Err(Refusal::Breach(breach)),
+        Err(_) => Err(Refusal::NoMemory),
+    }
+}
+
+/// The linked record of the file of these parts, which breaks none of the rules 1 to 5.
+fn linked_behind(
+    alloc: Global,
+    pool: &Pool,
+    parts: &FileParts<'_>,
+) -> Result<FileDescriptorProto, Refusal>
+    requires { IsFirstOf pool.now (visible pool.now parts.now) parts.now 1 5 None }
+    ensures kept { OnOk result (keeps_rules pool.now parts.now ≡ true) }
+    ensures linked { IfOk result (λ linked. linked ≡ linked_record pool.now parts.now) }
+    ensures refused { IfErr result (IsRefused pool.now parts.now) }
+{
+    match VisibleFiles::new(alloc, pool, parts) {
+        Ok(seen) => linked_seeing(alloc, pool, &seen, parts),
+        Err(_) => Err(Refusal::NoMemory),
+    }
+}
+
+/// The linked record of the file of these parts, or the first rule that it breaks.
+fn linked_parts(
+    alloc: Global,
+    pool: &Pool,
+    parts: &FileParts<'_>,
+) -> Result<FileDescriptorProto, Refusal>
+    ensures kept { OnOk result (keeps_rules pool.now parts.now ≡ true) }
+    ensures linked { IfOk result (λ linked. linked ≡ linked_record pool.now parts.now) }
+    ensures refused { IfErr result (IsRefused pool.now parts.now) }
+{
+    breach_is_first();
+    match first_breach_alone(alloc, pool, parts) {
+        Ok(None) => linked_behind(alloc, pool, parts),
+        Ok(Some(breach)) => Err(Refusal::Breach(breach)),
+        Err(_) => Err(Refusal::NoMemory),
+    }
+}
+
+/// The linked record of the file among those of the pool, or the first rule that it breaks.
+pub(crate) fn linked(
+    alloc: Global,
+    pool: &Pool,
+    file: &FileDescriptorProto,
+) -> Result<FileDescriptorProto, Refusal>
+    ensures kept { OnOk result (keeps_rules pool.now file.now ≡ true) }
+    ensures linked { IfOk result (λ linked. linked ≡ linked_record pool.now file.now) }
+    ensures refused { IfErr result (IsRefused pool.now file.now) }
+{
+    match FileParts::new(alloc, file) {
+        Ok(parts) => linked_parts(alloc, pool, &parts),
+        Err(_) => Err(Refusal::NoMemory),
+    }
+}

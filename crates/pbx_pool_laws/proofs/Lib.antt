@@ -1,0 +1,12 @@
+pub mod Lists
+pub mod Kept
+pub mod Grown
+pub mod Behind
+pub mod Own
+pub mod Distinct
+pub mod Counted
+pub mod Named
+pub mod Reached
+pub mod LinkedParts
+pub mod Types
+pub mod References
