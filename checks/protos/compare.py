@@ -1,11 +1,12 @@
 """Compares our record of each source file with the one that protoc makes of it.
 
-    compare.py PROGRAM FOLDER
+    compare.py PROGRAM LINKING FOLDER
 
-PROGRAM is protox_records, and FOLDER holds the files, all of which protoc takes; the files that are installed with protoc
-are compared too. From protoc's record is taken away what linking adds to it, and its locations are brought to those that
-our profile lists; then both have to be equal, and ours has to have no byte more than the usual encoding. Prints the
-differences, and ends with 0 where there are none.
+PROGRAM is protox_records, LINKING is pbx_pool_rows, and FOLDER holds the files, all of which protoc takes; the files that are
+installed with protoc are compared too. From protoc's record is taken away what linking adds to it, and its locations are brought
+to those that our profile lists; then both have to be equal, and ours has to have no byte more than the usual encoding. Then our
+records, with those of their imports, are linked, and the linked records have to be equal to protoc's. Prints the differences, and
+ends with 0 where there are none.
 """
 import difflib
 import glob
@@ -211,6 +212,65 @@ def differences(ours_bytes, theirs):
     yield from difflib.unified_diff(str(ours).split("\n"), str(theirs).split("\n"), "ours", "protoc's", lineterm="")
 
 
+def without_info(record):
+    file = pb.FileDescriptorProto.FromString(record)
+    file.ClearField("source_code_info")
+    return file.SerializeToString()
+
+
+def extensions_of(holder):
+    """The extensions of a file or a message, with those of nested messages."""
+    yield from holder.extension
+    for message in holder.message_type if isinstance(holder, pb.FileDescriptorProto) else holder.nested_type:
+        yield from extensions_of(message)
+
+
+def protoc_set(folder, name):
+    """The linked records of the file and of all that it imports, in protoc's order."""
+    with tempfile.NamedTemporaryFile() as out:
+        words = ["protoc", "-I.", "--include_imports", f"--descriptor_set_out={out.name}", name]
+        subprocess.run(words, cwd=folder, check=True, capture_output=True)
+        files = pb.FileDescriptorSet.FromString(out.read()).file
+    for file in files:
+        for extension in extensions_of(file):
+            # protoc gives extensions a JSON name too, which no source may write; their key in JSON is another.
+            extension.ClearField("json_name")
+        for service in file.service:
+            for method in service.method:
+                # protoc keeps an empty record of options for an empty block.
+                if not method.options.ListFields():
+                    method.ClearField("options")
+    return list(files)
+
+
+def linked_records(linking, rows):
+    """What our pool makes of each row's records: the set of the linked ones, or the line that refuses them."""
+    asked = "".join("\t".join([name, "linked", *(record.hex() for record in records)]) + "\n" for name, records in rows.items())
+    ran = subprocess.run([linking], input=asked, capture_output=True, text=True, check=True)
+    told = dict(line.split("\t", 1) for line in ran.stdout.splitlines())
+    return {name: told.get(name, "no answer") for name in rows}
+
+
+def count_linked_differing(linking, folder, names, ours):
+    """Prints how the linked records of these files and of their imports differ, and answers for how many files they do."""
+    theirs = {name: protoc_set(folder, name) for name in names}
+    rows = {name: [without_info(ours[file.name]) for file in theirs[name]] for name in names}
+    wrong = 0
+    for name, told in linked_records(linking, rows).items():
+        try:
+            mine = list(pb.FileDescriptorSet.FromString(bytes.fromhex(told)).file)
+        except ValueError:
+            print(f"{name}: linking tells {told}")
+            wrong += 1
+            continue
+        if mine != theirs[name]:
+            wrong += 1
+            for one, other in zip(mine, theirs[name]):
+                for line in difflib.unified_diff(str(one).split("\n"), str(other).split("\n"), "ours, linked", "protoc's", lineterm=""):
+                    print(f"{name}: {line}")
+    return wrong
+
+
 def installed_files():
     """The folder of the files that are installed with protoc 3, and their names; none of a later protoc, whose files have
     options with aggregate values, which our language leaves out."""
@@ -222,28 +282,29 @@ def installed_files():
     return folder, sorted(found)
 
 
-def count_differing(program, folder, names):
-    """Prints how our records of these files differ, and answers how many do."""
-    ours = our_records(program, folder, names)
+def count_differing(program, linking, folder, names, ours):
+    """Prints how our records of these files differ, adds them to `ours`, and answers how many do."""
+    ours.update(our_records(program, folder, names))
     wrong = 0
     for name in names:
         lines = list(differences(ours[name], protoc_record(folder, name)))
         wrong += bool(lines)
         for line in lines:
             print(f"{name}: {line}")
-    return wrong
+    return wrong or count_linked_differing(linking, folder, names, ours)
 
 
-def main(program, folder):
-    program = os.path.abspath(program)
+def main(program, linking, folder):
+    program, linking = os.path.abspath(program), os.path.abspath(linking)
     names = sorted(it for it in os.listdir(folder) if it.endswith(".proto"))
     there, installed = installed_files()
-    wrong = count_differing(program, folder, names) + count_differing(program, there, installed)
+    ours = {}
+    wrong = count_differing(program, linking, there, installed, ours) + count_differing(program, linking, folder, names, ours)
     count = f"{len(names)} files and {len(installed)} that are installed with protoc"
     if wrong or not names:
         print(f"differential: {wrong} differ from protoc of {count}")
         return 1
-    print(f"differential: passed, {count} are as protoc has them")
+    print(f"differential: passed, {count} are as protoc has them, before linking and linked")
     return 0
 
 
