@@ -15,7 +15,7 @@ use Rattle.pbx_definitions.proofs.Told.{Each}
 use Rattle.pbx_tables.specs.declared.entry.Entry.{Entry}
 use Rattle.pbx_tables.specs.declared.entry.MessageEntry.{MessageEntry}
 use Rattle.pbx_tables.specs.declared.entry.Entries.{Entries}
-use Rattle.pbx_tables.specs.Entries.{message_entry, enum_entry, extension_entry, service_entry, with_item, AreEntries}
+use Rattle.pbx_tables.specs.Entries.{message_entry, enum_entry, extension_entry, service_entry, in_brackets, json_name, with_item, AreEntries}
 use Rattle.pbx_tables.specs.Places.{holder, message_at, enum_at, extension_at}
 use Rattle.pbx_tables.proofs.Standing.{Stands, EnumStands, ExtensionStands, IsItem, items, each_so, messages_stand, enums_stand, extensions_stand}
 
@@ -121,3 +121,12 @@ service_is f e es ss i k x r are is here at there made =
 -- an index of no entry is that of no part
 pub none_is : {X E : Type 0} (h : X → E) (ps : List X) (kept es : List E) (i : ℕ) → kept ≡ map h ps → es ≡ kept → None ≡ slice_get es i → None ≡ slice_get ps i
 none_is h ps kept es i is of none = missing h ps es i (of ∙ is) none
+
+bracketed : (o : Option (Part FieldDescriptorProto)) → option_map in_brackets (option_map extension_entry o) ≡ option_map json_name o
+bracketed None = refl
+bracketed (Some p) = refl
+
+pub json_name_is : (f : FileDescriptorProto) (e : Entries) (names : List (List ℕ)) (i : ℕ) → AreEntries f e → names ≡ e.json_names → slice_get names i ≡ option_map json_name (slice_get (extensions f) i)
+json_name_is f e names i are is =
+    ap (λ (ns : List (List ℕ)). slice_get ns i) (is ∙ are.4 ∙ ap (map in_brackets) are.2) ∙ slice_get-map in_brackets (map extension_entry (extensions f)) i
+    ∙ ap (option_map in_brackets) (slice_get-map extension_entry (extensions f) i) ∙ bracketed (slice_get (extensions f) i)

@@ -1,5 +1,5 @@
 -- What is kept of the parts of a file beside its record.
-use Rattle.std.specs.Prelude.{◌≡◌, ℕ, List, map, Option, option_map, option_and_then, slice_get}
+use Rattle.std.specs.Prelude.{◌≡◌, ℕ, List, [], ◌∷◌, ◌++◌, map, Option, option_map, option_and_then, slice_get}
 use Rattle.pbx_desc_records.specs.declared.enumeration.EnumDescriptorProto.{EnumDescriptorProto}
 use Rattle.pbx_desc_records.specs.declared.field.FieldDescriptorProto.{FieldDescriptorProto}
 use Rattle.pbx_desc_records.specs.declared.file.FileDescriptorProto.{FileDescriptorProto}
@@ -31,11 +31,20 @@ extension_entry p = entry (λ (x : FieldDescriptorProto). x.name) p
 abbrev pub service_entry : Part ServiceDescriptorProto → Entry
 service_entry p = entry (λ (s : ServiceDescriptorProto). s.name) p
 
+-- the full name in brackets
+abbrev pub in_brackets : Entry → List ℕ
+in_brackets e = 91 ∷ e.name ++ 93 ∷ []
+
+-- the key of an extension in canonical JSON (Protocol Buffers "ProtoJSON Format": extensions stand under `[full.name]`)
+abbrev pub json_name : Part FieldDescriptorProto → List ℕ
+json_name p = 91 ∷ field_name p ++ 93 ∷ []
+
 -- the entries are those of the file
 abbrev pub AreEntries : FileDescriptorProto → Entries → Type 0
 AreEntries f e =
     (e.messages ≡ map message_entry (messages f)) × (e.enums ≡ map enum_entry (enums f))
     × (e.extensions ≡ map extension_entry (extensions f)) × (e.services ≡ map service_entry (services f))
+    × (e.json_names ≡ map in_brackets e.extensions)
 
 -- the full name of the field of this index in the message of that one
 abbrev pub name_of_field : ℕ → ℕ → FileDescriptorProto → Option (List ℕ)

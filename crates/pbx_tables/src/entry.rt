@@ -2,7 +2,7 @@
 ghost use Rattle.std.specs.Prelude.{◌≡◌, [], map, IfOk};
 ghost use Rattle.pbx_definitions.specs.Names.{text_or_empty as text_or_empty_of, qualified};
 ghost use Rattle.pbx_definitions.specs.Definitions.{package_of, parts as parts_of};
-ghost use Rattle.pbx_tables.specs.Entries.{entry as entry_of, message_entry as message_entry_of, service_entry as service_entry_of, AreEntries};
+ghost use Rattle.pbx_tables.specs.Entries.{entry as entry_of, message_entry as message_entry_of, service_entry as service_entry_of, in_brackets, AreEntries};
 ghost use Rattle.pbx_desc_records.specs.declared.field.FieldDescriptorProto.{FieldDescriptorProto as FieldOf};
 
 use pbx_definitions::{FileParts, Part, name_in, place_in, text_or_empty};
@@ -36,6 +36,8 @@ pub struct Entries {
     pub enums: List<Entry>,
     pub extensions: List<Entry>,
     pub services: List<Entry>,
+    /// The full names of the extensions in brackets.
+    pub json_names: List<Text>,
 }
 
 /// A record that has a name of its own.
@@ -158,6 +160,17 @@ fn service_entries(
     Ok(table)
 }
 
+/// The full names of these parts in brackets.
+fn bracketed_names(alloc: Global, entries: &[Entry]) -> Result<List<Text>, NoMemory>
+    ensures { IfOk result (λ names. names ≡ map in_brackets entries.now) }
+{
+    let mut names = List::with_capacity(alloc, entries.len())?;
+    for entry in entries {
+        names.add(Text::joined(alloc, &["[", entry.name.as_str(), "]"])?)?;
+    }
+    Ok(names)
+}
+
 /// The entries of a file. The only error is want of memory.
 pub(crate) fn file_entries(alloc: Global, file: &FileDescriptorProto) -> Result<Entries, NoMemory>
     ensures { IfOk result (AreEntries file.now) }
@@ -167,10 +180,12 @@ pub(crate) fn file_entries(alloc: Global, file: &FileDescriptorProto) -> Result<
     let enums = part_entries(alloc, parts.enums())?;
     let extensions = part_entries(alloc, parts.extensions())?;
     let services = service_entries(alloc, text_or_empty(&file.package), file.service.as_slice())?;
+    let json_names = bracketed_names(alloc, extensions.as_slice())?;
     Ok(Entries {
         messages,
         enums,
         extensions,
         services,
+        json_names,
     })
 }

@@ -2,7 +2,7 @@
 ghost use Rattle.std.specs.Prelude.{◌≡◌, length, option_copied, option_map, slice_get, IfOk};
 ghost use Rattle.pbx_definitions.specs.Definitions.{messages, enums, extensions, services, message_name as message_name_of};
 ghost use Rattle.pbx_definitions.specs.Definitions.{enum_name as enum_name_of, service_name as service_name_of, field_name as field_name_of};
-ghost use Rattle.pbx_tables.specs.Entries.{with_item, name_of_field};
+ghost use Rattle.pbx_tables.specs.Entries.{with_item, name_of_field, json_name};
 
 use crate::entry::{Entries, Entry, file_entries};
 use crate::walk::{enum_at, extension_at, holder, item, message_at};
@@ -181,6 +181,16 @@ impl FileTable {
         ensures { option_copied result ≡ option_map field_name_of (slice_get (extensions self.now) index) }
     {
         name_of(item(self.entries.extensions.as_slice(), index))
+    }
+
+    /// The key in canonical JSON of the extension of this index: its full name in brackets.
+    pub fn extension_json_name(&self, index: usize) -> Option<&str>
+        ensures { option_copied result ≡ option_map json_name (slice_get (extensions self.now) index) }
+    {
+        match item(self.entries.json_names.as_slice(), index) {
+            Some(name) => Some(name.as_str()),
+            None => None,
+        }
     }
 
     /// The full name of the service of this index.
