@@ -1,0 +1,68 @@
+// The shapes of enums.
+ghost use Rattle.std.specs.Prelude.{◌≡◌, ◌++◌, IfOk, OnOk, map};
+ghost use Rattle.pbx_definitions.specs.Definitions.{enums as enums_of};
+ghost use Rattle.pbx_described.specs.Descriptors.{all_enums};
+ghost use Rattle.pbx_shapes.specs.Shapes.{enum_shape as enum_shape_of};
+ghost use Rattle.pbx_shapes.specs.Items.{item_value, part_enum};
+
+use crate::records::{signed_or_zero, text_copy};
+use pbx_definitions::{PartRef, name_in, text_or_empty};
+use pbx_desc_records::{EnumDescriptorProto, EnumValueDescriptorProto};
+use pbx_meaning::{EnumShape, EnumValueShape};
+use pbx_pool::Pool;
+use pbx_tables::FileTable;
+use pbx_wire::{List, NoMemory};
+use std::alloc::Global;
+
+/// The shapes of the values of an enum. The only error is want of memory.
+fn value_shapes(
+    alloc: Global,
+    values: &[EnumValueDescriptorProto],
+) -> Result<List<EnumValueShape>, NoMemory>
+    ensures { IfOk result (λ shapes. shapes ≡ map item_value values.now) }
+{
+    let mut shapes = List::with_capacity(alloc, values.len())?;
+    for value in values {
+        let name = text_copy(alloc, &value.name)?;
+        let number = signed_or_zero(value.number);
+        shapes.add(EnumValueShape { name, number })?;
+    }
+    Ok(shapes)
+}
+
+/// The shape of an enum. The only error is want of memory.
+#[tactic(auto, unfolding(crate::specs::Items::part_enum))]
+fn enum_shape(alloc: Global, part: &PartRef<'_, EnumDescriptorProto>) -> Result<EnumShape, NoMemory>
+    ensures { IfOk result (λ shape. shape ≡ part_enum part.now) }
+{
+    let item = part.item();
+    let full_name = name_in(alloc, part.scope(), text_or_empty(&item.name))?;
+    let values = value_shapes(alloc, item.value.as_slice())?;
+    Ok(EnumShape { full_name, values })
+}
+
+/// Adds the enums of a file.
+fn add_enums(alloc: Global, table: &FileTable, shapes: &mut List<EnumShape>) -> Result<(), NoMemory>
+    ensures { OnOk result (shapes.new ≡ shapes.old ++ map part_enum (enums_of table.now)) }
+{
+    for index in 0..table.enum_count() {
+        let Some(part) = table.enumeration(index) else {
+            unreachable!();
+        };
+        let shape = enum_shape(alloc, &part)?;
+        shapes.add(shape)?;
+    }
+    Ok(())
+}
+
+/// The enums of the pool, file by file. The only error is want of memory.
+pub(crate) fn enum_shapes(alloc: Global, pool: &Pool) -> Result<List<EnumShape>, NoMemory>
+    ensures { IfOk result (λ shapes. shapes ≡ map enum_shape_of (all_enums pool.now)) }
+{
+    let mut shapes = List::new(alloc);
+    let tables = pool.tables();
+    for table in tables {
+        add_enums(alloc, table.as_ref(), &mut shapes)?;
+    }
+    Ok(shapes)
+}
