@@ -1,11 +1,14 @@
-pub mod Camel
-pub mod Searched
-pub mod Seen
 pub mod Pooled
-pub mod LookedUp
-mod Rows
-mod MapRow
-pub mod Flat
-pub mod Proper
-pub mod Behind
-pub mod Shallow
+pub mod Parts
+pub mod Walk
+pub mod Named
+pub mod Dotted
+pub mod References
+pub mod Types
+pub mod FirstNamed
+pub mod Sole
+pub mod Left
+pub mod Only
+pub mod ExtensionsOnce
+pub mod Extended
+pub mod Members

@@ -1,11 +1,3 @@
-pub mod Described
-pub mod Shapes
-pub mod Flat
-pub mod Linked
-pub mod Rules
-pub mod Built
+pub mod Tables
+pub mod Kinds
 pub mod Pool
-pub mod Found
-pub mod Descriptors
-pub mod Laws
-pub mod Own

@@ -1,24 +1,28 @@
-// The set of the files of a pool, as bytes.
-ghost use Rattle.std.specs.Prelude.{◌≡◌, IfOk, map};
+// The files of a pool, to be written.
+ghost use Rattle.std.specs.Prelude.{◌≡◌, ◌≤◌, IfOk, map};
 ghost use Rattle.pbx_meaning.specs.Encoding.{encoded};
-ghost use Rattle.pbx_meaning.specs.Sound.{PartsFit};
+ghost use Rattle.pbx_meaning.specs.Same.{Decodes};
+ghost use Rattle.pbx_meaning.specs.Sound.{PartsFit, depth};
 ghost use Rattle.pbx_codec.specs.View.{val_of};
 ghost use Rattle.pbx_desc_shape.specs.Shape.{descriptor_shape};
-ghost use Rattle.pbx_desc.specs.Content.{file_value, files_content};
+ghost use Rattle.pbx_desc.specs.Content.{file_content, file_value, files_content};
 ghost use Rattle.pbx_desc.specs.Sets.{DecodesSet};
 
+use crate::file::FileDescriptor;
 use crate::pool::DescriptorPool;
-use pbx_desc::{FileDescriptorProto, FileSet, levels_bound_depth};
-use pbx_shared::Shared;
+use pbx_desc::{FileSet, Message};
+use pbx_desc_records::FileDescriptorProto;
 use pbx_wire::NoMemory;
 use std::alloc::Global;
 
-fn file_set(alloc: Global, files: &[Shared<FileDescriptorProto>]) -> Result<FileSet, NoMemory>
-    ensures { IfOk result (λ set. map val_of set ≡ map file_value files.now) }
+/// The files of a pool in order, to be written as a set. The only error is want of memory.
+pub fn file_set(alloc: Global, pool: &DescriptorPool) -> Result<FileSet, NoMemory>
+    ensures { IfOk result (λ set. map val_of set ≡ map file_value pool.now) }
 {
+    let tables = pool.tables();
     let mut set = FileSet::new(alloc);
-    for file in files {
-        set.add(alloc, file.as_ref())?;
+    for table in tables {
+        set.add(alloc, table.as_ref().file())?;
     }
     Ok(set)
 }
@@ -27,13 +31,28 @@ impl DescriptorPool {
     /// The canonical encoding of the set of all files. The only error is want of memory.
     pub fn encode_to_vec(&self) -> Result<Vec<u8>, NoMemory>
         ensures bytes { IfOk result (λ v. v.items ≡ encoded descriptor_shape 0 (files_content self.now)) }
+        // It is read again file by file, where none nests more than 100 levels.
         ensures decodes { IfOk result (λ v. PartsFit (files_content self.now) → DecodesSet v.items (files_content self.now)) }
-        // So far the records of a pool nest few levels.
-        ensures fits { PartsFit (files_content self.now) }
     {
-        levels_bound_depth();
-        let alloc = self.allocator();
-        let set = file_set(alloc, self.records())?;
-        set.encode(alloc)
+        let set = file_set(self.alloc, self)?;
+        set.encode(self.alloc)
+    }
+}
+
+impl FileDescriptor {
+    /// A copy of the linked record. The only error is want of memory.
+    pub fn file_descriptor_proto(&self, alloc: Global) -> Result<FileDescriptorProto, NoMemory>
+        ensures { IfOk result (λ file. file ≡ self.now.file) }
+    {
+        self.table.as_ref().file().copy(alloc)
+    }
+
+    /// The canonical encoding of the linked record. The only error is want of memory.
+    pub fn encode_to_vec(&self, alloc: Global) -> Result<Vec<u8>, NoMemory>
+        ensures bytes { IfOk result (λ v. v.items ≡ encoded descriptor_shape 1 (file_content self.now.file)) }
+        // It is read again where it nests at most 100 levels.
+        ensures decodes { IfOk result (λ v. depth (file_content self.now.file) ≤ 100 → Decodes descriptor_shape 1 v.items (file_content self.now.file)) }
+    {
+        self.table.as_ref().file().encode_to_vec(alloc)
     }
 }

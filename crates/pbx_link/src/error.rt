@@ -6,7 +6,7 @@ use pbx_wire::{DecodeError, List, NoMemory, Text};
 /// Why a file is not added to a pool.
 #[derive(Debug, Drop)]
 pub enum DescriptorError {
-    /// A rule of linking is broken.
+    /// A rule of linking is broken, and no lesser one.
     Rule {
         /// The name of the file whose record breaks it.
         file: Text,
@@ -17,13 +17,8 @@ pub enum DescriptorError {
     },
     /// The bytes do not decode to a record.
     Decode(DecodeError),
-    /// Memory ran out.
+    /// Memory ran out, or an index of the record is above those of 31 bits.
     NoMemory,
-    /// The record of the file has what is not built yet.
-    NotBuilt {
-        /// The name of the file.
-        file: Text,
-    },
 }
 
 impl From<NoMemory> for DescriptorError {

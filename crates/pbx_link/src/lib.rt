@@ -1,24 +1,38 @@
-//! Linking: what the records of files declare together.
+//! Pools of linked files, and descriptors of their parts.
 #![tactic(auto)]
 
-mod built;
-mod check;
-mod descriptors;
+mod adding;
+mod by_name;
 mod encoding;
+mod enumeration;
 mod error;
-mod laws;
-mod linked;
-mod lookup;
-mod places;
+mod extension;
+mod field;
+mod field_record;
+mod file;
+mod kind;
+mod kinds;
+mod message;
+mod message_extensions;
+mod oneof;
+mod parents;
 mod pool;
-mod pool_files;
-mod records;
-mod rules;
+mod pool_extensions;
+mod pool_messages;
+mod service;
 mod shapes;
 
-pub use descriptors::{FileDescriptor, MessageDescriptor};
+pub use encoding::file_set;
+pub use enumeration::{EnumDescriptor, EnumValueDescriptor, EnumValues};
 pub use error::DescriptorError;
-pub use laws::{linked_is_linked, pooled_stand_behind};
+pub use extension::ExtensionDescriptor;
+pub use field::{FieldDescriptor, OneofDescriptor};
+pub use file::{FileDescriptor, PoolFiles};
+pub use kind::{Cardinality, Kind, Syntax};
+pub use message::{MessageDescriptor, MessageFields, MessageOneofs};
+pub use message_extensions::MessageExtensions;
+pub use oneof::OneofFields;
 pub use pool::DescriptorPool;
-pub use pool_files::PoolFiles;
-pub use shapes::{find_message, shape_of};
+pub use pool_messages::PoolMessages;
+pub use service::{MethodDescriptor, ServiceDescriptor, ServiceMethods};
+pub use shapes::shape_of;

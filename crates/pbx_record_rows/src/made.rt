@@ -4,7 +4,7 @@
 //! that was made last.
 
 use crate::enums::{EnumParts, enum_step, range_step, value_step};
-use crate::files::{file_step, pool_step};
+use crate::files::file_step;
 use crate::messages::{
     MessageParts, add_int32, extension_range_step, field_step, message_step, oneof_step,
     reserved_range_step,
@@ -13,7 +13,6 @@ use crate::parts::{Done, hand_over, put_text, records_step};
 use crate::sources::{SourceParts, location_step, method_step, service_step, source_step};
 use crate::stop::{Stop, cut};
 use pbx_desc::{DescriptorProto, FileDescriptorProto, FileDescriptorSet};
-use pbx_link::DescriptorPool;
 use pbx_wire::Recs;
 use std::alloc::Global;
 use test_rows::Row;
@@ -29,16 +28,10 @@ pub(crate) struct Made {
     pub(crate) sources: SourceParts,
     pub(crate) file: FileDescriptorProto,
     pub(crate) set: FileDescriptorSet,
-    pub(crate) pool: DescriptorPool,
-    /// The pool as it was when it was kept.
-    pub(crate) before: DescriptorPool,
-    /// What came of adding files to the pool.
-    pub(crate) told: String,
 }
 
 impl Made {
     fn new(alloc: Global) -> Result<Box<Made>, Stop> {
-        let pool = DescriptorPool::new(alloc)?;
         let made = Made {
             records: Recs::new(alloc),
             inner: Recs::new(alloc),
@@ -47,27 +40,9 @@ impl Made {
             sources: SourceParts::new(alloc),
             file: FileDescriptorProto::new(alloc),
             set: FileDescriptorSet::new(alloc),
-            before: pool.copy(),
-            pool,
-            told: String::new(alloc),
         };
         Ok(Box::new(alloc, made)?)
     }
-}
-
-/// Gives the file so many messages, each with an `int32`.
-fn add_messages(alloc: Global, made: &mut Made, count: &str) -> Done {
-    for index in 0..count.parse::<u32>().unwrap_or(0) {
-        let name = format!(in alloc; "M{index}")?;
-        put_text(alloc, &mut made.messages.message.name, name.as_str())?;
-        add_int32(alloc, &mut made.messages, "x 1")?;
-        hand_over(
-            &mut made.file.message_type,
-            &mut made.messages.message,
-            DescriptorProto::new(alloc),
-        )?;
-    }
-    Ok(())
 }
 
 /// A step with a file or what is made of files.
@@ -79,8 +54,6 @@ fn outer_step(alloc: Global, made: &mut Made, of: &str, part: &str, value: &str)
             &mut made.file,
             FileDescriptorProto::new(alloc),
         ),
-        "pool" => pool_step(alloc, made, part),
-        "messages" => add_messages(alloc, made, part),
         "records" => records_step(alloc, &mut made.records, &mut made.inner, part, value),
         _ => Err(Stop::NoSuchWord),
     }

@@ -1,4 +1,4 @@
-//! Asks of `pbx_wire`, `pbx_codec`, `pbx_desc_shape`, `pbx_desc`, `pbx_link` and `pbx_json`, as rows of data.
+//! Asks of `pbx_wire`, `pbx_codec`, `pbx_desc_shape`, `pbx_desc` and `pbx_json`, as rows of data.
 //!
 //! A row's third field and those behind it are what the asked word needs, as written at its function. Where a record
 //! is asked about, the fields behind its first are steps, which make it part by part.
@@ -8,7 +8,6 @@ mod contents;
 mod enums;
 mod files;
 mod json;
-mod linking;
 mod made;
 mod messages;
 mod parts;

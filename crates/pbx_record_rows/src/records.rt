@@ -10,7 +10,6 @@
 //! are read with at most 100 levels of messages and groups below the top; of a set that is read file by file, each file
 //! has 100 of its own.
 
-use crate::linking;
 use crate::made::Made;
 use crate::messages::MessageParts;
 use crate::stop::{Stop, shown, small, word};
@@ -182,6 +181,6 @@ pub(crate) fn answer(alloc: Global, made: &mut Made, row: &Row) -> Result<String
         "contents" => contents(alloc, made),
         "file-set" => file_set(alloc, made),
         "set-again" => set_again(alloc, made),
-        _ => linking::answer(alloc, made, row),
+        _ => Err(Stop::NoSuchWord),
     }
 }

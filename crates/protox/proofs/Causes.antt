@@ -7,7 +7,7 @@ use Rattle.protox.specs.declared.stop.Stop.TheVariants.{Words, Refused, Broken, 
 
 -- a cause stays one where more counts are in view
 pub caused_in : (a b c d e f : Type 0) (stop : Stop) → (a → d) → (b → e) → (c → f) → Caused a b c stop → Caused d e f stop
-caused_in a b c d e f Words g h k x = tt
+caused_in a b c d e f Words g h k x = absurd x
 caused_in a b c d e f (Refused refusal) g h k x = tt
 caused_in a b c d e f (Broken Input) g h k x = h x
 caused_in a b c d e f (Broken (File fault)) g h k x = g x

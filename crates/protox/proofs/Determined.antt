@@ -7,9 +7,11 @@ use Rattle.pbx_meaning.specs.Encoding.{encoded}
 use Rattle.pbx_meaning.specs.Shape.{declared_of}
 use Rattle.pbx_meaning.specs.declared.shape.Shape.{Shape}
 use Rattle.pbx_desc_records.specs.declared.file.FileDescriptorProto.{FileDescriptorProto}
+use Rattle.pbx_desc_records.specs.declared.message.DescriptorProto.{DescriptorProto}
+use Rattle.pbx_described.specs.Descriptors.{Described, message_of_name}
 use Rattle.pbx_json.specs.Canonical.{canonical}
 use Rattle.pbx_json.specs.Stands.{Stands}
-use Rattle.pbx_link.specs.Shapes.{shape_of, message_named}
+use Rattle.pbx_shapes.specs.Shapes.{shape_of, message_named}
 use Rattle.pbx_parse.specs.declared.error.ParseError.TheVariants as parse
 use Rattle.protox_paths.specs.Paths.{resolved}
 use Rattle.protox_file.specs.Told.{Lookup}
@@ -20,7 +22,8 @@ use Rattle.protox_compile.specs.Opening.{Opened, Accepted, NotIncluded, Refused,
 use Rattle.protox_compile.specs.Refusals.{RefusesWith}
 use Rattle.protox_compile.specs.Closures.{StopsAt}
 use Rattle.protox.specs.Class.{limit, folder, json_of, Done as Ended, Refusing, Judges}
-use Rattle.protox.specs.Top.{ForFiles, IsNotBuilt, IsRefused, IsTranscoded, Refuses, Transcodes, has_own_names, is_fault, is_refusal, most_files}
+use Rattle.protox.specs.Thin.{is_thin}
+use Rattle.protox.specs.Top.{AreWithinLevels, ForFiles, IsNotBuilt, IsRefused, IsTranscoded, IsTypeTranscoded, IsUnbuilt, IsUndecodable, Refuses, Transcodes, has_own_names, is_fault, is_refusal, most_files}
 use Rattle.protox.specs.Words.{Args}
 use Rattle.protox.specs.declared.error.TopError.{TopError}
 use Rattle.protox.specs.declared.error.TopError.TheVariants as top
@@ -90,26 +93,57 @@ same_files x y o h k = let e : (x, Accepted) ≡ (y, Accepted) = sym h ∙ k in 
 same_place : (a b : ℕ) (o : Option ℕ) → o ≡ Some a → o ≡ Some b → a ≡ b
 same_place a b o h k = let e : Some a ≡ Some b = sym h ∙ k in cc
 
-nothing_there : (place : ℕ) → None ≡ Some place → ⊥
-nothing_there place e = cc
+same_type : (d e : Described DescriptorProto) (o : Option (Described DescriptorProto)) → o ≡ Some d → o ≡ Some e → d ≡ e
+same_type d e o h k = let same : Some d ≡ Some e = sym h ∙ k in cc
+
+nothing_there : {X : Type 0} (x : X) → None ≡ Some x → ⊥
+nothing_there x e = cc
 
 not_both : (b : Bool) → b ≡ true → b ≡ false → ⊥
 not_both b h k = let e : true ≡ false = sym h ∙ k in cc
 
+-- no file nests too many levels, so no error tells one
+decodable : (files : List FileDescriptorProto) (error : ErrorKind) → AreWithinLevels files → IsUndecodable files error → ⊥
+decodable files (kinds.Parse e) fit h = absurd h
+decodable files (kinds.Check e) fit h = absurd h
+decodable files (kinds.OpenFile name p fault) fit h = absurd h
+decodable files (kinds.FileTooLarge name) fit h = absurd h
+decodable files (kinds.FileInvalidUtf8 name) fit h = absurd h
+decodable files (kinds.FileNotFound name) fit h = absurd h
+decodable files (kinds.ImportNotFound file index place name) fit h = absurd h
+decodable files (kinds.CircularImport name cycle) fit h = absurd h
+decodable files (kinds.FileNotIncluded p) fit h = absurd h
+decodable files (kinds.FileShadowed name asked shadow) fit h = absurd h
+decodable files (kinds.DuplicateImport file index place name) fit h = absurd h
+decodable files (kinds.Custom text is_io) fit h = absurd h
+decodable files (kinds.NameMismatch asked declared) fit h = absurd h
+decodable files (kinds.FileLimit n) fit h = absurd h
+decodable files (kinds.Undecodable file) fit h = nothing_there h.0 (sym fit ∙ h.1)
+decodable files kinds.NoMemory fit h = absurd h
+
+type_built : (shape : Shape) (name : List ℕ) (tree : Data) (wire : List ℕ) (written : Data) → IsTypeTranscoded shape name tree wire written → IsUnbuilt shape name tree → ⊥
+type_built shape name tree wire written h (inl improper) = improper h.proper
+type_built shape name tree wire written h (inr u) =
+    let same : u.0 ≡ h.place = same_place u.0 h.place (message_named name shape) u.1 h.placed in
+    let P : ℕ → Type 0 = λ t. (has_own_names (declared_of shape t) ≡ false) ⊎ ((c : Content) → ¬ Stands shape t false tree c) in
+    elim (subst P same u.2) [ inl other ↦ not_both (has_own_names (declared_of shape h.place)) h.own_names other | inr none ↦ none h.transcodes.0 h.transcodes.1 ]
+
 not_built : (name : List ℕ) (tree : Data) (files : List FileDescriptorProto) (set wire : List ℕ) (written : Data) → IsTranscoded name tree files set wire written → IsNotBuilt name tree files → ⊥
 not_built name tree files set wire written h r =
-    let same : r.0 ≡ h.0 = same_place r.0 h.0 (message_named name (shape_of files)) r.1 h.1 in
-    let P : ℕ → Type 0 = λ t. (has_own_names (declared_of (shape_of files) t) ≡ false) ⊎ ((c : Content) → ¬ Stands (shape_of files) t false tree c) in
-    elim (subst P same r.2) [ inl other ↦ not_both (has_own_names (declared_of (shape_of files) h.0)) h.2 other | inr none ↦ none h.3.0 h.3.1 ]
+    let same : r.0 ≡ h.type_of_name = same_type r.0 h.type_of_name (message_of_name files name) r.1 h.found in
+    elim r.2 [
+      | inl other ↦ not_both (is_thin h.type_of_name) h.thin (ap is_thin (sym same) ∙ other)
+      | inr unbuilt ↦ type_built (shape_of files) name tree wire written h.transcoded unbuilt
+    ]
 
 not_refused : (name : List ℕ) (tree : Data) (files : List FileDescriptorProto) (set wire : List ℕ) (written : Data) (error : TopError) → is_refusal error ≡ true → IsTranscoded name tree files set wire written → IsRefused name tree files error → ⊥
-not_refused name tree files set wire written (top.File error) k h r = absurd r
+not_refused name tree files set wire written (top.File error) k h r = decodable files error h.within_levels r
 not_refused name tree files set wire written (top.JsonNames message key) k h r = absurd r
 not_refused name tree files set wire written (top.WellKnownShape message) k h r = absurd r
-not_refused name tree files set wire written (top.TypeNotFound n) k h r = nothing_there h.0 (sym r.1 ∙ h.1)
+not_refused name tree files set wire written (top.TypeNotFound n) k h r = nothing_there h.type_of_name (sym r.2 ∙ h.found)
 not_refused name tree files set wire written top.TooDeep k h r = absurd r
 not_refused name tree files set wire written top.NoMemory k h r = absurd (cc)
-not_refused name tree files set wire written top.NotBuilt k h r = not_built name tree files set wire written h r
+not_refused name tree files set wire written top.NotBuilt k h r = not_built name tree files set wire written h r.1
 
 among : (lookups : List ℕ → Lookup) (resolves : List ℕ → Option (List ℕ)) (paths : List (List ℕ)) (P : List FileDescriptorProto → Type 0) (files : List Done) → closure lookups resolves most_files paths [] ≡ (files, Accepted) → ForFiles lookups resolves paths P → P (records files)
 among lookups resolves paths P files e h =
@@ -123,9 +157,11 @@ no_fault error h = at (is_fault error) h
     at true k = absurd (cc)
     at false k = refl
 
-refuses_not : (lookups : List ℕ → Lookup) (resolves : List ℕ → Option (List ℕ)) (paths : List (List ℕ)) (name : List ℕ) (tree : Data) (set wire : List ℕ) (written : Data) (error : TopError) → is_refusal error ≡ true
+pub refuses_not : (lookups : List ℕ → Lookup) (resolves : List ℕ → Option (List ℕ)) (paths : List (List ℕ)) (name : List ℕ) (tree : Data) (set wire : List ℕ) (written : Data) (error : TopError) → is_refusal error ≡ true
     → ForFiles lookups resolves paths (λ files. IsTranscoded name tree files set wire written) → Refuses lookups resolves paths name tree error → ⊥
-refuses_not lookups resolves paths name tree set wire written (top.File error) k h r = accepted_alone lookups resolves most_files paths h.0 r.0 error (no_fault error k) h.1 r.1
+refuses_not lookups resolves paths name tree set wire written (top.File error) k h (inl r) = accepted_alone lookups resolves most_files paths h.0 r.0 error (no_fault error k) h.1 r.1
+refuses_not lookups resolves paths name tree set wire written (top.File error) k h (inr r) =
+    not_refused name tree (records h.0) set wire written (top.File error) k h.2 (among lookups resolves paths (λ files. IsUndecodable files error) h.0 h.1 r)
 refuses_not lookups resolves paths name tree set wire written (top.JsonNames message key) k h r = absurd r.2
 refuses_not lookups resolves paths name tree set wire written (top.WellKnownShape message) k h r = absurd r.2
 refuses_not lookups resolves paths name tree set wire written (top.TypeNotFound n) k h r =
@@ -153,16 +189,29 @@ transcodes_once shape t tree wire later_wire written later_written h k =
     let same : written ≡ later_written = (let e : Some written ≡ Some later_written = sym h.4 ∙ ap (canonical shape t) content ∙ k.4 in cc) in
     (h.3 ∙ ap (encoded shape t) content ∙ sym k.3, same)
 
+transcoded_once : (name : List ℕ) (tree : Data) (files : List FileDescriptorProto) (set wire : List ℕ) (written : Data) (later_set later_wire : List ℕ) (later_written : Data)
+    → IsTranscoded name tree files set wire written → IsTranscoded name tree files later_set later_wire later_written
+    → (set ≡ later_set) × (wire ≡ later_wire) × (written ≡ later_written)
+transcoded_once name tree files set wire written later_set later_wire later_written h k =
+    let x = h.transcoded in
+    let y = k.transcoded in
+    let place : y.place ≡ x.place = same_place y.place x.place (message_named name (shape_of files)) y.placed x.placed in
+    let P : ℕ → Type 0 = λ t. Transcodes (shape_of files) t tree later_wire later_written in
+    let once = transcodes_once (shape_of files) x.place tree wire later_wire written later_written x.transcodes (subst P place y.transcodes) in
+    (h.set_is.0 ∙ sym k.set_is.0, once.0, once.1)
+
+pub files_once : (lookups : List ℕ → Lookup) (resolves : List ℕ → Option (List ℕ)) (paths : List (List ℕ)) (name : List ℕ) (tree : Data) (set wire : List ℕ) (written : Data) (later_set later_wire : List ℕ) (later_written : Data)
+    → ForFiles lookups resolves paths (λ files. IsTranscoded name tree files set wire written) → ForFiles lookups resolves paths (λ files. IsTranscoded name tree files later_set later_wire later_written)
+    → (set ≡ later_set) × (wire ≡ later_wire) × (written ≡ later_written)
+files_once lookups resolves paths name tree set wire written later_set later_wire later_written h k =
+    transcoded_once name tree (records h.0) set wire written later_set later_wire later_written h.2
+    (among lookups resolves paths (λ files. IsTranscoded name tree files later_set later_wire later_written) h.0 h.1 k)
+
 pub done_once : (args : Args) (lookups : List ℕ → Lookup) (input wire text later_wire later_text : List ℕ) → Judges args lookups input (Ended wire text) → Judges args lookups input (Ended later_wire later_text) → (wire ≡ later_wire) × (text ≡ later_text)
 done_once args lookups input wire text later_wire later_text h k =
     let same : k.1.0 ≡ h.1.0 = same_tree input k.1.0 h.1.0 k.1.1 h.1.1 in
     let a = h.1.2 in
     let b = k.1.2 in
-    let files = a.2.0 in
-    let first : IsTranscoded args.type_name h.1.0 (records files) a.0 wire a.1 = a.2.2 in
-    let other : IsTranscoded args.type_name k.1.0 (records files) b.0 later_wire b.1 = among lookups (resolved folder) (args.file ∷ []) (λ fs. IsTranscoded args.type_name k.1.0 fs b.0 later_wire b.1) files a.2.1 b.2 in
-    let place : other.0 ≡ first.0 = same_place other.0 first.0 (message_named args.type_name (shape_of (records files))) other.1 first.1 in
-    let P : ℕ → Type 0 = λ t. Transcodes (shape_of (records files)) t k.1.0 later_wire b.1 in
-    let Q : Data → Type 0 = λ d. Transcodes (shape_of (records files)) first.0 d later_wire b.1 in
-    let once = transcodes_once (shape_of (records files)) first.0 h.1.0 wire later_wire a.1 b.1 first.3 (subst Q same (subst P place other.3)) in
-    (once.0, a.3 ∙ ap compact_text once.1 ∙ sym b.3)
+    let P : Data → Type 0 = λ d. ForFiles lookups (resolved folder) (args.file ∷ []) (λ fs. IsTranscoded args.type_name d fs b.0 later_wire b.1) in
+    let once = files_once lookups (resolved folder) (args.file ∷ []) args.type_name h.1.0 a.0 wire a.1 b.0 later_wire b.1 a.2 (subst P same b.2) in
+    (once.1, a.3 ∙ ap compact_text once.2 ∙ sym b.3)

@@ -7,7 +7,7 @@ use Rattle.protox.specs.Words.{Args}
 use Rattle.protox_file.specs.Told.{Lookup}
 use Rattle.protox.specs.Class.{Done, Refusing, Judges}
 use Rattle.protox.specs.Outcome.{Obeys, SameBut, error_line}
-use Rattle.protox.specs.Stops.{Caused, RoseOf, Reached, PlanStops, Untouched, Carrying, Carries, CarryStops, Works, WorkStops, Comes, Leftover, Says, status_of, line_of, object_line}
+use Rattle.protox.specs.Stops.{Caused, RoseOf, Reached, PlanStops, Untouched, Carrying, Carries, CarryStops, Works, WorkStops, Comes, EndsFor, Leftover, Says, status_of, line_of, object_line}
 use Rattle.protox.specs.declared.stop.Object.{Object}
 use Rattle.protox.specs.declared.stop.Object.TheVariants.{Input, File, Path, Output}
 use Rattle.protox.specs.declared.stop.Stop.{Stop}
@@ -49,6 +49,44 @@ reached T lookups disk later input rose refused (Some args) Input out h = tt
 reached T lookups disk later input rose refused (Some args) (File text) out h = h.0
 reached T lookups disk later input rose refused (Some args) Path out h = (h.wire, h.text, h.ends)
 reached T lookups disk later input rose refused (Some args) Output out h = (h.wire, h.text, h.ends)
+
+-- ---- what ends a run over every disk, input and output
+
+by_object : (T : Type 0) (args : Option Args) (disk input out : Type 0) (object : Object) → EndsFor {T = T} args disk input out (Err (Broken object)) → RoseOf disk input out object
+by_object T None disk input out object h = absurd h
+by_object T (Some args) disk input out object h = h
+
+pub ends_some : {T : Type 0} (args : Option Args) (a : Args) (disk input out : Type 0) (r : Result T Stop) → args ≡ Some a → IfErr r (Caused disk input out) → EndsFor args disk input out r
+ends_some {T = T} args a disk input out r e h = let P : Option Args → Type 0 = λ x. EndsFor {T = T} x disk input out r in subst P (sym e) (at r h)
+  where
+    at : (q : Result T Stop) → IfErr q (Caused disk input out) → EndsFor {T = T} (Some a) disk input out q
+    at (Ok x) k = tt
+    at (Err stop) k = k
+
+pub ends_faulty : (T : Type 0) (args : Option Args) (disk input out : Type 0) → args ≡ None → EndsFor {T = T} args disk input out (Err Words)
+ends_faulty T args disk input out e = let P : Option Args → Type 0 = λ x. EndsFor {T = T} x disk input out (Err Words) in subst P (sym e) tt
+
+pub ends_memory : (T : Type 0) (args : Option Args) (disk input out : Type 0) → EndsFor {T = T} args disk input out (Err NoMemory)
+ends_memory T None disk input out = tt
+ends_memory T (Some args) disk input out = tt
+
+-- status 2 comes only where the words are faulty
+pub ran_words : {T : Type 0} (args : Option Args) (disk input out : Type 0) (r : Result T Stop) (status : ℕ) → status ≡ status_of r → EndsFor args disk input out r → status ≡ 2 → args ≡ None
+ran_words None disk input out r status e ends two = refl
+ran_words (Some args) disk input out (Ok x) status e ends two = absurd (omega arith)
+ran_words (Some args) disk input out (Err Words) status e ends two = absurd ends
+ran_words (Some args) disk input out (Err (Refused r)) status e ends two = absurd (omega arith)
+ran_words (Some args) disk input out (Err (Broken object)) status e ends two = absurd (omega arith)
+ran_words (Some args) disk input out (Err NoMemory) status e ends two = absurd (omega arith)
+
+-- where the words are faulty, status 2 comes, or 4
+pub ran_faulty : {T : Type 0} (args : Option Args) (disk input out : Type 0) (r : Result T Stop) (status : ℕ) → status ≡ status_of r → EndsFor args disk input out r → args ≡ None → (status ≡ 2) ⊎ (status ≡ 4)
+ran_faulty None disk input out (Ok x) status e ends faulty = absurd ends
+ran_faulty None disk input out (Err Words) status e ends faulty = inl e
+ran_faulty None disk input out (Err (Refused r)) status e ends faulty = absurd ends
+ran_faulty None disk input out (Err (Broken object)) status e ends faulty = absurd ends
+ran_faulty None disk input out (Err NoMemory) status e ends faulty = inr e
+ran_faulty (Some args) disk input out r status e ends faulty = absurd (cc)
 
 module _ {T : Type 0} (words : List (List ℕ)) (lookups : List ℕ → Lookup) (disk later : List Component → Held) (input : List ℕ) (rose refused : Type 0) where
   obeys : (args : Option Args) (r : Result T Stop) (out : List ℕ) → status_of r ≤ 2 → Comes args lookups disk input later rose refused r out → Obeys args lookups disk input (status_of r) out later (line_of words r)
@@ -107,27 +145,27 @@ module _ {T : Type 0} (words : List (List ℕ)) (lookups : List ℕ → Lookup) 
       }
 
   -- with no fault, what err holds is the line
-  pub ran_quiet : (args : Option Args) (r : Result T Stop) (old new said saying : List ℕ) (status : ℕ) (disk_rose input_rose out_rose muted : Type 0) (tells : Bool) → status ≡ status_of r → IfErr r (Caused disk_rose input_rose out_rose)
+  pub ran_quiet : (args : Option Args) (r : Result T Stop) (old new said saying : List ℕ) (status : ℕ) (disk_rose input_rose out_rose muted : Type 0) (tells : Bool) → status ≡ status_of r → EndsFor args disk_rose input_rose out_rose r
       → Appends old new (Comes args lookups disk input later rose refused r) → Says tells muted said saying (line_of words r) → IsTrue tells → ¬ disk_rose → ¬ input_rose → ¬ out_rose → ¬ muted
       → (status ≡ 4) ⊎ Appends old new (λ out. Appends said saying (λ line. Obeys args lookups disk input status out later line))
   ran_quiet args (Ok x) old new said saying status dr ir kr muted tells e cause h says t nd ni nk nm = inr (calm args (Ok x) old new said saying status muted tells e (rw e (lit≤ tt)) h says t nm)
   ran_quiet args (Err Words) old new said saying status dr ir kr muted tells e cause h says t nd ni nk nm = inr (calm args (Err Words) old new said saying status muted tells e (rw e (lit≤ tt)) h says t nm)
   ran_quiet args (Err (Refused r)) old new said saying status dr ir kr muted tells e cause h says t nd ni nk nm = inr (calm args (Err (Refused r)) old new said saying status muted tells e (rw e (lit≤ tt)) h says t nm)
-  ran_quiet args (Err (Broken Input)) old new said saying status dr ir kr muted tells e cause h says t nd ni nk nm = absurd (ni cause)
-  ran_quiet args (Err (Broken (File fault))) old new said saying status dr ir kr muted tells e cause h says t nd ni nk nm = absurd (nd cause)
-  ran_quiet args (Err (Broken Path)) old new said saying status dr ir kr muted tells e cause h says t nd ni nk nm = absurd (nd cause)
-  ran_quiet args (Err (Broken Output)) old new said saying status dr ir kr muted tells e cause h says t nd ni nk nm = absurd (nk cause)
+  ran_quiet args (Err (Broken Input)) old new said saying status dr ir kr muted tells e cause h says t nd ni nk nm = absurd (ni (by_object T args dr ir kr Input cause))
+  ran_quiet args (Err (Broken (File fault))) old new said saying status dr ir kr muted tells e cause h says t nd ni nk nm = absurd (nd (by_object T args dr ir kr (File fault) cause))
+  ran_quiet args (Err (Broken Path)) old new said saying status dr ir kr muted tells e cause h says t nd ni nk nm = absurd (nd (by_object T args dr ir kr Path cause))
+  ran_quiet args (Err (Broken Output)) old new said saying status dr ir kr muted tells e cause h says t nd ni nk nm = absurd (nk (by_object T args dr ir kr Output cause))
   ran_quiet args (Err NoMemory) old new said saying status dr ir kr muted tells e cause h says t nd ni nk nm = inl e
 
 pub ran_fault : {T : Type 0} (words : List (List ℕ)) (disk later : List Component → Held) (input : List ℕ) (rose refused : Type 0) (args : Option Args) (r : Result T Stop) (old new said saying : List ℕ) (status : ℕ) (disk_rose input_rose out_rose D S K : Type 0)
-    (L : (List ℕ → Lookup) → Type 0) (tells : Bool) (muted : Type 0) → status ≡ status_of r → IfErr r (Caused disk_rose input_rose out_rose)
+    (L : (List ℕ → Lookup) → Type 0) (tells : Bool) (muted : Type 0) → status ≡ status_of r → EndsFor args disk_rose input_rose out_rose r
     → (D → S → K → (lookups : List ℕ → Lookup) → L lookups → Appends old new (Comes args lookups disk input later rose refused r)) → Says tells muted said saying (line_of words r) → status ≡ 3
     → (object : Object) × RoseOf disk_rose input_rose out_rose object × (D → S → K → (lookups : List ℕ → Lookup) → L lookups → Reached args lookups input object) × Says tells muted said saying (error_line (object_line words object))
 ran_fault words disk later input rose refused args (Ok x) old new said saying status dr ir kr D S K L tells muted e cause told says three = absurd (omega arith)
 ran_fault words disk later input rose refused args (Err Words) old new said saying status dr ir kr D S K L tells muted e cause told says three = absurd (omega arith)
 ran_fault words disk later input rose refused args (Err (Refused r)) old new said saying status dr ir kr D S K L tells muted e cause told says three = absurd (omega arith)
 ran_fault {T = T} words disk later input rose refused args (Err (Broken object)) old new said saying status dr ir kr D S K L tells muted e cause told says three =
-    (object, cause, (λ d s k lookups l. let h = told d s k lookups l in reached T lookups disk later input rose refused args object h.added h.so), says)
+    (object, by_object T args dr ir kr object cause, (λ d s k lookups l. let h = told d s k lookups l in reached T lookups disk later input rose refused args object h.added h.so), says)
 ran_fault words disk later input rose refused args (Err NoMemory) old new said saying status dr ir kr D S K L tells muted e cause told says three = absurd (omega arith)
 
 -- ---- stops before any write

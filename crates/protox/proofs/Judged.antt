@@ -1,10 +1,11 @@
 -- From the answers of the parts to what the whole run comes to.
-use Rattle.std.proofs.Common.{◌≡◌, ◌∷◌, [], ◌≤◌, Bool, true, false, if◌then◌else◌, IsTrue, Result, Ok, Err, IfOk, IfErr, MatchOption, ℕ, List, length, Option, Some, codes, sym, subst}
+use Rattle.std.proofs.Common.{◌≡◌, ◌∷◌, [], ◌≤◌, Bool, true, false, inl, inr, if◌then◌else◌, IsTrue, Result, Ok, Err, IfOk, IfErr, MatchOption, ℕ, List, length, Option, Some, codes, sym, subst, refl}
 use Rattle.serde_json.specs.Data.{Data}
 use Rattle.serde_json.specs.Written.{has_float, compact_text}
 use Rattle.pbx_desc_records.specs.declared.file.FileDescriptorProto.{FileDescriptorProto}
 use Rattle.pbx_json.specs.Laws.{CanonicalIsPlain}
-use Rattle.pbx_link.specs.Shapes.{shape_of}
+use Rattle.pbx_pool_laws.specs.Pool.{ArePooled}
+use Rattle.pbx_shapes.specs.Shapes.{shape_of}
 use Rattle.protox_io.specs.Count.{Rose}
 use Rattle.protox_io.specs.Disk.{Held}
 use Rattle.protox_io.specs.Paths.{Component}
@@ -16,8 +17,10 @@ use Rattle.protox_file.specs.declared.error.ErrorKind.TheVariants as kinds
 use Rattle.protox_compile.specs.Walk.{Done, records}
 use Rattle.protox_compile.specs.Opening.{Accepted, closure}
 use Rattle.protox_compile.specs.Closures.{StopsAt}
+use Rattle.protox_compile.specs.Compiled.{IsOrdered}
+use Rattle.protox_compile.specs.Refusals.{HasOpeningCause}
 use Rattle.protox_compile.specs.State.{State}
-use Rattle.protox.specs.Top.{ForFiles, IsCaused, IsRefused, IsTranscoded, Refuses, is_fault, is_memory, most_files, of_error}
+use Rattle.protox.specs.Top.{ForFiles, IsCaused, IsRefused, IsTranscoded, IsUndecodable, Refuses, is_fault, is_resolver_fault, is_memory, most_files, of_error}
 use Rattle.protox.specs.Class.{limit, folder, json_of, AreRead, Gives}
 use Rattle.protox.specs.Parts.{IsFileStop, IsInputStop, IsStopOf}
 use Rattle.protox.specs.Stops.{Caused, PlanStops}
@@ -62,7 +65,7 @@ module _ {R : Type 0} (tells : R → Bool) (files : R → List ℕ → Told) (re
 
       at : (b : Bool) → Refuses lookups (resolves r) paths name tree (if b then top.NoMemory else top.File error)
       at true = tt
-      at false = (later, stops)
+      at false = inl (later, stops)
 
   pub accepted : s ≡ fresh r
       → (IsTrue (tells s.resolver) → (lookups : List ℕ → Lookup) → AreLookups (files s.resolver) lookups → closure lookups (resolves s.resolver) s.limit paths s.done ≡ (later, Accepted))
@@ -74,7 +77,8 @@ module _ {R : Type 0} (tells : R → Bool) (files : R → List ℕ → Told) (re
 -- what is refused among the files of the closure
 pub all_refused : (lookups : List ℕ → Lookup) (resolves : List ℕ → Option (List ℕ)) (paths : List (List ℕ)) (name : List ℕ) (tree : Data) (later : List Done) (files : List FileDescriptorProto) (error : TopError) → files ≡ records later
     → closure lookups resolves most_files paths [] ≡ (later, Accepted) → IsRefused name tree files error → Refuses lookups resolves paths name tree error
-all_refused lookups resolves paths name tree later files (top.File error) e all h = absurd h
+all_refused lookups resolves paths name tree later files (top.File error) e all h =
+    inr (later, all, (let P : List FileDescriptorProto → Type 0 = λ fs. IsUndecodable fs error in subst P e h))
 all_refused lookups resolves paths name tree later files (top.JsonNames message key) e all h = absurd h
 all_refused lookups resolves paths name tree later files (top.WellKnownShape message) e all h = absurd h
 all_refused lookups resolves paths name tree later files (top.TypeNotFound n) e all h = (later, all, (let P : List FileDescriptorProto → Type 0 = λ fs. IsRefused name tree fs (top.TypeNotFound n) in subst P e h))
@@ -86,6 +90,12 @@ pub all_given : (lookups : List ℕ → Lookup) (resolves : List ℕ → Option 
     → closure lookups resolves most_files paths [] ≡ (later, Accepted) → IsTranscoded name tree files set wire written → ForFiles lookups resolves paths (λ fs. IsTranscoded name tree fs set wire written)
 all_given lookups resolves paths name tree later files set wire written e all h =
     (later, all, (let P : List FileDescriptorProto → Type 0 = λ fs. IsTranscoded name tree fs set wire written in subst P e h))
+
+-- the files of the pool are those that the compiler holds, in order and linked
+pub all_pooled : (name : List ℕ) (tree : Data) (later : List Done) (files : List FileDescriptorProto) (set wire : List ℕ) (written : Data) → files ≡ records later → IsOrdered [] later → ArePooled [] (records later)
+    → IsTranscoded name tree files set wire written → (dones : List Done) × IsOrdered [] dones × ArePooled [] (records dones) × IsTranscoded name tree (records dones) set wire written
+all_pooled name tree later files set wire written e ordered pooled h =
+    (later, ordered, pooled, (let P : List FileDescriptorProto → Type 0 = λ fs. IsTranscoded name tree fs set wire written in subst P e h))
 
 -- ---- the folder of a run
 
@@ -105,27 +115,47 @@ pub gives : (type_name file : List ℕ) (lookups : List ℕ → Lookup) (tree : 
     → given ≡ wire → (has_float written ≡ false → text ≡ compact_text written) → Gives type_name file lookups tree given text
 gives type_name file lookups tree set wire written given text plain h e printed =
     let P : List ℕ → Type 0 = λ w. ForFiles lookups (resolved folder) (file ∷ []) (λ files. IsTranscoded type_name tree files set w written) in
-    let told = h.2.3 in
-    (set, written, subst P (sym e) h, printed (plain (shape_of (records h.0)) h.2.0 told.0 written told.4))
+    let type_told = h.2.transcoded in
+    (set, written, subst P (sym e) h, printed (plain (shape_of (records h.0)) type_told.place type_told.transcodes.0 written type_told.transcodes.4))
 
 -- ---- stops
 
-pub file_stop : (type_name file : List ℕ) (lookups : List ℕ → Lookup) (tree : Data) (error : TopError) (stop : Stop) → IsStopOf error stop → Refuses lookups (resolved folder) (file ∷ []) type_name tree error → IsFileStop type_name file lookups tree stop
-file_stop type_name file lookups tree error Words s h = absurd s
-file_stop type_name file lookups tree error (Refused TooLong) s h = absurd s
-file_stop type_name file lookups tree error (Refused NotJson) s h = absurd s
-file_stop type_name file lookups tree error (Refused (Top line)) s h = (error, s.0, h, s.1)
-file_stop type_name file lookups tree error (Broken Input) s h = absurd s
-file_stop type_name file lookups tree (top.File error) (Broken (File line)) s h = (error, s.0, s.1)
-file_stop type_name file lookups tree (top.JsonNames message key) (Broken (File line)) s h = absurd s
-file_stop type_name file lookups tree (top.WellKnownShape message) (Broken (File line)) s h = absurd s
-file_stop type_name file lookups tree (top.TypeNotFound n) (Broken (File line)) s h = absurd s
-file_stop type_name file lookups tree top.TooDeep (Broken (File line)) s h = absurd s
-file_stop type_name file lookups tree top.NoMemory (Broken (File line)) s h = absurd s
-file_stop type_name file lookups tree top.NotBuilt (Broken (File line)) s h = absurd s
-file_stop type_name file lookups tree error (Broken Path) s h = absurd s
-file_stop type_name file lookups tree error (Broken Output) s h = absurd s
-file_stop type_name file lookups tree error NoMemory s h = tt
+-- a fault that has a cause is one of the resolver
+fault_told : (rose : Type 0) (error : ErrorKind) → is_fault error ≡ true → IsCaused rose (top.File error) → is_resolver_fault error ≡ true
+fault_told rose (kinds.Parse e) f c = absurd (cc)
+fault_told rose (kinds.Check e) f c = absurd (cc)
+fault_told rose (kinds.OpenFile name path fault) f c = refl
+fault_told rose (kinds.FileTooLarge name) f c = absurd (cc)
+fault_told rose (kinds.FileInvalidUtf8 name) f c = absurd (cc)
+fault_told rose (kinds.FileNotFound name) f c = absurd (cc)
+fault_told rose (kinds.ImportNotFound file index place name) f c = absurd (cc)
+fault_told rose (kinds.CircularImport name cycle) f c = absurd (cc)
+fault_told rose (kinds.FileNotIncluded path) f c = absurd (cc)
+fault_told rose (kinds.FileShadowed name path shadow) f c = absurd (cc)
+fault_told rose (kinds.DuplicateImport file index place name) f c = absurd (cc)
+fault_told rose (kinds.Custom text is_io) f c = refl
+fault_told rose (kinds.NameMismatch asked declared) f c = absurd (cc)
+fault_told rose (kinds.FileLimit n) f c = absurd (cc)
+fault_told rose (kinds.Undecodable file) f c = absurd (cc)
+fault_told rose kinds.NoMemory f c = absurd c
+
+pub file_stop : (type_name file : List ℕ) (lookups : List ℕ → Lookup) (tree : Data) (error : TopError) (rose : Type 0) (stop : Stop) → IsStopOf error stop → IsCaused rose error → Refuses lookups (resolved folder) (file ∷ []) type_name tree error
+    → IsFileStop type_name file lookups tree stop
+file_stop type_name file lookups tree error rose Words s k h = absurd s
+file_stop type_name file lookups tree error rose (Refused TooLong) s k h = absurd s
+file_stop type_name file lookups tree error rose (Refused NotJson) s k h = absurd s
+file_stop type_name file lookups tree error rose (Refused (Top line)) s k h = (error, s.0, h, s.1)
+file_stop type_name file lookups tree error rose (Broken Input) s k h = absurd s
+file_stop type_name file lookups tree (top.File error) rose (Broken (File line)) s k h = (error, fault_told rose error s.0 k, s.1)
+file_stop type_name file lookups tree (top.JsonNames message key) rose (Broken (File line)) s k h = absurd s
+file_stop type_name file lookups tree (top.WellKnownShape message) rose (Broken (File line)) s k h = absurd s
+file_stop type_name file lookups tree (top.TypeNotFound n) rose (Broken (File line)) s k h = absurd s
+file_stop type_name file lookups tree top.TooDeep rose (Broken (File line)) s k h = absurd s
+file_stop type_name file lookups tree top.NoMemory rose (Broken (File line)) s k h = absurd s
+file_stop type_name file lookups tree top.NotBuilt rose (Broken (File line)) s k h = absurd s
+file_stop type_name file lookups tree error rose (Broken Path) s k h = absurd s
+file_stop type_name file lookups tree error rose (Broken Output) s k h = absurd s
+file_stop type_name file lookups tree error rose NoMemory s k h = tt
 
 fault_rose : (rose : Type 0) (error : ErrorKind) → is_fault error ≡ true → IsCaused rose (top.File error) → rose
 fault_rose rose (kinds.Parse e) f c = absurd (cc)
@@ -166,6 +196,50 @@ of_disk {D = D} faults at_end a b x y error e k h =
     let P : D → Type 0 = λ d. IsCaused (Rose (faults d) (faults y) (at_end y)) error in
     let Q : D → Type 0 = λ d. IsCaused (Rose (faults a) (faults d) (at_end d)) error in
     subst Q (sym k) (subst P e h)
+
+-- the cause that an error of a walk has over every resolver
+pub walk_caused : (most : ℕ) (path : List ℕ) (later : List Done) (rose : Type 0) (error : ErrorKind) → HasOpeningCause most path later rose error → IsCaused rose (of_error error)
+walk_caused most path later rose (kinds.Parse e) h = tt
+walk_caused most path later rose (kinds.Check e) h = tt
+walk_caused most path later rose (kinds.OpenFile name p fault) h = h
+walk_caused most path later rose (kinds.FileTooLarge name) h = tt
+walk_caused most path later rose (kinds.FileInvalidUtf8 name) h = tt
+walk_caused most path later rose (kinds.FileNotFound name) h = tt
+walk_caused most path later rose (kinds.ImportNotFound file index place name) h = tt
+walk_caused most path later rose (kinds.CircularImport name cycle) h = tt
+walk_caused most path later rose (kinds.FileNotIncluded p) h = tt
+walk_caused most path later rose (kinds.FileShadowed name asked shadow) h = tt
+walk_caused most path later rose (kinds.DuplicateImport file index place name) h = tt
+walk_caused most path later rose (kinds.Custom text is_io) h = h
+walk_caused most path later rose (kinds.NameMismatch asked declared) h = tt
+walk_caused most path later rose (kinds.FileLimit n) h = tt
+walk_caused most path later rose (kinds.Undecodable file) h = tt
+walk_caused most path later rose kinds.NoMemory h = tt
+
+-- an error that is told of the pool has no cause outside
+pub pool_caused : (rose : Type 0) (name : List ℕ) (tree : Data) (files : List FileDescriptorProto) (error : TopError) → IsRefused name tree files error → IsCaused rose error
+pool_caused rose name tree files (top.File (kinds.Parse e)) h = absurd h
+pool_caused rose name tree files (top.File (kinds.Check e)) h = absurd h
+pool_caused rose name tree files (top.File (kinds.OpenFile file p fault)) h = absurd h
+pool_caused rose name tree files (top.File (kinds.FileTooLarge file)) h = absurd h
+pool_caused rose name tree files (top.File (kinds.FileInvalidUtf8 file)) h = absurd h
+pool_caused rose name tree files (top.File (kinds.FileNotFound file)) h = absurd h
+pool_caused rose name tree files (top.File (kinds.ImportNotFound file index place n)) h = absurd h
+pool_caused rose name tree files (top.File (kinds.CircularImport file cycle)) h = absurd h
+pool_caused rose name tree files (top.File (kinds.FileNotIncluded p)) h = absurd h
+pool_caused rose name tree files (top.File (kinds.FileShadowed file asked shadow)) h = absurd h
+pool_caused rose name tree files (top.File (kinds.DuplicateImport file index place n)) h = absurd h
+pool_caused rose name tree files (top.File (kinds.Custom text is_io)) h = absurd h
+pool_caused rose name tree files (top.File (kinds.NameMismatch asked declared)) h = absurd h
+pool_caused rose name tree files (top.File (kinds.FileLimit n)) h = absurd h
+pool_caused rose name tree files (top.File (kinds.Undecodable file)) h = tt
+pool_caused rose name tree files (top.File kinds.NoMemory) h = absurd h
+pool_caused rose name tree files (top.JsonNames message key) h = absurd h
+pool_caused rose name tree files (top.WellKnownShape message) h = absurd h
+pool_caused rose name tree files (top.TypeNotFound n) h = tt
+pool_caused rose name tree files top.TooDeep h = absurd h
+pool_caused rose name tree files top.NoMemory h = tt
+pool_caused rose name tree files top.NotBuilt h = tt
 
 -- the input ended the run
 pub input_judged : (args : Args) (lookups : List ℕ → Lookup) (input : List ℕ) (stop : Stop) → IsInputStop input stop → PlanStops args lookups input stop

@@ -1,5 +1,6 @@
 -- What a tree is transcoded to.
-use Rattle.std.proofs.Common.{◌≡◌, ◌≤◌, ◌<◌, ◌^◌, ◌∙◌, inr, ℕ, List, length, true, false, Result, Ok, Err, IfOk, IfErr, Some, None, sym, subst}
+use Rattle.std.proofs.Common.{◌≡◌, ◌≤◌, ◌<◌, ◌^◌, ◌∙◌, inl, inr, ℕ, List, length, true, false, Result, Ok, Err, IfOk, IfErr, Option, Some, None, IsSome, ap, refl, sym, subst}
+use Rattle.std.specs.Str.{bytes_eq}
 use Rattle.serde_json.specs.Data.{Data}
 use Rattle.pbx_meaning.specs.Content.{Content}
 use Rattle.pbx_meaning.specs.Encoding.{encoded}
@@ -7,15 +8,19 @@ use Rattle.pbx_meaning.specs.Laws.{EncodingDecodes}
 use Rattle.pbx_meaning.specs.Same.{Decodes}
 use Rattle.pbx_meaning.specs.Shape.{declared_of}
 use Rattle.pbx_meaning.specs.Sound.{IsProper, IsSound, depth}
+use Rattle.pbx_meaning.specs.declared.shape.MessageShape.{MessageShape}
 use Rattle.pbx_meaning.specs.declared.shape.Shape.{Shape}
 use Rattle.pbx_desc_records.specs.declared.file.FileDescriptorProto.{FileDescriptorProto}
+use Rattle.pbx_desc_records.specs.declared.message.DescriptorProto.{DescriptorProto}
+use Rattle.pbx_definitions.specs.Definitions.{message_name}
+use Rattle.pbx_described.specs.Descriptors.{Described, all_messages, message_of_name}
 use Rattle.pbx_json.specs.Canonical.{canonical}
 use Rattle.pbx_json.specs.Laws.{CanonicalStands}
 use Rattle.pbx_json.specs.Stands.{Stands}
-use Rattle.pbx_link.specs.Shapes.{shape_of, message_named}
-use Rattle.protox.specs.Parts.{IsBuilt, IsNotTold, IsNotWritten, IsWritten}
-use Rattle.protox.proofs.Built.{is_built}
-use Rattle.protox.specs.Top.{IsRefused, IsSet, IsTranscoded, Transcodes, has_own_names}
+use Rattle.pbx_shapes.specs.Shapes.{shape_of, message_named, message_shape}
+use Rattle.protox.specs.Parts.{IsBuilt, IsNoSet, IsNotShaped, IsNotThin, IsNotTold, IsNotWritten, IsThinAt, IsWritten}
+use Rattle.protox.proofs.Found.{has_place}
+use Rattle.protox.specs.Top.{AreWithinLevels, IsRefused, IsTypeTranscoded, IsUnbuilt, Transcodes, has_own_names}
 use Rattle.protox.specs.declared.error.TopError.{TopError}
 use Rattle.protox.specs.declared.error.TopError.TheVariants.{File, JsonNames, WellKnownShape, TypeNotFound, TooDeep, NoMemory, NotBuilt}
 
@@ -51,27 +56,78 @@ not_told shape t tree c NotBuilt again built stands h =
     let bad : Some made.0 ≡ None = sym made.1 ∙ h in
     absurd (cc)
 
--- why a tree is refused among files
-pub refused : (name : List ℕ) (tree : Data) (files : List FileDescriptorProto) (t : ℕ) (error : TopError) → message_named name (shape_of files) ≡ Some t → IsNotTold (shape_of files) t tree error → IsRefused name tree files error
-refused name tree files t (File error) named h = absurd h
-refused name tree files t (JsonNames message key) named h = absurd h
-refused name tree files t (WellKnownShape message) named h = absurd h
-refused name tree files t (TypeNotFound n) named h = absurd h
-refused name tree files t TooDeep named h = absurd h
-refused name tree files t NoMemory named h = tt
-refused name tree files t NotBuilt named h = (t, named, inr h)
+-- the type of the name in a shape that is equal to that of the files
+pub type_transcoded : (shape files : Shape) (name : List ℕ) (tree : Data) (t : ℕ) (wire : List ℕ) (written : Data) → shape ≡ files → IsProper shape
+    → message_named name shape ≡ Some t → has_own_names (declared_of shape t) ≡ true → Transcodes shape t tree wire written → IsTypeTranscoded files name tree wire written
+type_transcoded shape files name tree t wire written same proper placed own h =
+    let P : Shape → Type 0 = λ s. IsTypeTranscoded s name tree wire written in
+    subst P same (record { proper = proper; place = t; placed = placed; own_names = own; transcodes = h })
 
--- a type whose fields have their own names, in the shape of files
-pub is_transcoded : (name : List ℕ) (tree : Data) (files : List FileDescriptorProto) (shape : Shape) (t : ℕ) (set wire : List ℕ) (written : Data) → shape ≡ shape_of files → message_named name shape ≡ Some t → has_own_names (declared_of shape t) ≡ true → IsProper shape
-    → (IsBuilt shape t → Transcodes shape t tree wire written) → IsSet files set → IsTranscoded name tree files set wire written
-is_transcoded name tree files shape t set wire written e named own proper told whole =
-    let P : Shape → Type 0 = λ s. message_named name s ≡ Some t → has_own_names (declared_of s t) ≡ true → IsProper s → (IsBuilt s t → Transcodes s t tree wire written) → IsTranscoded name tree files set wire written in
-    let Q : P (shape_of files) = (λ named own proper told. (t, named, own, told (is_built (shape_of files) t proper own), whole)) in
-    subst P (sym e) Q named own proper told
+-- why there is nothing to write
+pub not_shaped : (shape files : Shape) (name : List ℕ) (tree : Data) (t : ℕ) (error : TopError) → shape ≡ files → message_named name shape ≡ Some t
+    → IsNotTold shape t tree error → IsNotShaped files name tree error
+not_shaped shape files name tree t (File error) same placed h = absurd h
+not_shaped shape files name tree t (JsonNames message key) same placed h = absurd h
+not_shaped shape files name tree t (WellKnownShape message) same placed h = absurd h
+not_shaped shape files name tree t (TypeNotFound n) same placed h = absurd h
+not_shaped shape files name tree t TooDeep same placed h = absurd h
+not_shaped shape files name tree t NoMemory same placed h = tt
+not_shaped shape files name tree t NotBuilt same placed h =
+    let P : Shape → Type 0 = λ s. IsUnbuilt s name tree in
+    subst P same (inr (t, placed, inr h))
 
-pub is_refused : (name : List ℕ) (tree : Data) (files : List FileDescriptorProto) (shape : Shape) (t : ℕ) (error : TopError) → shape ≡ shape_of files → message_named name shape ≡ Some t → has_own_names (declared_of shape t) ≡ true → IsProper shape
-    → (IsBuilt shape t → IsNotTold shape t tree error) → IsRefused name tree files error
-is_refused name tree files shape t error e named own proper told =
-    let P : Shape → Type 0 = λ s. message_named name s ≡ Some t → has_own_names (declared_of s t) ≡ true → IsProper s → (IsBuilt s t → IsNotTold s t tree error) → IsRefused name tree files error in
-    let Q : P (shape_of files) = (λ named own proper told. refused name tree files t error named (told (is_built (shape_of files) t proper own))) in
-    subst P (sym e) Q named own proper told
+-- a type that has other names in JSON than its fields' own
+pub not_own : (shape files : Shape) (name : List ℕ) (tree : Data) (t : ℕ) → shape ≡ files → message_named name shape ≡ Some t
+    → has_own_names (declared_of shape t) ≡ false → IsUnbuilt files name tree
+not_own shape files name tree t same placed h =
+    let P : Shape → Type 0 = λ s. IsUnbuilt s name tree in
+    subst P same (inr (t, placed, inl h))
+
+-- a type that is there has its place in the shape
+pub is_placed : (files : List FileDescriptorProto) (shape : Shape) (name : List ℕ) → shape ≡ shape_of files → IsSome (message_of_name files name)
+    → message_named name shape ≡ None → ⊥
+is_placed files shape name same there none = at (message_of_name files name) refl there
+  where
+    at : (o : Option (Described DescriptorProto)) → message_of_name files name ≡ o → IsSome o → ⊥
+    at None e h = absurd (cc)
+    at (Some d) e h =
+        let here = has_place (λ (m : Described DescriptorProto). bytes_eq (message_name m.part) name) (λ (m : MessageShape). bytes_eq m.full_name name) message_shape
+        (λ m. refl) (all_messages files) d e in
+        let bad : Some here.0 ≡ None = sym here.1 ∙ ap (message_named name) (sym same) ∙ none in
+        absurd (cc)
+
+-- what is told of the type of a name, among files of which each can be read again
+pub not_thin : (name : List ℕ) (tree : Data) (files : List FileDescriptorProto) (error : TopError) → AreWithinLevels files → IsNotThin files name error
+    → IsRefused name tree files error
+not_thin name tree files (File error) fit h = absurd h
+not_thin name tree files (JsonNames message key) fit h = absurd h
+not_thin name tree files (WellKnownShape message) fit h = absurd h
+not_thin name tree files (TypeNotFound n) fit h = (fit, h.0, h.1)
+not_thin name tree files TooDeep fit h = absurd h
+not_thin name tree files NoMemory fit h = tt
+not_thin name tree files NotBuilt fit h = (fit, (h.0, h.1, inl h.2))
+
+-- what is told of the tree
+pub not_transcoded : (name : List ℕ) (tree : Data) (files : List FileDescriptorProto) (error : TopError) → AreWithinLevels files → IsThinAt files name
+    → IsNotShaped (shape_of files) name tree error → IsRefused name tree files error
+not_transcoded name tree files (File error) fit thin h = absurd h
+not_transcoded name tree files (JsonNames message key) fit thin h = absurd h
+not_transcoded name tree files (WellKnownShape message) fit thin h = absurd h
+not_transcoded name tree files (TypeNotFound n) fit thin h = absurd h
+not_transcoded name tree files TooDeep fit thin h = absurd h
+not_transcoded name tree files NoMemory fit thin h = tt
+not_transcoded name tree files NotBuilt fit thin h = (fit, (thin.0, thin.1, inr h))
+
+-- what is told of the set
+pub no_set : (name : List ℕ) (tree : Data) (files : List FileDescriptorProto) (error : TopError) → IsNoSet files error → IsRefused name tree files error
+no_set name tree files (File error) h = h
+no_set name tree files (JsonNames message key) h = absurd h
+no_set name tree files (WellKnownShape message) h = absurd h
+no_set name tree files (TypeNotFound n) h = absurd h
+no_set name tree files TooDeep h = absurd h
+no_set name tree files NoMemory h = tt
+no_set name tree files NotBuilt h = absurd h
+
+-- a type that is found is there
+pub is_there : (files : List FileDescriptorProto) (name : List ℕ) → IsThinAt files name → IsSome (message_of_name files name)
+is_there files name h = rw h.1 refl

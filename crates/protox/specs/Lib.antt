@@ -1,4 +1,5 @@
 pub mod Words
+pub mod Thin
 pub mod Top
 pub mod Class
 pub mod Outcome

@@ -7,12 +7,16 @@ use Rattle.pbx_meaning.specs.Encoding.{encoded}
 use Rattle.pbx_meaning.specs.Shape.{declared_of}
 use Rattle.pbx_meaning.specs.Sound.{IsProper}
 use Rattle.pbx_meaning.specs.declared.shape.Shape.{Shape}
+use Rattle.pbx_desc_records.specs.declared.file.FileDescriptorProto.{FileDescriptorProto}
+use Rattle.pbx_desc_records.specs.declared.message.DescriptorProto.{DescriptorProto}
+use Rattle.pbx_described.specs.Descriptors.{Described, message_of_name}
 use Rattle.pbx_json.specs.Canonical.{canonical}
 use Rattle.pbx_json.specs.Named.{IsWellNamed}
 use Rattle.pbx_json.specs.Stands.{Stands}
 use Rattle.protox_file.specs.Told.{Lookup}
 use Rattle.protox_file.specs.Lines.{long_line_of}
-use Rattle.protox.specs.Top.{is_fault, is_refusal, top_line}
+use Rattle.protox.specs.Thin.{is_thin}
+use Rattle.protox.specs.Top.{IsUnbuilt, IsUndecodable, is_fault, is_refusal, top_line}
 use Rattle.protox.specs.Class.{limit, json_of, RefusedWith}
 use Rattle.protox.specs.Stops.{IsFaultLine}
 use Rattle.protox.specs.declared.error.TopError.{TopError}
@@ -27,6 +31,29 @@ use Rattle.protox.specs.declared.stop.Stop.TheVariants.{Words, Refused, Broken, 
 pub record IsBuilt (shape : Shape) (t : ℕ) : Type 0 where
   pub proper : IsProper shape
   pub named : IsWellNamed (declared_of shape t)
+
+-- one of the files nests too many levels, or want of memory
+abbrev pub IsNoSet : List FileDescriptorProto → TopError → Type 0
+IsNoSet files (top.File error) = IsUndecodable files error
+IsNoSet files top.NoMemory = Unit {0}
+IsNoSet files error = ⊥
+
+-- the type of that name is thin
+abbrev pub IsThinAt : List FileDescriptorProto → List ℕ → Type 0
+IsThinAt files name = (d : Described DescriptorProto) × (message_of_name files name ≡ Some d) × (is_thin d ≡ true)
+
+-- there is no type of that name, it is not thin, or want of memory
+abbrev pub IsNotThin : List FileDescriptorProto → List ℕ → TopError → Type 0
+IsNotThin files name (top.TypeNotFound n) = (n ≡ name) × (message_of_name files name ≡ None)
+IsNotThin files name top.NotBuilt = (d : Described DescriptorProto) × (message_of_name files name ≡ Some d) × (is_thin d ≡ false)
+IsNotThin files name top.NoMemory = Unit {0}
+IsNotThin files name error = ⊥
+
+-- what is not built at the shape, or want of memory
+abbrev pub IsNotShaped : Shape → List ℕ → Data → TopError → Type 0
+IsNotShaped shape name tree top.NotBuilt = IsUnbuilt shape name tree
+IsNotShaped shape name tree top.NoMemory = Unit {0}
+IsNotShaped shape name tree error = ⊥
 
 -- the wire bytes are those of the content, as many as memory can have, and the tree is its canonical one
 abbrev pub IsWritten : Shape → ℕ → Content → List ℕ → Data → Type 0

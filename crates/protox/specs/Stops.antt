@@ -7,7 +7,7 @@ use Rattle.protox_io.specs.Sink.{Appends, Begins}
 use Rattle.protox_file.specs.Told.{Lookup}
 use Rattle.protox_file.specs.Lines.{long_line_of}
 use Rattle.protox_file.specs.declared.error.ErrorKind.{ErrorKind}
-use Rattle.protox.specs.Top.{is_fault}
+use Rattle.protox.specs.Top.{is_resolver_fault}
 use Rattle.protox.specs.Words.{Args, path_word}
 use Rattle.protox.specs.Class.{Judges, Done, Refusing}
 use Rattle.protox.specs.Outcome.{Pieces, Same, SameBut, refusal_line, words_line, error_line}
@@ -18,7 +18,7 @@ use Rattle.protox.specs.declared.stop.Stop.TheVariants.{Words, Refused, Broken, 
 
 -- the line of a fault of reading a file
 abbrev pub IsFaultLine : List ℕ → Type 0
-IsFaultLine line = (error : ErrorKind) × (is_fault error ≡ true) × (line ≡ concat (long_line_of error))
+IsFaultLine line = (error : ErrorKind) × (is_resolver_fault error ≡ true) × (line ≡ concat (long_line_of error))
 
 -- nothing was written
 pub record Untouched (disk later : List Component → Held) (out : List ℕ) : Type 0 where
@@ -44,9 +44,11 @@ Leftover None lookups disk input later out path_refused out_refused = Untouched 
 Leftover (Some args) lookups disk input later out path_refused out_refused =
     Untouched disk later out ⊎ Midway args lookups disk input later out path_refused out_refused
 
--- a fault of reading says which file could not be read and why; a write comes only where all was read and accepted
+-- Faulty words end a run before anything is read. A fault of reading says which file could not be read and why; a write comes only where
+-- all was read and accepted.
 abbrev pub Reached : Option Args → (List ℕ → Lookup) → List ℕ → Object → Type 0
-Reached args lookups input Input = Unit {0}
+Reached None lookups input Input = ⊥
+Reached (Some args) lookups input Input = Unit {0}
 Reached None lookups input (File line) = ⊥
 Reached (Some args) lookups input (File line) = IsFaultLine line
 Reached None lookups input Path = ⊥
@@ -107,9 +109,9 @@ PlanStops args lookups input (Broken Path) = ⊥
 PlanStops args lookups input (Broken Output) = ⊥
 PlanStops args lookups input NoMemory = Unit {0}
 
--- a stop by an object has that object's count as its cause
+-- a stop of a run with arguments is none for its words; one by an object has that object's count as its cause
 abbrev pub Caused : Type 0 → Type 0 → Type 0 → Stop → Type 0
-Caused disk input out Words = Unit {0}
+Caused disk input out Words = ⊥
 Caused disk input out (Refused refusal) = Unit {0}
 Caused disk input out (Broken object) = RoseOf disk input out object
 Caused disk input out NoMemory = Unit {0}
@@ -161,6 +163,20 @@ WordStops disk later out Words = Untouched disk later out
 WordStops disk later out (Refused refusal) = ⊥
 WordStops disk later out (Broken object) = ⊥
 WordStops disk later out NoMemory = Untouched disk later out
+
+-- faulty words stop a run, or want of memory does
+abbrev pub IsWordStop : Stop → Type 0
+IsWordStop Words = Unit {0}
+IsWordStop (Refused refusal) = ⊥
+IsWordStop (Broken object) = ⊥
+IsWordStop NoMemory = Unit {0}
+
+-- how a run may end over every disk, input and output
+abbrev pub EndsFor : {T : Type 0} → Option Args → Type 0 → Type 0 → Type 0 → Result T Stop → Type 0
+EndsFor None disk input out (Ok x) = ⊥
+EndsFor None disk input out (Err stop) = IsWordStop stop
+EndsFor (Some args) disk input out (Ok x) = Unit {0}
+EndsFor (Some args) disk input out (Err stop) = Caused disk input out stop
 
 abbrev pub Comes : {T : Type 0} → Option Args → (List ℕ → Lookup) → (List Component → Held) → List ℕ → (List Component → Held) → Type 0 → Type 0 → Result T Stop → List ℕ → Type 0
 Comes None lookups disk input later rose refused (Ok x) out = ⊥

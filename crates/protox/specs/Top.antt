@@ -1,5 +1,5 @@
 -- What files, a type's name and a tree come to: the transcoding, or the first refusal.
-use Rattle.std.specs.Prelude.{◌≡◌, ◌∷◌, [], ℕ, List, Bool, true, false, not, ◌&&◌, map, Option, Some, None, ◌⊎◌, codes, if◌then◌else◌}
+use Rattle.std.specs.Prelude.{◌≡◌, ◌∷◌, [], ℕ, List, Bool, true, false, not, ◌&&◌, map, find, Option, Some, None, ◌⊎◌, codes, if◌then◌else◌}
 use Rattle.std.specs.List.{list_all, list_any}
 use Rattle.std.specs.Str.{bytes_eq}
 use Rattle.serde_json.specs.Data.{Data}
@@ -7,15 +7,19 @@ use Rattle.pbx_meaning.specs.Content.{Content}
 use Rattle.pbx_meaning.specs.Encoding.{encoded}
 use Rattle.pbx_meaning.specs.Same.{Decodes}
 use Rattle.pbx_meaning.specs.Shape.{declared_of}
+use Rattle.pbx_meaning.specs.Sound.{IsProper}
 use Rattle.pbx_meaning.specs.declared.shape.FieldShape.{FieldShape}
 use Rattle.pbx_meaning.specs.declared.shape.Shape.{Shape}
 use Rattle.pbx_desc_records.specs.declared.file.FileDescriptorProto.{FileDescriptorProto}
+use Rattle.pbx_desc_records.specs.declared.message.DescriptorProto.{DescriptorProto}
 use Rattle.pbx_desc.specs.Content.{files_content}
-use Rattle.pbx_desc.specs.Sets.{DecodesSet}
+use Rattle.pbx_desc.specs.Sets.{DecodesSet, is_deep_file}
 use Rattle.pbx_desc_shape.specs.Shape.{descriptor_shape}
 use Rattle.pbx_json.specs.Stands.{Stands}
 use Rattle.pbx_json.specs.Canonical.{canonical}
-use Rattle.pbx_link.specs.Shapes.{shape_of, message_named}
+use Rattle.pbx_definitions.specs.Names.{text_or_empty}
+use Rattle.pbx_described.specs.Descriptors.{Described, message_of_name}
+use Rattle.pbx_shapes.specs.Shapes.{shape_of, message_named}
 use Rattle.protox_file.specs.Lines.{long_line_of}
 use Rattle.protox_file.specs.Told.{Lookup}
 use Rattle.protox_file.specs.declared.error.ErrorKind.{ErrorKind}
@@ -23,6 +27,7 @@ use Rattle.protox_file.specs.declared.error.ErrorKind.TheVariants as kinds
 use Rattle.protox_compile.specs.Walk.{Done, records}
 use Rattle.protox_compile.specs.Opening.{Accepted, closure}
 use Rattle.protox_compile.specs.Closures.{StopsAt}
+use Rattle.protox.specs.Thin.{is_thin}
 use Rattle.protox.specs.declared.error.TopError.{TopError}
 use Rattle.protox.specs.declared.error.TopError.TheVariants.{File, JsonNames, WellKnownShape, TypeNotFound, TooDeep, NoMemory, NotBuilt}
 
@@ -51,22 +56,50 @@ Transcodes shape t tree wire written =
 abbrev pub IsSet : List FileDescriptorProto → List ℕ → Type 0
 IsSet files set = (set ≡ encoded descriptor_shape 0 (files_content files)) × DecodesSet set (files_content files)
 
--- among these linked files, the tree is transcoded as a message of the type of that name
-abbrev pub IsTranscoded : List ℕ → Data → List FileDescriptorProto → List ℕ → List ℕ → Data → Type 0
-IsTranscoded name tree files set wire written =
-    (t : ℕ) × (message_named name (shape_of files) ≡ Some t) × (has_own_names (declared_of (shape_of files) t) ≡ true)
-    × Transcodes (shape_of files) t tree wire written × IsSet files set
+-- no file nests more than 100 levels
+abbrev pub AreWithinLevels : List FileDescriptorProto → Type 0
+AreWithinLevels files = find is_deep_file files ≡ None
 
--- what is not built yet: a type that has other JSON names than its fields' own, and a tree that no content stands for
+-- In a shape that is proper, the type of that name has fields of their own names in JSON, and the tree is transcoded as a message of it.
+pub record IsTypeTranscoded (shape : Shape) (name : List ℕ) (tree : Data) (wire : List ℕ) (written : Data) : Type 0 where
+  pub proper : IsProper shape
+  pub place : ℕ
+  pub placed : message_named name shape ≡ Some place
+  pub own_names : has_own_names (declared_of shape place) ≡ true
+  pub transcodes : Transcodes shape place tree wire written
+
+-- Among these linked files, which can all be read again from their set, the type of that name is thin, and the tree is transcoded as a
+-- message of it.
+pub record IsTranscoded (name : List ℕ) (tree : Data) (files : List FileDescriptorProto) (set wire : List ℕ) (written : Data) : Type 0 where
+  pub within_levels : AreWithinLevels files
+  pub set_is : IsSet files set
+  pub type_of_name : Described DescriptorProto
+  pub found : message_of_name files name ≡ Some type_of_name
+  pub thin : is_thin type_of_name ≡ true
+  pub transcoded : IsTypeTranscoded (shape_of files) name tree wire written
+
+-- the error tells the first file that nests more than 100 levels
+abbrev pub IsUndecodable : List FileDescriptorProto → ErrorKind → Type 0
+IsUndecodable files (kinds.Undecodable file) = (g : FileDescriptorProto) × (find is_deep_file files ≡ Some g) × (file ≡ text_or_empty g.name)
+IsUndecodable files error = ⊥
+
+-- what is not built yet at a shape: one that is not proper, a type that has other JSON names than its fields' own, and a tree that no
+-- content stands for
+abbrev pub IsUnbuilt : Shape → List ℕ → Data → Type 0
+IsUnbuilt shape name tree =
+    ¬ (IsProper shape)
+    ⊎ ((t : ℕ) × (message_named name shape ≡ Some t) × ((has_own_names (declared_of shape t) ≡ false) ⊎ ((c : Content) → ¬ Stands shape t false tree c)))
+
+-- what is not built yet: a type that is not thin, and what is not built at the shape of the files
 abbrev pub IsNotBuilt : List ℕ → Data → List FileDescriptorProto → Type 0
 IsNotBuilt name tree files =
-    (t : ℕ) × (message_named name (shape_of files) ≡ Some t)
-    × ((has_own_names (declared_of (shape_of files) t) ≡ false) ⊎ ((c : Content) → ¬ Stands (shape_of files) t false tree c))
+    (d : Described DescriptorProto) × (message_of_name files name ≡ Some d) × ((is_thin d ≡ false) ⊎ IsUnbuilt (shape_of files) name tree)
 
--- why a type's name and a tree are refused among these linked files
+-- why a type's name and a tree are refused among these linked files: a file is told before the type's name, and that before the tree
 abbrev pub IsRefused : List ℕ → Data → List FileDescriptorProto → TopError → Type 0
-IsRefused name tree files (TypeNotFound n) = (n ≡ name) × (message_named name (shape_of files) ≡ None)
-IsRefused name tree files NotBuilt = IsNotBuilt name tree files
+IsRefused name tree files (File error) = IsUndecodable files error
+IsRefused name tree files (TypeNotFound n) = AreWithinLevels files × (n ≡ name) × (message_of_name files name ≡ None)
+IsRefused name tree files NotBuilt = AreWithinLevels files × IsNotBuilt name tree files
 IsRefused name tree files NoMemory = Unit {0}
 IsRefused name tree files error = ⊥
 
@@ -75,9 +108,14 @@ abbrev pub ForFiles : (List ℕ → Lookup) → (List ℕ → Option (List ℕ))
 ForFiles lookups resolves paths P =
     (files : List Done) × (closure lookups resolves most_files paths [] ≡ (files, Accepted)) × P (records files)
 
+-- why the files of paths are refused: a fault of the walk, or else a file that nests more than 100 levels
+abbrev pub RefusesFiles : (List ℕ → Lookup) → (List ℕ → Option (List ℕ)) → List (List ℕ) → ErrorKind → Type 0
+RefusesFiles lookups resolves paths error =
+    ((later : List Done) × StopsAt lookups resolves most_files paths [] later error) ⊎ ForFiles lookups resolves paths (λ files. IsUndecodable files error)
+
 -- why paths, a type's name and a tree are refused
 abbrev pub Refuses : (List ℕ → Lookup) → (List ℕ → Option (List ℕ)) → List (List ℕ) → List ℕ → Data → TopError → Type 0
-Refuses lookups resolves paths name tree (File error) = (later : List Done) × StopsAt lookups resolves most_files paths [] later error
+Refuses lookups resolves paths name tree (File error) = RefusesFiles lookups resolves paths error
 Refuses lookups resolves paths name tree NoMemory = Unit {0}
 Refuses lookups resolves paths name tree error = ForFiles lookups resolves paths (λ files. IsRefused name tree files error)
 
@@ -87,6 +125,12 @@ is_fault (kinds.OpenFile name path fault) = true
 is_fault (kinds.Custom text is_io) = true
 is_fault kinds.NoMemory = true
 is_fault kind = false
+
+-- the resolver could not open a file, or gave an error of its own; want of memory is none of these
+abbrev pub is_resolver_fault : ErrorKind → Bool
+is_resolver_fault (kinds.OpenFile name path fault) = true
+is_resolver_fault (kinds.Custom text is_io) = true
+is_resolver_fault kind = false
 
 -- a refusal of the input: neither a fault of the resolver nor want of memory
 abbrev pub is_refusal : TopError → Bool

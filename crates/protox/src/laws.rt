@@ -1,4 +1,4 @@
-ghost use Rattle.protox.specs.Laws.{DoneAlone, DoneOnce};
+ghost use Rattle.protox.specs.Laws.{DoneAlone, DoneOnce, TranscodedAlone, TranscodedOnce};
 
 /// A run that comes to status 0 comes to no refusal, and what it writes and prints is determined by the words,
 /// what the names of files look up to and the input. So status 0 comes exactly where nothing is refused, want of memory
@@ -6,4 +6,12 @@ ghost use Rattle.protox.specs.Laws.{DoneAlone, DoneOnce};
 pub fn done_is_determined()
     ensures alone { DoneAlone }
     ensures once { DoneOnce }
+{}
+
+/// The same of any paths, and of any resolver that tells its files: where `compile_and_transcode` gives a set, wire bytes
+/// and a tree, it refuses the paths, the type's name and the tree for no reason, want of memory and faults aside, and the
+/// three are determined.
+pub fn transcoded_is_determined()
+    ensures alone { TranscodedAlone }
+    ensures once { TranscodedOnce }
 {}

@@ -10,13 +10,15 @@ mod error;
 mod laws;
 mod plan;
 mod report;
+mod set;
 mod stop;
+mod thin;
 mod top;
 mod transcode;
 mod words;
 
 pub use error::TopError;
-pub use laws::done_is_determined;
+pub use laws::{done_is_determined, transcoded_is_determined};
 pub use stop::{Object, Refusal, Stop};
 pub use top::{Ran, run};
 pub use transcode::{Attempt, Transcoded, compile_and_transcode};

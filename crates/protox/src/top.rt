@@ -1,11 +1,11 @@
-ghost use Rattle.std.specs.Prelude.{◌≡◌, ◌≤◌, [], ◌⊎◌, OnOk, IfErr, IsTrue, List, ℕ};
+ghost use Rattle.std.specs.Prelude.{◌≡◌, ◌≤◌, [], ◌⊎◌, OnOk, IfErr, IsTrue, None, List, ℕ};
 ghost use Rattle.protox_io.specs.Count.{Rose};
 ghost use Rattle.protox_io.specs.Sink.{Appends};
 ghost use Rattle.protox_file.specs.Told.{Lookup};
 ghost use Rattle.protox.specs.Outcome.{Outcome, error_line};
 ghost use Rattle.protox.specs.Words.{args_of};
 ghost use Rattle.protox.specs.Class.{AreRead};
-ghost use Rattle.protox.specs.Stops.{Works, Comes, Caused, SinkRefuses, Says, RoseOf, Reached, Leftover, object_line, memory_line};
+ghost use Rattle.protox.specs.Stops.{Works, Comes, Caused, EndsFor, SinkRefuses, Says, RoseOf, Reached, Leftover, object_line, memory_line};
 ghost use Rattle.protox.specs.declared.stop.Object.{Object as AnObject};
 
 use crate::carry::carry;
@@ -66,7 +66,7 @@ fn obey<D: Disk, S: Source, K: Sink>(
     out: &mut K,
 ) -> Worked<D>
     ensures told { IsTrue (D.tells disk) → IsTrue (S.tells input.old) → IsTrue (K.tells out.old) → (lookups : List ℕ → Lookup) → AreRead (D.holds disk) lookups → Appends (K.held out.old) (K.held out.new) (Comes (args_of words.now) lookups (D.holds disk) (S.left input.old) (D.holds result.disk) (Rose (D.faults disk) (D.faults result.disk) (D.at_end result.disk)) (SinkRefuses (Rose (K.faults out.old) (K.faults out.new) (K.at_end out.new)) (K.short out.new)) result.ended) }
-    ensures cause { IfErr result.ended (Caused (Rose (D.faults disk) (D.faults result.disk) (D.at_end result.disk)) (Rose (S.faults input.old) (S.faults input.new) (S.at_end input.new)) (Rose (K.faults out.old) (K.faults out.new) (K.at_end out.new))) }
+    ensures cause { EndsFor (args_of words.now) (Rose (D.faults disk) (D.faults result.disk) (D.at_end result.disk)) (Rose (S.faults input.old) (S.faults input.new) (S.at_end input.new)) (Rose (K.faults out.old) (K.faults out.new) (K.at_end out.new)) result.ended }
     ensures end { IsTrue (S.tells input.old) → OnOk result.ended (S.left input.new ≡ []) }
 {
     match read_args(alloc, words) {
@@ -93,6 +93,10 @@ pub fn run<D: Disk, S: Source, K: Sink, E: Sink>(
     err: &mut E,
 ) -> Ran<D>
     ensures status { result.status ≤ 4 }
+
+    // Over every disk, input and output, status 2 comes exactly where the words are faulty, want of memory aside.
+    ensures words { result.status ≡ 2 → args_of words.now ≡ None }
+    ensures faulty { args_of words.now ≡ None → (result.status ≡ 2) ⊎ (result.status ≡ 4) }
 
     // A status of 0 to 2 is that of an outcome, whatever counts rose.
     ensures outcome { IsTrue (D.tells disk) → IsTrue (S.tells input.old) → IsTrue (K.tells out.old) → (lookups : List ℕ → Lookup) → AreRead (D.holds disk) lookups → result.status ≤ 2 →

@@ -1,6 +1,6 @@
 //! From files, a type's name and a tree to the set of the files, the wire bytes and the canonical tree.
 
-ghost use Rattle.std.specs.Prelude.{◌≡◌, ◌≤◌, ◌⊎◌, [], map, Some, IfOk, IfErr, IsTrue, false, List, ℕ};
+ghost use Rattle.std.specs.Prelude.{◌≡◌, ◌≤◌, ◌⊎◌, [], map, IfOk, IfErr, OnOk, IsSome, IsTrue, List, ℕ};
 ghost use Rattle.std.specs.List.{list_all};
 ghost use Rattle.std.specs.Str.{bytes_eq};
 ghost use Rattle.serde_json.specs.View.{view};
@@ -8,21 +8,24 @@ ghost use Rattle.pbx_meaning.specs.Shape.{declared_of};
 ghost use Rattle.pbx_meaning.specs.Sound.{IsProper};
 ghost use Rattle.pbx_codec.specs.View.{content_of};
 ghost use Rattle.pbx_json.specs.Canonical.{canonical};
+ghost use Rattle.pbx_pool_laws.specs.Pool.{ArePooled};
+ghost use Rattle.pbx_described.specs.Descriptors.{message_of_name};
+ghost use Rattle.pbx_shapes.specs.Shapes.{shape_of as shape_of_files};
 ghost use Rattle.protox_io.specs.Count.{Rose};
 ghost use Rattle.protox_file.specs.Told.{Lookup, AreLookups};
 ghost use Rattle.protox_compile.specs.Walk.{Done, records};
 ghost use Rattle.protox_compile.specs.Compiled.{IsOrdered};
-ghost use Rattle.protox.specs.Parts.{IsBuilt, IsNotTold, IsNotWritten, IsWritten};
-ghost use Rattle.protox.specs.Top.{ForFiles, IsSet, IsTranscoded, IsRefused, Refuses, IsCaused, Transcodes, has_own_names as has_own_names_of, are_distinct};
-ghost use Rattle.protox.specs.declared.error.TopError.{TopError as ATopError};
+ghost use Rattle.protox.specs.Parts.{IsBuilt, IsNotTold, IsNotWritten, IsWritten, IsThinAt, IsNotThin, IsNotShaped};
+ghost use Rattle.protox.specs.Top.{ForFiles, IsTranscoded, IsTypeTranscoded, IsRefused, Refuses, IsCaused, Transcodes, has_own_names as has_own_names_of, are_distinct};
 
 use crate::error::{TopError, file_error};
+use crate::set::set_of;
+use crate::thin::is_thin;
 use pbx_codec::{Contents, encode};
-use pbx_json::{
-    TreeError, canonical_is_plain, canonical_stands, read_contents, stands_flat, write_contents,
-};
-use pbx_link::{DescriptorPool, find_message, shape_of};
+use pbx_json::{TreeError, canonical_stands, read_contents, stands_flat, write_contents};
+use pbx_link::{DescriptorPool, shape_of};
 use pbx_meaning::{FieldShape, Schema, encoding_decodes};
+use pbx_shapes::{ShapeError, message_place};
 use pbx_wire::{Blob, NoMemory, Text, Texts};
 use protox_compile::Compiler;
 use protox_file::FileResolver;
@@ -147,12 +150,44 @@ fn transcode_as(
     write_both(alloc, schema, type_at, &contents)
 }
 
-/// The set of a pool's files.
-fn set_of(alloc: Global, pool: &DescriptorPool) -> Result<Blob, NoMemory>
-    ensures { IfOk result (IsSet pool.now) }
+/// The wire bytes and the canonical tree of a tree, as a message of a type of the pool's.
+fn transcode_type(
+    alloc: Global,
+    pool: &DescriptorPool,
+    type_name: &str,
+    tree: &Value,
+) -> Result<(Blob, Value), TopError>
+    ensures ok { IfOk result (λ done. IsTypeTranscoded (shape_of_files pool.now) type_name.now (view tree.now) done.0 (view done.1)) }
+    ensures err { IsSome (message_of_name pool.now type_name.now) → IfErr result (IsNotShaped (shape_of_files pool.now) type_name.now (view tree.now)) }
 {
-    let set = pool.encode_to_vec()?;
-    Blob::from_slice(alloc, set.as_slice())
+    let schema = match shape_of(alloc, pool) {
+        Ok(schema) => schema,
+        Err(ShapeError::Improper) => return Err(TopError::NotBuilt),
+        Err(ShapeError::NoMemory) => return Err(TopError::NoMemory),
+    };
+    let Some(type_at) = message_place(&schema, type_name) else {
+        return Err(TopError::NotBuilt);
+    };
+    match have_own_names(alloc, declared_fields(&schema, type_at)) {
+        Ok(true) => transcode_as(alloc, &schema, type_at, tree),
+        Ok(false) => Err(TopError::NotBuilt),
+        Err(NoMemory) => Err(TopError::NoMemory),
+    }
+}
+
+/// Refuses a name that is not that of a thin type of the pool's.
+fn check_type(alloc: Global, pool: &DescriptorPool, type_name: &str) -> Result<(), TopError>
+    ensures ok { OnOk result (IsThinAt pool.now type_name.now) }
+    ensures err { IfErr result (IsNotThin pool.now type_name.now) }
+{
+    let Some(message) = pool.get_message_by_name(type_name) else {
+        return Err(type_not_found(alloc, type_name));
+    };
+    if is_thin(&message) {
+        Ok(())
+    } else {
+        Err(TopError::NotBuilt)
+    }
 }
 
 /// The tree as a message of a type of the pool's, and the set of the pool's files.
@@ -165,21 +200,15 @@ fn transcode_in(
     ensures ok { IfOk result (λ done. IsTranscoded type_name.now (view tree.now) pool.now done.set done.wire (view done.tree)) }
     ensures err { IfErr result (IsRefused type_name.now (view tree.now) pool.now) }
 {
-    let Ok(schema) = shape_of(alloc, pool) else {
-        return Err(TopError::NoMemory);
+    let set = match set_of(alloc, pool) {
+        Ok(set) => set,
+        Err(error) => return Err(error),
     };
-    let Some(type_at) = find_message(&schema, type_name) else {
-        return Err(type_not_found(alloc, type_name));
-    };
-    match have_own_names(alloc, declared_fields(&schema, type_at)) {
-        Ok(true) => {}
-        Ok(false) => return Err(TopError::NotBuilt),
-        Err(NoMemory) => return Err(TopError::NoMemory),
+    match check_type(alloc, pool, type_name) {
+        Ok(()) => {}
+        Err(error) => return Err(error),
     }
-    let Ok(set) = set_of(alloc, pool) else {
-        return Err(TopError::NoMemory);
-    };
-    match transcode_as(alloc, &schema, type_at, tree) {
+    match transcode_type(alloc, pool, type_name, tree) {
         Ok((wire, tree)) => Ok(Transcoded { set, wire, tree }),
         Err(error) => Err(error),
     }
@@ -187,7 +216,8 @@ fn transcode_in(
 
 /// Compiles the files at the paths with all that they import, and transcodes a tree as a message of the type of that
 /// full name: into the set of the files, each behind all that it imports, the wire bytes and the canonical tree.
-/// At most 65,536 files are taken. The resolver is handed back.
+/// At most 65,536 files are taken, and none that nests more than 100 levels, since no reader of the set would take it.
+/// The resolver is handed back.
 ///
 /// The names of the paths are as those of `Compiler::open_file`. The tree is read last, so a file or a type's name is
 /// refused before it.
@@ -203,8 +233,8 @@ pub fn compile_and_transcode<R: FileResolver>(
     ensures err { IsTrue (R.tells resolver) → (lookups : List ℕ → Lookup) → AreLookups (R.files resolver) lookups → IfErr result.result (Refuses lookups (R.resolves resolver) paths.now type_name.now (view tree.now)) }
     ensures cause { IfErr result.result (IsCaused (Rose (R.faults resolver) (R.faults result.resolver) (R.at_end result.resolver))) }
 
-    // Over every resolver, the files stand in order, each once and behind its imports.
-    ensures ordered { IfOk result.result (λ done. (files : List Done) × IsOrdered [] files × IsTranscoded type_name.now (view tree.now) (records files) done.set done.wire (view done.tree)) }
+    // Over every resolver, the files stand in order, each once and behind its imports, and each is linked among those before it.
+    ensures ordered { IfOk result.result (λ done. (files : List Done) × IsOrdered [] files × ArePooled [] (records files) × IsTranscoded type_name.now (view tree.now) (records files) done.set done.wire (view done.tree)) }
     ensures later { R.faults resolver ≤ R.faults result.resolver }
     ensures keeps_tells { R.tells result.resolver ≡ R.tells resolver }
     ensures keeps_files { IsTrue (R.tells resolver) → R.files result.resolver ≡ R.files resolver }

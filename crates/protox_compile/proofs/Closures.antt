@@ -6,8 +6,9 @@ use Rattle.protox_file.specs.Told.{Lookup}
 use Rattle.protox_file.specs.declared.error.ErrorKind.{ErrorKind}
 use Rattle.protox_compile.specs.Walk.{Done}
 use Rattle.protox_compile.specs.Opening.{Opened, Accepted, NotIncluded, Refused, root_of, opening, closure, after_opening, grown}
-use Rattle.protox_compile.specs.Refusals.{RefusesWith}
+use Rattle.protox_compile.specs.Refusals.{RefusesWith, Grows}
 use Rattle.protox_compile.specs.Closures.{StopsAt}
+use Rattle.protox_compile.specs.State.{Opens, OpensTimes, IsLeftOut}
 
 module _ (lookups : List ℕ → Lookup) (resolves : List ℕ → Option (List ℕ)) (limit : ℕ) where
   then_push : (opened : List Done × Opened) (longer rest one : List Done → List Done × Opened) → ((d : List Done) → longer d ≡ after_opening (rest d) one) → after_opening opened longer ≡ after_opening (after_opening opened rest) one
@@ -30,8 +31,8 @@ module _ (lookups : List ℕ → Lookup) (resolves : List ℕ → Option (List �
         let e : take (suc i) paths ≡ take i paths ++ path ∷ [] = take-suc paths i path fits ∙ ap (λ p. take i paths ++ p ∷ []) (sym is) in
         rw (add-one, e, closure_push, before) o
 
-    pub stops_at : (new : List Done) (error : ErrorKind) → RefusesWith path (λ ls. grown ls limit (root_of resolves path) middle) (opening lookups resolves limit path middle) lookups new error → StopsAt lookups resolves limit paths old new error
-    stops_at new error r = record {
+    pub stops_at : (new : List Done) (error : ErrorKind) → RefusesWith path (λ ls. grown ls limit (root_of resolves path) middle) (opening lookups resolves limit path middle) lookups new error → Grows middle new → IsLeftOut (root_of resolves path) middle new → StopsAt lookups resolves limit paths old new error
+    stops_at new error r grows root = record {
       before = take i paths;
       path = path;
       after = drop (suc i) paths;
@@ -39,4 +40,10 @@ module _ (lookups : List ℕ → Lookup) (resolves : List ℕ → Option (List �
       split = split_at paths i path fits ∙ ap (λ p. take i paths ++ p ∷ drop (suc i) paths) (sym is);
       accepted = before;
       refused = r;
+      grows = grows;
+      root = root;
     }
+
+-- one opening more
+pub opens_next : (i : ℕ) (old middle new : List Done) → OpensTimes i old middle → Opens middle new → OpensTimes (i + 1) old new
+opens_next i old middle new before one = rw add-one (middle, before, one)

@@ -4,7 +4,7 @@ use Rattle.std.specs.List.{list_all}
 use Rattle.std.specs.Prelude.{nat_lt, ◌&&◌, if◌then◌else◌, reverse, Option, Some, None}
 use Rattle.std.proofs.lemmas.List.{append-nil}
 use Rattle.std.specs.Str.{bytes_eq}
-use Rattle.pbx_link.specs.Pool.{is_linkable}
+use Rattle.pbx_rules.specs.Breaches.{keeps_rules}
 use Rattle.pbx_definitions.specs.Names.{among}
 use Rattle.protox_paths.specs.Paths.{path_equal}
 use Rattle.protox_file.specs.Told.{Entry, Lookup, NoFile, IsFile, TextFault}
@@ -41,7 +41,7 @@ imports_extend v k chain n places seen (m ∷ ms) done =
     (after_extends n (length seen) (places (length seen)) m done (v done m) (visit_imports v chain n places (seen ++ m ∷ []) ms) (k done m) (imports_extend v k chain n places (seen ++ m ∷ []) ms))))
 
 pub finish_extends : (n : List ℕ) (entry : Entry) (done : List Done) (r : List Done × Option Fault) → Extends done r.0 → Extends done (finish n entry r).0
-finish_extends n entry done (d, None) e = extends_join e (extends_cond (is_linkable (records d) entry.file) d (d ++ done_as n entry ∷ [], Finished) (d, Faulted (Unlinked entry.file)) (extends_push d (done_as n entry)) (extends_same d))
+finish_extends n entry done (d, None) e = extends_join e (extends_cond (keeps_rules (records d) entry.file) d (d ++ done_as d n entry ∷ [], Finished) (d, Faulted (Unlinked entry.file)) (extends_push d (done_as d n entry)) (extends_same d))
 finish_extends n entry done (d, Some fault) e = e
 
 shadow_extends : (n : List ℕ) (asked path : Option (List ℕ)) (done : List Done) (v : List Done × Visited) → Extends done v.0 → Extends done (unless_shadowed n asked path done v).0

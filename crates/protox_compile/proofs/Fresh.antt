@@ -1,5 +1,5 @@
 -- The open files are not finished, and no two have one name.
-use Rattle.std.proofs.Common.{◌≡◌, ◌∷◌, ◌++◌, ◌∙◌, [], ℕ, List, Bool, true, false, refl, sym, subst, OnErr}
+use Rattle.std.proofs.Common.{◌≡◌, ◌∷◌, ◌++◌, ◌∙◌, [], ℕ, List, Bool, true, false, refl, sym, ap, subst, OnErr}
 use Rattle.std.specs.Prelude.{◌||◌, Result, Ok, Err}
 use Rattle.std.specs.Str.{bytes_eq}
 use Rattle.std.proofs.lemmas.Cmp.{nat_list_eq_equiv}
@@ -7,6 +7,7 @@ use Rattle.std.proofs.lemmas.List.Folds.{list_any-append}
 use Rattle.pbx_definitions.specs.Names.{among}
 use Rattle.protox_compile.specs.Walk.{Done, Open, is_done, done_as}
 use Rattle.protox_compile.specs.Resume.{names_of, past, IsVisit}
+use Rattle.protox_compile.proofs.Right.{same_bytes}
 
 -- the stack ends in the root, and no file on it is finished or open twice
 abbrev pub Fresh : List ℕ → List Open → List Done → Type 0
@@ -42,11 +43,11 @@ fresh_push root (f ∷ g ∷ fs) done d h e = (
   fresh_push root (g ∷ fs) done d h.2 (or_right (bytes_eq f.name d.name) (among (names_of (g ∷ fs)) d.name) e),
 )
 
-pub fresh_finish : (root : List ℕ) (f g : Open) (fs stack : List Open) (done now : List Done) → stack ≡ g ∷ fs → now ≡ done ++ done_as f.name f.entry ∷ [] → Fresh root (f ∷ stack) done → Fresh root (g ∷ fs) now
+pub fresh_finish : (root : List ℕ) (f g : Open) (fs stack : List Open) (done now : List Done) → stack ≡ g ∷ fs → now ≡ done ++ done_as done f.name f.entry ∷ [] → Fresh root (f ∷ stack) done → Fresh root (g ∷ fs) now
 fresh_finish root f g fs stack done now e n h =
     let P : List Open → Type 0 = λ s. Fresh root (f ∷ s) done in
     let k : Fresh root (f ∷ g ∷ fs) done = subst P e h in
-    rw n (fresh_push root (g ∷ fs) done (done_as f.name f.entry) k.2 k.1)
+    rw n (fresh_push root (g ∷ fs) done (done_as done f.name f.entry) k.2 k.1)
 
 fresh_open : (root : List ℕ) (child f : Open) (fs : List Open) (done : List Done) → IsVisit f fs done child.name → Fresh root (f ∷ fs) done → Fresh root (child ∷ past f ∷ fs) done
 fresh_open root child f [] done v h = (v.new, v.closed, h)
@@ -60,6 +61,20 @@ fresh_visit root name child f fs stack done e n v h =
 pub fresh_past : (root : List ℕ) (f : Open) (fs : List Open) (done : List Done) → Fresh root (f ∷ fs) done → Fresh root (past f ∷ fs) done
 fresh_past root f [] done h = h
 fresh_past root f (g ∷ fs) done h = h
+
+or_true : (a : Bool) → (a || true) ≡ true
+or_true true = refl
+or_true false = refl
+
+-- the last open file is the root
+pub root_done : (root : List ℕ) (f : Open) (fs : List Open) (done now : List Done) → fs ≡ [] → now ≡ done ++ done_as done f.name f.entry ∷ []
+    → Fresh root (f ∷ fs) done → is_done now root ≡ true
+root_done root f fs done now e n h =
+    let P : List Open → Type 0 = λ s. Fresh root (f ∷ s) done in
+    let k : Fresh root (f ∷ []) done = subst P e h in
+    let same : bytes_eq f.name root ≡ true = ap (bytes_eq f.name) (sym k.1) ∙ same_bytes f.name in
+    ap (λ d. is_done d root) n ∙ list_any-append (λ (d : Done). bytes_eq d.name root) done (done_as done f.name f.entry ∷ [])
+    ∙ ap (λ b. is_done done root || (b || false)) same ∙ or_true (is_done done root)
 
 pub on_err : {T E P : Type 0} (r : Result T E) → P → OnErr r P
 on_err (Ok x) p = tt

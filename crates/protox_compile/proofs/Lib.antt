@@ -1,3 +1,5 @@
+pub mod Indexed
+pub mod Found
 pub mod Resume
 pub mod Stacks
 pub mod Extends
@@ -10,5 +12,6 @@ pub mod Openings
 pub mod Closures
 pub mod Recorded
 pub mod Arrows
+pub mod Causes
 pub mod Walks
 pub mod Again

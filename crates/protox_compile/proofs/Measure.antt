@@ -3,7 +3,7 @@ use Rattle.std.proofs.Common.{◌≡◌, ◌+◌, ◌-◌, ◌*◌, ◌<◌, ◌
 use Rattle.std.specs.Prelude.{nat_lt}
 use Rattle.std.proofs.lemmas.List.{drop_all}
 use Rattle.std.proofs.lemmas.Bool.{ltb-false}
-use Rattle.pbx_link.specs.Pool.{is_linkable}
+use Rattle.pbx_rules.specs.Breaches.{keeps_rules}
 use Rattle.protox_file.specs.Told.{Lookup}
 use Rattle.protox_compile.specs.Walk.{Open, Done, Visited, Finished, Faulted, Unlinked, records, imports_of, done_as}
 use Rattle.protox_compile.specs.Resume.{past, resume}
@@ -23,12 +23,12 @@ pub visit_smaller : (limit d : ℕ) (f child : Open) (fs stack : List Open) → 
 visit_smaller limit d f child fs stack e room more first bound = rw e (omega arith)
 
 -- a file with no import left is linked and finished
-pub finishes : (lookups : List ℕ → Lookup) (limit : ℕ) (f : Open) (fs : List Open) (done now : List Done) → nat_lt f.next (length (imports_of f.entry)) ≡ false → is_linkable (records done) f.entry.file ≡ true → now ≡ done ++ done_as f.name f.entry ∷ []
+pub finishes : (lookups : List ℕ → Lookup) (limit : ℕ) (f : Open) (fs : List Open) (done now : List Done) → nat_lt f.next (length (imports_of f.entry)) ≡ false → keeps_rules (records done) f.entry.file ≡ true → now ≡ done ++ done_as done f.name f.entry ∷ []
     → resume lookups limit (f ∷ fs) done ≡ resume lookups limit fs now
 finishes lookups limit f fs done now h l e = rw e (resume_finish lookups limit f fs done (drop_all f.next (imports_of f.entry) (ltb-false _ _ h)) l)
 
 -- or it is not linked
-pub stops_unlinked : (lookups : List ℕ → Lookup) (limit : ℕ) (f : Open) (fs : List Open) (done : List Done) → nat_lt f.next (length (imports_of f.entry)) ≡ false → is_linkable (records done) f.entry.file ≡ false
+pub stops_unlinked : (lookups : List ℕ → Lookup) (limit : ℕ) (f : Open) (fs : List Open) (done : List Done) → nat_lt f.next (length (imports_of f.entry)) ≡ false → keeps_rules (records done) f.entry.file ≡ false
     → resume lookups limit (f ∷ fs) done ≡ (done, Faulted (Unlinked f.entry.file))
 stops_unlinked lookups limit f fs done h l = resume_unlinked lookups limit f fs done (drop_all f.next (imports_of f.entry) (ltb-false _ _ h)) l
 

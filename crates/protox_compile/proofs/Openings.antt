@@ -1,19 +1,21 @@
 -- How an opening is refused.
-use Rattle.std.proofs.Common.{◌≡◌, ◌<◌, ◌++◌, inl, inr, [], ℕ, List, Bool, true, false, refl, sym, subst, length, take, drop, get_or, drop-cons}
+use Rattle.std.proofs.Common.{◌≡◌, ◌<◌, ◌≤◌, ◌∷◌, ◌++◌, ◌∙◌, arith, inl, inr, [], ℕ, suc, List, Bool, true, false, refl, sym, ap, subst, length, take, drop, get_or, drop-cons}
 use Rattle.std.proofs.Math.ListN.{set}
-use Rattle.std.proofs.lemmas.List.{set_split}
-use Rattle.std.specs.Prelude.{if◌then◌else◌, Option, Some, None, Result, IfErr}
+use Rattle.std.proofs.lemmas.List.{set_split, append-nil, length-append}
+use Rattle.std.specs.Prelude.{if◌then◌else◌, Option, Some, None, Result, Ok, Err, IfErr, OnOk}
 use Rattle.std.specs.Str.{bytes_eq}
 use Rattle.pbx_parse.specs.declared.error.ParseError.TheVariants as parse
 use Rattle.protox_file.specs.Told.{Lookup}
 use Rattle.protox_file.specs.declared.error.ErrorKind.{ErrorKind}
 use Rattle.protox_file.specs.declared.error.ErrorKind.TheVariants.{Parse, Check, OpenFile, FileTooLarge, FileInvalidUtf8, FileNotFound, ImportNotFound, CircularImport, FileNotIncluded, FileShadowed, DuplicateImport, Custom, NameMismatch, FileLimit, Undecodable, NoMemory}
 use Rattle.protox_compile.specs.Walk.{Done, Finished, Missing, Shadowed, is_done, visits}
-use Rattle.protox_paths.specs.Paths.{path_equal}
-use Rattle.protox_compile.specs.State.{IsShadowedBy, IsLeftOut, IsRoot}
-use Rattle.protox_compile.specs.Refusals.{Walk, Extends, Ends, OrNoMemory, IsToldBy, is_absent, RefusesWith, HasStepCause, HasOpeningCause}
+use Rattle.protox_io.specs.Count.{Rose}
+use Rattle.protox_paths.specs.Paths.{name_of, path_equal}
+use Rattle.protox_compile.specs.State.{IsShadowedBy, IsLeftOut, IsRoot, Opens, is_settled}
+use Rattle.protox_compile.specs.Refusals.{Walk, Extends, Ends, OrNoMemory, IsToldBy, is_absent, RefusesWith, Grows, HasRootCause, HasOpeningCause}
 use Rattle.protox_compile.specs.Opening.{Accepted, Refused, mark, asked_path, path_in, open_done, open_root, open_name, root_of, opening, grown}
-use Rattle.protox_compile.proofs.Extends.{extends_same}
+use Rattle.protox_compile.proofs.Extends.{extends_same, grows_same}
+use Rattle.protox_compile.proofs.Causes.{asked_is}
 use Rattle.protox_compile.proofs.Roots.{root_walk, root_extends}
 
 -- the first file of the name, marked in its place
@@ -85,24 +87,67 @@ pub accepts_new : (lookups : List ℕ → Lookup) (limit : ℕ) (n : List ℕ) (
 accepts_new lookups limit n asked done middle later new h e = rw (new, h, e) refl
 
 -- what is known of the error of a root
-pub opening_cause : (path : List ℕ) (rose : Type 0) (error answer : ErrorKind) → HasStepCause rose error → IsToldBy (FileNotIncluded path) error answer → HasOpeningCause path rose answer
-opening_cause path rose error answer h k = by_case (is_absent error) refl
+pub opening_cause : (limit : ℕ) (path : List ℕ) (resolved : Bool) (later : List Done) (rose : Type 0) (error answer : ErrorKind) → HasRootCause (asked_path resolved path) limit later rose error → IsToldBy (FileNotIncluded path) error answer → HasOpeningCause limit path later rose answer
+opening_cause limit path resolved later rose error answer h k = by_case (is_absent error) refl
   where
-    absence : OrNoMemory answer (FileNotIncluded path) → HasOpeningCause path rose answer
+    absence : OrNoMemory answer (FileNotIncluded path) → HasOpeningCause limit path later rose answer
     absence (inl memory) = rw memory tt
     absence (inr same) = rw same refl
 
-    other_kind : (e : ErrorKind) → HasStepCause rose e → is_absent e ≡ false → HasOpeningCause path rose e
+    other_kind : (e : ErrorKind) → HasRootCause (asked_path resolved path) limit later rose e → is_absent e ≡ false → HasOpeningCause limit path later rose e
+    other_kind (Check why) x a = x
     other_kind (OpenFile name p fault) x a = x
     other_kind (Custom text is_io) x a = x
     other_kind (FileNotFound name) x a = absurd (cc)
     other_kind (FileNotIncluded p) x a = absurd x
+    other_kind (FileShadowed name p s) x a = (asked_is resolved path p x.0, x.1)
+    other_kind (NameMismatch asked declared) x a = x
+    other_kind (FileLimit most) x a = x
     other_kind (Undecodable file) x a = absurd x
     other_kind _ x a = tt
 
-    by_case : (b : Bool) → is_absent error ≡ b → HasOpeningCause path rose answer
+    by_case : (b : Bool) → is_absent error ≡ b → HasOpeningCause limit path later rose answer
     by_case true e = absence (k.absent e)
     by_case false e = rw (k.other e) (other_kind error h e)
+
+-- the same of a cause that another gives
+pub cause_later : (limit : ℕ) (path : List ℕ) (later : List Done) (rose wider : Type 0) (error : ErrorKind) → (rose → wider) → HasOpeningCause limit path later rose error
+    → HasOpeningCause limit path later wider error
+cause_later limit path later rose wider (OpenFile name p fault) f h = f h
+cause_later limit path later rose wider (Custom text is_io) f h = f h
+cause_later limit path later rose wider _ f h = h
+
+-- a count that rose since a later call has risen since an earlier one
+pub rose_since : (first before now : ℕ) (spent : Bool) → first ≤ before → Rose before now spent → Rose first now spent
+rose_since first before now spent h (inl rose) = inl (omega arith)
+rose_since first before now spent h (inr end) = inr end
+
+-- ---- marks
+
+-- a finished file is marked
+pub opens_again : {T E : Type 0} (result : Result T E) (name : List ℕ) (old new : List Done) → name_of name ≡ Some name → is_done old name ≡ true → OnOk result (new ≡ mark name old) → OnOk result (Opens old new)
+opens_again (Err e) name old new own there h = tt
+opens_again (Ok x) name old new own there h = record { name = name; named = own; middle = old; grows = grows_same old; finished = there; marked = h }
+
+-- a file that is finished now is marked
+pub opens_new : (name : List ℕ) (old middle new : List Done) → name_of name ≡ Some name → Grows old middle → is_done middle name ≡ true → new ≡ mark name middle → Opens old new
+opens_new name old middle new own grows there h = record { name = name; named = own; middle = middle; grows = grows; finished = there; marked = h }
+
+length_mark : (name : List ℕ) (done : List Done) → length (mark name done) ≡ length done
+length_mark name [] = refl
+length_mark name (d ∷ ds) = at (length_mark name ds) (bytes_eq d.name name)
+  where
+    at : length (mark name ds) ≡ length ds → (b : Bool) → length (if b then record d { opened = true } ∷ ds else d ∷ mark name ds) ≡ suc (length ds)
+    at rest true = refl
+    at rest false = ap suc rest
+
+-- where a name was finished that was not before, there are more files
+pub longer : (name : List ℕ) (old middle new : List Done) → is_done old name ≡ false → Grows old middle → is_done middle name ≡ true → new ≡ mark name middle → length new ≡ length old → ⊥
+longer name old middle new fresh grows there marked same = at grows.more grows.is
+  where
+    at : (more : List Done) → middle ≡ old ++ more → ⊥
+    at [] e = let both : true ≡ false = sym there ∙ ap (λ ds. is_done ds name) (e ∙ append-nil old) ∙ fresh in cc
+    at (d ∷ ds) e = omega (arith, same, ap length marked, length_mark name middle, ap length e, length-append old (d ∷ ds))
 
 -- ---- a path
 
@@ -129,3 +174,7 @@ pub root_found : (root : Option (List ℕ × Option (List ℕ))) (path name text
 root_found root path name text resolved found h e t =
     let P : Option (List ℕ × Bool) → Type 0 = λ f. IsRoot root path f in
     rw t (subst P e h)
+
+-- its name is finished
+pub settled_found : (root : Option (List ℕ × Option (List ℕ))) (name : List ℕ) (asked : Option (List ℕ)) (done : List Done) → root ≡ Some (name, asked) → is_settled root done ≡ true → is_done done name ≡ true
+settled_found root name asked done e h = let P : Option (List ℕ × Option (List ℕ)) → Type 0 = λ r. is_settled r done ≡ true in subst P e h

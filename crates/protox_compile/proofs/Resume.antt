@@ -4,7 +4,7 @@ use Rattle.std.proofs.Math.Seq.{take-suc}
 use Rattle.std.specs.Prelude.{nat_lt, if◌then◌else◌, Option, Some, None}
 use Rattle.std.specs.Str.{bytes_eq}
 use Rattle.std.proofs.lemmas.Bool.{lt-ltb, le-ltb}
-use Rattle.pbx_link.specs.Pool.{is_linkable}
+use Rattle.pbx_rules.specs.Breaches.{keeps_rules}
 use Rattle.pbx_definitions.specs.Names.{among}
 use Rattle.protox_file.specs.Told.{Entry, Lookup, NoFile, IsFile, TextFault}
 use Rattle.protox_compile.specs.Places.{place_of_import}
@@ -23,13 +23,13 @@ pub visits_step : (lookups : List ℕ → Lookup) (limit : ℕ) (chain : List (L
 visits_step lookups limit chain asked n done = visit_room lookups limit (limit - length chain) chain asked n done refl
 
 -- a file with no import left is linked and finished
-pub resume_finish : (lookups : List ℕ → Lookup) (limit : ℕ) (f : Open) (fs : List Open) (done : List Done) → drop f.next (imports_of f.entry) ≡ [] → is_linkable (records done) f.entry.file ≡ true
-    → resume lookups limit (f ∷ fs) done ≡ resume lookups limit fs (done ++ done_as f.name f.entry ∷ [])
+pub resume_finish : (lookups : List ℕ → Lookup) (limit : ℕ) (f : Open) (fs : List Open) (done : List Done) → drop f.next (imports_of f.entry) ≡ [] → keeps_rules (records done) f.entry.file ≡ true
+    → resume lookups limit (f ∷ fs) done ≡ resume lookups limit fs (done ++ done_as done f.name f.entry ∷ [])
 unfolding resume
 resume_finish lookups limit f fs done e l = rw (e, l) refl
 
 -- or it is not linked
-pub resume_unlinked : (lookups : List ℕ → Lookup) (limit : ℕ) (f : Open) (fs : List Open) (done : List Done) → drop f.next (imports_of f.entry) ≡ [] → is_linkable (records done) f.entry.file ≡ false
+pub resume_unlinked : (lookups : List ℕ → Lookup) (limit : ℕ) (f : Open) (fs : List Open) (done : List Done) → drop f.next (imports_of f.entry) ≡ [] → keeps_rules (records done) f.entry.file ≡ false
     → resume lookups limit (f ∷ fs) done ≡ (done, Faulted (Unlinked f.entry.file))
 unfolding resume
 resume_unlinked lookups limit f fs done e l = rw (e, l) refl
@@ -37,10 +37,10 @@ resume_unlinked lookups limit f fs done e l = rw (e, l) refl
 -- what follows the visit of an import is what follows it on the stack
 through : (n : List ℕ) (entry : Entry) (i : ℕ) (place : Option (ℕ × ℕ)) (m : List ℕ) (inner : Entry) (ended : List Done × Option Fault) (later : List Done → List Done × Option Fault) (rest : List Done → List Done × Visited)
     → go_on (finish n entry (after_visit n i place m (finish m inner ended) later)) rest ≡ go_on (finish m inner ended) (λ d. go_on (finish n entry (later d)) rest)
-through n entry i place m inner (done, None) later rest = by_case (is_linkable (records done) inner.file)
+through n entry i place m inner (done, None) later rest = by_case (keeps_rules (records done) inner.file)
   where
-    by_case : (b : Bool) → go_on (finish n entry (after_visit n i place m (if b then (done ++ done_as m inner ∷ [], Finished) else (done, Faulted (Unlinked inner.file))) later)) rest
-        ≡ go_on (if b then (done ++ done_as m inner ∷ [], Finished) else (done, Faulted (Unlinked inner.file))) (λ d. go_on (finish n entry (later d)) rest)
+    by_case : (b : Bool) → go_on (finish n entry (after_visit n i place m (if b then (done ++ done_as done m inner ∷ [], Finished) else (done, Faulted (Unlinked inner.file))) later)) rest
+        ≡ go_on (if b then (done ++ done_as done m inner ∷ [], Finished) else (done, Faulted (Unlinked inner.file))) (λ d. go_on (finish n entry (later d)) rest)
     by_case true = refl
     by_case false = refl
 through n entry i place m inner (done, Some fault) later rest = refl

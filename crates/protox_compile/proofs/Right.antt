@@ -62,7 +62,7 @@ moved false false true h = refl
 moved false false false h = h
 
 -- a file of the stack is finished
-pub right_finished : (files : List ℕ → Told) (lookups : List ℕ → Lookup) (f : Open) (fs : List Open) (done now : List Done) → now ≡ done ++ done_as f.name f.entry ∷ [] → AreRightAt files lookups fs now → AreRightAt files lookups (f ∷ fs) done
+pub right_finished : (files : List ℕ → Told) (lookups : List ℕ → Lookup) (f : Open) (fs : List Open) (done now : List Done) → now ≡ done ++ done_as done f.name f.entry ∷ [] → AreRightAt files lookups fs now → AreRightAt files lookups (f ∷ fs) done
 right_finished files lookups f fs done now e h name opened =
-    let there : is_done now name ≡ (is_done done name || (bytes_eq f.name name || false)) = ap (λ d. is_done d name) e ∙ list_any-append (λ (d : Done). bytes_eq d.name name) done (done_as f.name f.entry ∷ []) in
+    let there : is_done now name ≡ (is_done done name || (bytes_eq f.name name || false)) = ap (λ d. is_done d name) e ∙ list_any-append (λ (d : Done). bytes_eq d.name name) done (done_as done f.name f.entry ∷ []) in
     h name (rw there (moved (among (names_of fs) name) (is_done done name) (bytes_eq f.name name) opened))

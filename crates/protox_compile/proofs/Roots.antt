@@ -2,7 +2,7 @@
 use Rattle.std.proofs.Common.{◌≡◌, ◌+◌, ◌-◌, ◌≤◌, ◌∷◌, ◌++◌, [], ℕ, List, Bool, true, false, refl, sym, length, arith}
 use Rattle.std.specs.Prelude.{nat_lt, if◌then◌else◌, Option, Some, None}
 use Rattle.std.proofs.lemmas.Bool.{lt-ltb, le-ltb}
-use Rattle.pbx_link.specs.Pool.{is_linkable}
+use Rattle.pbx_rules.specs.Breaches.{keeps_rules}
 use Rattle.pbx_parse.specs.declared.error.ParseError.TheVariants as parse
 use Rattle.protox_file.specs.Told.{Entry, Told, Lookup, NoFile, IsLookup}
 use Rattle.protox_file.specs.declared.error.ErrorKind.{ErrorKind}
@@ -36,9 +36,9 @@ module _ (limit : ℕ) (asked : Option (List ℕ)) (n : List ℕ) (done : List D
     inside = le-ltb _ _ (omega arith)
 
     ended : (v : List Done × Option Fault) (entry : Entry) → go_on (finish n entry v) (λ d. (d, Finished)) ≡ finish n entry v
-    ended (d, None) entry = by_case (is_linkable (records d) entry.file)
+    ended (d, None) entry = by_case (keeps_rules (records d) entry.file)
       where
-        by_case : (b : Bool) → go_on (if b then (d ++ done_as n entry ∷ [], Finished) else (d, Faulted (Unlinked entry.file))) (λ x. (x, Finished)) ≡ (if b then (d ++ done_as n entry ∷ [], Finished) else (d, Faulted (Unlinked entry.file)))
+        by_case : (b : Bool) → go_on (if b then (d ++ done_as d n entry ∷ [], Finished) else (d, Faulted (Unlinked entry.file))) (λ x. (x, Finished)) ≡ (if b then (d ++ done_as d n entry ∷ [], Finished) else (d, Faulted (Unlinked entry.file)))
         by_case true = refl
         by_case false = refl
     ended (d, Some fault) entry = refl

@@ -1,12 +1,15 @@
 -- A stack that is kept in a list, its top last.
-use Rattle.std.proofs.Common.{◌≡◌, ◌∷◌, ◌++◌, ◌∙◌, [], ℕ, List, Bool, true, false, refl, sym, map, reverse}
+use Rattle.std.proofs.Common.{◌≡◌, ◌∷◌, ◌++◌, ◌∙◌, [], ℕ, List, Bool, true, false, refl, sym, ap, map, reverse, length}
 use Rattle.std.specs.Prelude.{◌||◌}
 use Rattle.std.specs.List.{list_any}
 use Rattle.std.specs.Str.{bytes_eq}
-use Rattle.std.proofs.lemmas.List.{reverse-append, reverse-reverse, map-append}
+use Rattle.std.proofs.lemmas.List.{reverse-append, reverse-reverse, map-append, length-map}
 use Rattle.std.proofs.lemmas.List.Folds.{list_any-append}
 use Rattle.pbx_definitions.specs.Names.{among}
 use Rattle.protox_compile.specs.Walk.{Open}
+use Rattle.protox_compile.specs.Resume.{names_of}
+use Rattle.protox_compile.specs.declared.indexes.Indexes.{Indexes}
+use Rattle.protox_compile.specs.Indexes.{AreIndexed}
 
 or_swap : (a b : Bool) → (a || b) ≡ (b || a)
 or_swap true true = refl
@@ -23,15 +26,8 @@ list_any_reverse p [] = refl
 list_any_reverse p (x ∷ xs) = let e : reverse (x ∷ xs) ≡ reverse xs ++ x ∷ [] = reverse-append (x ∷ []) xs in
     rw (e, list_any-append, list_any_reverse p xs) (or_swap (list_any p xs) (list_any p (x ∷ [])) ∙ or_false (p x) (list_any p xs))
 
-pub among_names : (fs : List Open) (name : List ℕ) → among (map (λ (f : Open). f.name) fs) name ≡ list_any (λ (f : Open). bytes_eq f.name name) fs
-among_names [] name = refl
-among_names (f ∷ fs) name = rw (among_names fs name) refl
-
 pub reverse_push : {X : Type 0} (xs : List X) (x : X) → reverse (xs ++ x ∷ []) ≡ x ∷ reverse xs
 reverse_push xs x = reverse-append xs (x ∷ [])
-
-pub holds_reversed : (fs : List Open) (name : List ℕ) (answer : Bool) → answer ≡ list_any (λ (f : Open). bytes_eq f.name name) fs → answer ≡ among (map (λ (f : Open). f.name) (reverse fs)) name
-holds_reversed fs name answer e = e ∙ sym (among_names (reverse fs) name ∙ list_any_reverse (λ (f : Open). bytes_eq f.name name) fs)
 
 pub map_reverse : {X Y : Type 0} (f : X → Y) (xs : List X) → map f (reverse xs) ≡ reverse (map f xs)
 map_reverse f [] = refl
@@ -42,3 +38,15 @@ map_reverse f (x ∷ xs) =
 
 pub names_reversed : {X Y : Type 0} (f : X → Y) (xs : List X) → map f xs ≡ reverse (map f (reverse xs))
 names_reversed f xs = rw (map_reverse, reverse-reverse) refl
+
+-- a name is that of one of the files in either order
+pub among_reversed : (fs : List Open) (name : List ℕ) → among (names_of fs) name ≡ among (names_of (reverse fs)) name
+among_reversed fs name = sym (ap (λ ns. among ns name) (map_reverse (λ (f : Open). f.name) fs) ∙ list_any_reverse (λ n. bytes_eq n name) (names_of fs))
+
+-- the last of the files is taken out
+pub indexed_pop : (names now : Indexes) (old fs : List Open) (f : Open) (index : ℕ) → index ≡ length fs → old ≡ fs ++ f ∷ []
+    → ((ns : List (List ℕ)) → length ns ≡ index → AreIndexed names (ns ++ f.name ∷ []) → AreIndexed now ns) → AreIndexed names (names_of old)
+    → AreIndexed now (names_of fs)
+indexed_pop names now old fs f index long is less h =
+    let same : length (names_of fs) ≡ index = rw length-map (sym long) in
+    less (names_of fs) same (rw (is, map-append) at h)

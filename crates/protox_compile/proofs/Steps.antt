@@ -2,7 +2,8 @@
 use Rattle.std.proofs.Common.{◌≡◌, ◌+◌, ◌<◌, ◌≤◌, ◌∙◌, inl, inr, ◌∷◌, ◌++◌, [], ℕ, List, Bool, true, false, refl, sym, ap, length, take, reverse, arith, add-one}
 use Rattle.std.specs.Prelude.{nat_lt, None}
 use Rattle.pbx_link.specs.declared.error.DescriptorError.{DescriptorError}
-use Rattle.pbx_link.specs.Pool.{is_linkable, IsRefused}
+use Rattle.pbx_link.specs.Pool.{IsRefused}
+use Rattle.pbx_rules.specs.Breaches.{keeps_rules}
 use Rattle.pbx_definitions.specs.Names.{among}
 use Rattle.pbx_parse.specs.declared.error.ParseError.TheVariants as parse
 use Rattle.protox_file.specs.Told.{Told, Lookup, NoFile, IsLookup, AreLookups}
@@ -31,12 +32,12 @@ module _ (files : List ℕ → Told) (limit : ℕ) where
   ends_memory fs done walk follows lookups all = front fs done walk lookups follows all
 
   -- a file is finished
-  pub finish_leads : (f : Open) (fs : List Open) (done now : List Done) → nat_lt f.next (length (imports_of f.entry)) ≡ false → is_linkable (records done) f.entry.file ≡ true → now ≡ done ++ done_as f.name f.entry ∷ [] → LeadsTo files limit (f ∷ fs) done fs now
+  pub finish_leads : (f : Open) (fs : List Open) (done now : List Done) → nat_lt f.next (length (imports_of f.entry)) ≡ false → keeps_rules (records done) f.entry.file ≡ true → now ≡ done ++ done_as done f.name f.entry ∷ [] → LeadsTo files limit (f ∷ fs) done fs now
   finish_leads f fs done now last links is walk follows lookups right =
       follows lookups (right_finished files lookups f fs done now is right) ∙ finishes lookups limit f fs done now last links is
 
   -- a file is not linked
-  pub finish_ends : (f : Open) (fs : List Open) (done : List Done) (error : DescriptorError) → nat_lt f.next (length (imports_of f.entry)) ≡ false → is_linkable (records done) f.entry.file ≡ false → IsRefused (records done) f.entry.file error → EndsWalks files limit (f ∷ fs) done (Check error) done
+  pub finish_ends : (f : Open) (fs : List Open) (done : List Done) (error : DescriptorError) → nat_lt f.next (length (imports_of f.entry)) ≡ false → keeps_rules (records done) f.entry.file ≡ false → IsRefused (records done) f.entry.file error → EndsWalks files limit (f ∷ fs) done (Check error) done
   finish_ends f fs done error last links refused walk follows lookups all = record {
     file = f.entry.file;
     walk_is = follows lookups (right_all files lookups (f ∷ fs) done all) ∙ stops_unlinked lookups limit f fs done last links;

@@ -3,9 +3,9 @@ use Rattle.std.proofs.Common.{◌≡◌, ◌∷◌, ◌∙◌, [], ℕ, List, fa
 use Rattle.std.specs.Prelude.{nat_lt, Result, Ok, Err}
 use Rattle.protox_file.specs.Told.{Told, Lookup, AreLookups}
 use Rattle.protox_file.specs.declared.error.ErrorKind.{ErrorKind}
-use Rattle.protox_file.specs.declared.error.ErrorKind.TheVariants.{Check, NoMemory}
+use Rattle.protox_file.specs.declared.error.ErrorKind.TheVariants.{Check, OpenFile, Custom, NoMemory}
 use Rattle.protox_compile.specs.Walk.{Done, Open, Finished, records, imports_of}
-use Rattle.protox_compile.specs.Refusals.{Walk, Ends}
+use Rattle.protox_compile.specs.Refusals.{Walk, Ends, HasStepCause}
 use Rattle.protox_compile.specs.Compiled.{IsUnlinked}
 use Rattle.protox_compile.specs.Resume.{past, IsVisit, AdvancesOrVisits, Follows, EndsWalks, LeadsTo}
 use Rattle.protox_compile.specs.declared.step.Import.{Import}
@@ -30,6 +30,12 @@ unlinked_ends files limit f fs done _ last h = absurd h
 -- the same stack, written otherwise
 pub same_stack : (files : List ℕ → Told) (walk : Walk) (limit : ℕ) (fs gs : List Open) (done : List Done) → fs ≡ gs → Follows files walk limit fs done → Follows files walk limit gs done
 same_stack files walk limit fs gs done e h = let P : List Open → Type 0 = λ s. Follows files walk limit s done in subst P e h
+
+-- a cause that another gives
+pub step_cause_later : (limit : ℕ) (done : List Done) (rose wider : Type 0) (error : ErrorKind) → (rose → wider) → HasStepCause limit done rose error → HasStepCause limit done wider error
+step_cause_later limit done rose wider (OpenFile name path fault) f h = f h
+step_cause_later limit done rose wider (Custom text is_io) f h = f h
+step_cause_later limit done rose wider _ f h = h
 
 pub fresh_next : (root : List ℕ) (f next : Open) (fs : List Open) (done : List Done) → next ≡ past f → Fresh root (f ∷ fs) done → Fresh root (next ∷ fs) done
 fresh_next root f next fs done e h = let P : Open → Type 0 = λ x. Fresh root (x ∷ fs) done in subst P (sym e) (fresh_past root f fs done h)

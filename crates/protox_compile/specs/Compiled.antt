@@ -1,8 +1,9 @@
 -- Compiled files: what is known of each, beside the records of a pool.
-use Rattle.std.specs.Prelude.{◌≡◌, ℕ, List, [], ◌∷◌, ◌++◌, true, false, not, if◌then◌else◌, Option, Some, None}
+use Rattle.std.specs.Prelude.{◌≡◌, ℕ, zero, suc, map, List, [], ◌∷◌, ◌++◌, true, false, not, if◌then◌else◌, Option, Some, None}
 use Rattle.std.specs.Str.{bytes_eq}
 use Rattle.pbx_desc_records.specs.declared.file.FileDescriptorProto.{FileDescriptorProto}
-use Rattle.pbx_link.specs.Pool.{is_linkable, IsRefused}
+use Rattle.pbx_rules.specs.Breaches.{keeps_rules}
+use Rattle.pbx_link.specs.Pool.{IsRefused}
 use Rattle.protox_file.specs.Metadata.{Metadata}
 use Rattle.protox_file.specs.declared.error.ErrorKind.{ErrorKind}
 use Rattle.protox_file.specs.declared.error.ErrorKind.TheVariants.{Check, NoMemory}
@@ -34,6 +35,22 @@ abbrev pub opened_in : List ℕ → List Metadata → List Metadata
 opened_in name [] = []
 opened_in name (m ∷ ms) = if bytes_eq m.name name then record m { is_import = false } ∷ ms else m ∷ opened_in name ms
 
+-- the one at the index, not as an import
+abbrev pub opened_at : ℕ → List Metadata → List Metadata
+opened_at i [] = []
+opened_at zero (m ∷ ms) = record m { is_import = false } ∷ ms
+opened_at (suc i) (m ∷ ms) = m ∷ opened_at i ms
+
+-- the path of the one at the index, if it has one
+abbrev pub path_at : ℕ → List Metadata → Option (List ℕ)
+path_at i [] = None
+path_at zero (m ∷ ms) = m.path
+path_at (suc i) (m ∷ ms) = path_at i ms
+
+-- the names of the files
+abbrev pub names_known : List Metadata → List (List ℕ)
+names_known ms = map (λ (m : Metadata). m.name) ms
+
 -- the path of the first of this name
 abbrev pub path_known : List ℕ → List Metadata → Option (List ℕ)
 path_known name [] = None
@@ -52,6 +69,6 @@ IsOrdered before (d ∷ ds) = (d.file.name ≡ Some d.name) × (is_done before d
 
 -- why a record is not linked: the record's own fault, or want of memory
 abbrev pub IsUnlinked : List FileDescriptorProto → FileDescriptorProto → ErrorKind → Type 0
-IsUnlinked files f (Check error) = (is_linkable files f ≡ false) × IsRefused files f error
+IsUnlinked files f (Check error) = (keeps_rules files f ≡ false) × IsRefused files f error
 IsUnlinked files f NoMemory = Unit {0}
 IsUnlinked files f kind = ⊥

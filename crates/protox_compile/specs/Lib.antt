@@ -6,4 +6,5 @@ pub mod Resume
 pub mod Closures
 pub mod Compiled
 pub mod State
+pub mod Indexes
 pub mod Laws

@@ -27,6 +27,7 @@ root_by (Some name) path own = Some (name, Some path)
 root_by None path None = None
 root_by None path (Some name) = Some (name, None)
 
+-- the same, of a resolver and the name that the path has of itself
 abbrev pub root_of : (List ℕ → Option (List ℕ)) → List ℕ → Option (List ℕ × Option (List ℕ))
 root_of resolves path = root_by (resolves path) path (name_of path)
 
@@ -47,6 +48,7 @@ open_root name (done, Finished) = (mark name done, Accepted)
 open_root name (done, Missing) = (done, NotIncluded)
 open_root name (done, Faulted fault) = (done, Refused fault)
 
+-- what is asked for is opened: again, where its name is finished
 abbrev pub open_name : (List ℕ → Lookup) → ℕ → Option (List ℕ × Option (List ℕ)) → List Done → List Done × Opened
 open_name lookups limit None done = (done, NotIncluded)
 open_name lookups limit (Some root) done =

@@ -1,5 +1,5 @@
 -- What an error says of a walk and of an opening.
-use Rattle.std.specs.Prelude.{◌≡◌, ◌++◌, ◌⊎◌, ℕ, List, Bool, true, false, not, if◌then◌else◌, Option, Some, None}
+use Rattle.std.specs.Prelude.{◌≡◌, ◌++◌, ◌⊎◌, ℕ, List, Bool, true, false, not, if◌then◌else◌, Option, Some, None, Contains}
 use Rattle.std.specs.List.{list_all}
 use Rattle.std.specs.Str.{bytes_eq}
 use Rattle.pbx_desc_records.specs.declared.file.FileDescriptorProto.{FileDescriptorProto}
@@ -68,13 +68,27 @@ Ends (FileLimit limit) walk lookups done = walk lookups ≡ (done, Faulted (Limi
 Ends (Undecodable file) walk lookups done = ⊥
 Ends NoMemory walk lookups done = Extends done (walk lookups).0
 
--- only a fault of the resolver has a cause outside of the walk, and it has this one
-abbrev pub HasStepCause : Type 0 → ErrorKind → Type 0
-HasStepCause rose (OpenFile name path fault) = rose
-HasStepCause rose (Custom text is_io) = rose
-HasStepCause rose (FileNotIncluded path) = ⊥
-HasStepCause rose (Undecodable file) = ⊥
-HasStepCause rose kind = Unit {0}
+-- a record breaks a rule among the finished files, which is this one
+abbrev pub BreaksRule : List Done → DescriptorError → Type 0
+BreaksRule done error = (file : FileDescriptorProto) × IsRefused (records done) file error
+
+-- What is known of the error of a walk over every resolver: the rule is broken among the finished files, a fault of the resolver has this
+-- cause, the limit is this one, and the declared name is another than the one asked for. Some kinds never come.
+abbrev pub HasStepCause : ℕ → List Done → Type 0 → ErrorKind → Type 0
+HasStepCause limit done rose (Check error) = BreaksRule done error
+HasStepCause limit done rose (OpenFile name path fault) = rose
+HasStepCause limit done rose (Custom text is_io) = rose
+HasStepCause limit done rose (FileNotIncluded path) = ⊥
+HasStepCause limit done rose (FileShadowed name path shadow) = ⊥
+HasStepCause limit done rose (NameMismatch asked declared) = bytes_eq declared asked ≡ false
+HasStepCause limit done rose (FileLimit most) = most ≡ limit
+HasStepCause limit done rose (Undecodable file) = ⊥
+HasStepCause limit done rose kind = Unit {0}
+
+-- the same where a root was asked by a path: a file that has another path may be found
+abbrev pub HasRootCause : Option (List ℕ) → ℕ → List Done → Type 0 → ErrorKind → Type 0
+HasRootCause asked limit done rose (FileShadowed name path shadow) = (asked ≡ Some path) × (path_equal shadow path ≡ false)
+HasRootCause asked limit done rose kind = HasStepCause limit done rose kind
 
 -- this error, or want of memory in its place
 abbrev pub OrNoMemory : ErrorKind → ErrorKind → Type 0
@@ -139,18 +153,21 @@ StopsOpening lookup name asked (FileLimit limit) = ⊥
 StopsOpening lookup name asked (Undecodable file) = ⊥
 StopsOpening lookup name asked NoMemory = Unit {0}
 
--- only a fault of the resolver has a cause outside of the name, and it has this one; some kinds never come
-abbrev pub HasOpenCause : Type 0 → ErrorKind → Type 0
-HasOpenCause rose (OpenFile name path fault) = rose
-HasOpenCause rose (Custom text is_io) = rose
-HasOpenCause rose (Check error) = ⊥
-HasOpenCause rose (ImportNotFound file index place name) = ⊥
-HasOpenCause rose (CircularImport name cycle) = ⊥
-HasOpenCause rose (FileNotIncluded path) = ⊥
-HasOpenCause rose (DuplicateImport file index place name) = ⊥
-HasOpenCause rose (FileLimit limit) = ⊥
-HasOpenCause rose (Undecodable file) = ⊥
-HasOpenCause rose kind = Unit {0}
+-- Why a name that may be asked by a path was not opened, over every resolver: a fault of the resolver has this cause, and a file that has
+-- another name or another path was found. Some kinds never come.
+abbrev pub HasOpenCause : Option (List ℕ) → Type 0 → ErrorKind → Type 0
+HasOpenCause asked rose (OpenFile name path fault) = rose
+HasOpenCause asked rose (Custom text is_io) = rose
+HasOpenCause asked rose (Check error) = ⊥
+HasOpenCause asked rose (ImportNotFound file index place name) = ⊥
+HasOpenCause asked rose (CircularImport name cycle) = ⊥
+HasOpenCause asked rose (FileNotIncluded path) = ⊥
+HasOpenCause asked rose (FileShadowed name path shadow) = (asked ≡ Some path) × (path_equal shadow path ≡ false)
+HasOpenCause asked rose (DuplicateImport file index place name) = ⊥
+HasOpenCause asked rose (NameMismatch name declared) = bytes_eq declared name ≡ false
+HasOpenCause asked rose (FileLimit limit) = ⊥
+HasOpenCause asked rose (Undecodable file) = ⊥
+HasOpenCause asked rose kind = Unit {0}
 
 -- how an opening was refused: reading the name failed
 pub record FailsAtName (n : List ℕ) (files : (List ℕ → Lookup) → List Done) (lookups : List ℕ → Lookup) (later : List Done) : Type 0 where
@@ -184,19 +201,20 @@ RefusesWith path files opened lookups later (FileLimit limit) = opened ≡ (late
 RefusesWith path files opened lookups later (Undecodable file) = ⊥
 RefusesWith path files opened lookups later NoMemory = Extends later (files lookups)
 
--- what is known of the error over every resolver: a fault of its own has this cause, and some kinds never come
-abbrev pub HasOpeningCause : List ℕ → Type 0 → ErrorKind → Type 0
-HasOpeningCause path rose (OpenFile name p fault) = rose
-HasOpeningCause path rose (Custom text is_io) = rose
-HasOpeningCause path rose (FileNotFound name) = ⊥
-HasOpeningCause path rose (FileNotIncluded p) = p ≡ path
-HasOpeningCause path rose (Undecodable file) = ⊥
-HasOpeningCause path rose kind = Unit {0}
+-- What is known of the error of opening a path over every resolver: the rule is broken among the files that are left, a fault of the
+-- resolver has this cause, the path and the limit are these, and what was found has another path or another name. Some kinds never come.
+abbrev pub HasOpeningCause : ℕ → List ℕ → List Done → Type 0 → ErrorKind → Type 0
+HasOpeningCause limit path later rose (Check error) = BreaksRule later error
+HasOpeningCause limit path later rose (OpenFile name p fault) = rose
+HasOpeningCause limit path later rose (Custom text is_io) = rose
+HasOpeningCause limit path later rose (FileNotFound name) = ⊥
+HasOpeningCause limit path later rose (FileNotIncluded p) = p ≡ path
+HasOpeningCause limit path later rose (FileShadowed name asked shadow) = (asked ≡ path) × (path_equal shadow asked ≡ false)
+HasOpeningCause limit path later rose (NameMismatch asked declared) = bytes_eq declared asked ≡ false
+HasOpeningCause limit path later rose (FileLimit most) = most ≡ limit
+HasOpeningCause limit path later rose (Undecodable file) = ⊥
+HasOpeningCause limit path later rose kind = Unit {0}
 
 -- the same, of one of several paths
-abbrev pub HasOpeningsCause : Type 0 → ErrorKind → Type 0
-HasOpeningsCause rose (OpenFile name p fault) = rose
-HasOpeningsCause rose (Custom text is_io) = rose
-HasOpeningsCause rose (FileNotFound name) = ⊥
-HasOpeningsCause rose (Undecodable file) = ⊥
-HasOpeningsCause rose kind = Unit {0}
+abbrev pub HasOpeningsCause : ℕ → List (List ℕ) → List Done → Type 0 → ErrorKind → Type 0
+HasOpeningsCause limit paths later rose error = (path : List ℕ) × Contains paths path × HasOpeningCause limit path later rose error

@@ -1,6 +1,6 @@
 -- The state of a compiler.
-use Rattle.std.specs.Prelude.{◌≡◌, ℕ, List, Bool, false, Option, Some, None}
-use Rattle.protox_paths.specs.Paths.{path_equal}
+use Rattle.std.specs.Prelude.{◌≡◌, ◌<◌, ℕ, zero, suc, List, Bool, true, false, Option, Some, None}
+use Rattle.protox_paths.specs.Paths.{name_of, path_equal}
 use Rattle.protox_file.specs.declared.error.ErrorKind.{ErrorKind}
 use Rattle.protox_file.specs.declared.error.ErrorKind.TheVariants.{FileShadowed, NoMemory}
 use Rattle.protox_compile.specs.Walk.{Done, is_done}
@@ -29,9 +29,29 @@ abbrev pub IsLeftOut : Option (List ℕ × Option (List ℕ)) → List Done → 
 IsLeftOut None old new = Unit {0}
 IsLeftOut (Some root) old new = is_done new root.0 ≡ is_done old root.0
 
--- more files stand behind the old ones as imports, and one of all has been marked
+-- nothing is read for a name that is finished, nor where no name is asked for
+abbrev pub is_settled : Option (List ℕ × Option (List ℕ)) → List Done → Bool
+is_settled None done = true
+is_settled (Some root) done = is_done done root.0
+
+-- more files stand behind the old ones as imports, and one of all has been marked, whose name names itself
 pub record Opens (old new : List Done) : Type 0 where
   pub name : List ℕ
+  pub named : name_of name ≡ Some name
   pub middle : List Done
   pub grows : Grows old middle
+  pub finished : is_done middle name ≡ true
   pub marked : new ≡ mark name middle
+
+-- so many paths were opened one after another
+abbrev pub OpensTimes : ℕ → List Done → List Done → Type 0
+OpensTimes zero old new = new ≡ old
+OpensTimes (suc n) old new = (middle : List Done) × OpensTimes n old middle × Opens middle new
+
+-- fewer than so many paths were opened one after another, and then more files stand behind as imports
+pub record GrowsWithin (most : ℕ) (old new : List Done) : Type 0 where
+  pub count : ℕ
+  pub fewer : count < most
+  pub middle : List Done
+  pub opens : OpensTimes count old middle
+  pub grows : Grows middle new

@@ -4,10 +4,9 @@ use Rattle.std.specs.Prelude.{◌+◌, ◌-◌, ◌∷◌, ◌++◌, [], ℕ, ze
 use Rattle.std.specs.List.{list_any, concat}
 use Rattle.std.specs.Str.{bytes_eq}
 use Rattle.pbx_desc_records.specs.declared.file.FileDescriptorProto.{FileDescriptorProto}
-use Rattle.pbx_link.specs.Linked.{linked}
-use Rattle.pbx_link.specs.Pool.{is_linkable}
-use Rattle.pbx_definitions.specs.Names.{among}
-use Rattle.pbx_link.specs.Shapes.{text_or_empty}
+use Rattle.pbx_definitions.specs.Names.{among, text_or_empty}
+use Rattle.pbx_linked.specs.Linked.{linked_record}
+use Rattle.pbx_rules.specs.Breaches.{keeps_rules}
 use Rattle.protox_paths.specs.Paths.{path_equal}
 use Rattle.protox_file.specs.Told.{Entry, Lookup, NoFile, IsFile, TextFault}
 use Rattle.protox_compile.specs.Places.{place_of_import}
@@ -37,9 +36,9 @@ declared_name entry = text_or_empty entry.file.name
 abbrev pub imports_of : Entry → List (List ℕ)
 imports_of entry = entry.file.dependency
 
--- the file of an entry, finished as an import under this name
-abbrev pub done_as : List ℕ → Entry → Done
-done_as name entry = record { name = name; file = linked entry.file; path = entry.path; opened = false }
+-- the file of an entry, linked among finished files, as an import under this name
+abbrev pub done_as : List Done → List ℕ → Entry → Done
+done_as done name entry = record { name = name; file = linked_record (records done) entry.file; path = entry.path; opened = false }
 
 -- what ends a walk, but for a file that is absent
 pub data Fault : Type 0 where
@@ -88,9 +87,9 @@ visit_imports visit chain n places seen (m ∷ ms) done =
     else (if is_done done m then visit_imports visit chain n places (seen ++ m ∷ []) ms done
     else after_visit n (length seen) (places (length seen)) m (visit done m) (visit_imports visit chain n places (seen ++ m ∷ []) ms)))
 
--- after the imports, the file is linked and finished as an import
+-- after the imports, the file is linked among the finished files and finished as an import, unless it breaks a rule among them
 abbrev pub finish : List ℕ → Entry → List Done × Option Fault → List Done × Visited
-finish n entry (done, None) = if is_linkable (records done) entry.file then (done ++ done_as n entry ∷ [], Finished) else (done, Faulted (Unlinked entry.file))
+finish n entry (done, None) = if keeps_rules (records done) entry.file then (done ++ done_as done n entry ∷ [], Finished) else (done, Faulted (Unlinked entry.file))
 finish n entry (done, Some fault) = (done, Faulted fault)
 
 -- a root that was asked by a path has that path, or none

@@ -1,13 +1,14 @@
 //! The compiler: files and all that they import.
 
-ghost use Rattle.std.specs.Prelude.{◌≡◌, ◌≤◌, [], IfOk, IfErr, OnOk, OnErr, IsTrue, List, ℕ, map, min};
+ghost use Rattle.std.specs.Prelude.{◌≡◌, ◌≤◌, [], IfOk, IfErr, OnOk, OnErr, IsTrue, List, ℕ, length, map, min, true};
 ghost use Rattle.std.specs.Slice.Iter.{iter_rest};
 ghost use Rattle.protox_io.specs.Count.{Rose};
+ghost use Rattle.pbx_pool_laws.specs.Pool.{ArePooled};
 ghost use Rattle.protox_file.specs.Told.{Lookup, AreLookups};
 ghost use Rattle.protox_compile.specs.Walk.{is_done, records};
 ghost use Rattle.protox_compile.specs.Opening.{opening, closure, root_of, grown, Accepted};
 ghost use Rattle.protox_compile.specs.Refusals.{RefusesWith, HasOpeningCause, HasOpeningsCause, Grows};
-ghost use Rattle.protox_compile.specs.State.{Opens, IsLeftOut};
+ghost use Rattle.protox_compile.specs.State.{Opens, OpensTimes, GrowsWithin, IsLeftOut, is_settled};
 ghost use Rattle.protox_compile.specs.Closures.{StopsAt};
 ghost use Rattle.protox_compile.specs.Compiled.{IsOrdered, metadata_of};
 
@@ -84,11 +85,13 @@ impl<R: FileResolver> Compiler<R> {
             (λ ls. grown ls self.old.limit (root_of (R.resolves self.old.resolver) path.now) self.old.done)
             (opening lookups (R.resolves self.old.resolver) self.old.limit path.now self.old.done) lookups self.new.done) }
         ensures root { IsTrue (R.tells self.old.resolver) → OnErr result (IsLeftOut (root_of (R.resolves self.old.resolver) path.now) self.old.done self.new.done) }
+        ensures again { IsTrue (R.tells self.old.resolver) → is_settled (root_of (R.resolves self.old.resolver) path.now) self.old.done ≡ true → self.new.resolver ≡ self.old.resolver }
 
-        // Over every resolver, files are added as imports, and then one of all is marked.
+        // Over every resolver, files are added as imports, and then one of all is marked; where none is added, nothing is read.
         ensures opens { OnOk result (Opens self.old.done self.new.done) }
+        ensures unread { OnOk result (length self.new.done ≡ length self.old.done → self.new.resolver ≡ self.old.resolver) }
         ensures grows { OnErr result (Grows self.old.done self.new.done) }
-        ensures cause { IfErr result (HasOpeningCause path.now (Rose (R.faults self.old.resolver) (R.faults self.new.resolver) (R.at_end self.new.resolver))) }
+        ensures cause { IfErr result (HasOpeningCause self.old.limit path.now self.new.done (Rose (R.faults self.old.resolver) (R.faults self.new.resolver) (R.at_end self.new.resolver))) }
         ensures later { R.faults self.old.resolver ≤ R.faults self.new.resolver }
         ensures limit { self.new.limit ≡ self.old.limit }
         ensures keeps_tells { R.tells self.new.resolver ≡ R.tells self.old.resolver }
@@ -109,7 +112,10 @@ impl<R: FileResolver> Compiler<R> {
     pub fn open_files(&mut self, paths: &Texts) -> Result<(), Error>
         ensures ok { IsTrue (R.tells self.old.resolver) → (lookups : List ℕ → Lookup) → AreLookups (R.files self.old.resolver) lookups → OnOk result (closure lookups (R.resolves self.old.resolver) self.old.limit paths.now self.old.done ≡ (self.new.done, Accepted)) }
         ensures err { IsTrue (R.tells self.old.resolver) → (lookups : List ℕ → Lookup) → AreLookups (R.files self.old.resolver) lookups → IfErr result (StopsAt lookups (R.resolves self.old.resolver) self.old.limit paths.now self.old.done self.new.done) }
-        ensures cause { IfErr result (HasOpeningsCause (Rose (R.faults self.old.resolver) (R.faults self.new.resolver) (R.at_end self.new.resolver))) }
+        // Over every resolver, each opened path adds files as imports and then marks one of all, and a refused one adds files as imports.
+        ensures opens { OnOk result (OpensTimes (length paths.now) self.old.done self.new.done) }
+        ensures grows { OnErr result (GrowsWithin (length paths.now) self.old.done self.new.done) }
+        ensures cause { IfErr result (HasOpeningsCause self.old.limit paths.now self.new.done (Rose (R.faults self.old.resolver) (R.faults self.new.resolver) (R.at_end self.new.resolver))) }
         ensures later { R.faults self.old.resolver ≤ R.faults self.new.resolver }
         ensures limit { self.new.limit ≡ self.old.limit }
         ensures keeps_tells { R.tells self.new.resolver ≡ R.tells self.old.resolver }
@@ -145,6 +151,8 @@ impl<R: FileResolver> Compiler<R> {
         ensures pool { result ≡ records self.now.done }
         // Each record has its file's name, no name stands twice, and each import of a file stands before it.
         ensures ordered { IsOrdered [] self.now.done }
+        // Each record is linked among those before it, where it breaks no rule.
+        ensures pooled { ArePooled [] (records self.now.done) }
     {
         self.compiled.pool()
     }

@@ -1,20 +1,25 @@
-ghost use Rattle.std.specs.Prelude.{◌≡◌, ◌+◌, ◌<◌, length, slice_index_or, take, nat_lt, [], true};
+ghost use Rattle.std.specs.Prelude.{◌≡◌, ◌+◌, ◌<◌, length, slice_index_or, take, nat_lt, [], true, IfOk};
 ghost use Rattle.std.specs.Str.{bytes_eq};
 ghost use Rattle.pbx_definitions.specs.Names.{among};
 ghost use Rattle.protox_compile.specs.Places.{place_of_import};
 ghost use Rattle.protox_compile.specs.Walk.{imports_of, declared_name};
+ghost use Rattle.protox_compile.specs.Indexes.{AreIndexed, is_below};
 
+use crate::indexes::Indexes;
 use crate::place::place_of_import;
-use pbx_wire::Text;
+use pbx_wire::{NoMemory, Text};
 use protox_file::File;
+use std::alloc::Global;
 use std::marker::Model;
+use std::mem::drop;
 
-/// An open file, and how many of its imports are done with.
+/// An open file, how many of its imports are done with, and the first index of each imported name.
 #[derive(Drop)]
 pub(crate) struct Frame {
     name: Text,
     file: File,
     next: usize,
+    first: Indexes,
 }
 
 impl Model for Frame {
@@ -23,6 +28,7 @@ impl Model for Frame {
     ghost use Rattle.std.specs.Str.{bytes_eq};
     ghost use Rattle.pbx_desc_records.specs.contracts.file.FileDescriptorProto as proto;
     ghost use Rattle.protox_compile.specs.Walk.{Open, imports_of, declared_name};
+    ghost use Rattle.protox_compile.specs.Indexes.{AreIndexed};
 
     ghost Value = { Open };
 
@@ -30,18 +36,26 @@ impl Model for Frame {
 
     ghost view = { λ f. record { name = f.name; entry = f.file; next = f.next } };
 
-    ghost invariant = { λ f. (f.next ≤ length (imports_of f.file)) × (bytes_eq (declared_name f.file) f.name ≡ true) };
+    ghost invariant = { λ f. (f.next ≤ length (imports_of f.file)) × (bytes_eq (declared_name f.file) f.name ≡ true) × AreIndexed f.first (imports_of f.file) };
 }
 
 impl Frame {
-    pub(crate) fn new(name: Text, file: File) -> Frame
-        requires { bytes_eq (declared_name file) name ≡ true }
-        ensures { result ≡ record { name = name; entry = file; next = 0 } }
+    /// The file, with none of its imports done.
+    pub(crate) fn new(alloc: Global, name: &str, file: File) -> Result<Frame, NoMemory>
+        requires { bytes_eq (declared_name file) name.now ≡ true }
+        ensures { IfOk result (λ frame. frame ≡ record { name = name.now; entry = file; next = 0 }) }
     {
-        Frame {
-            name,
-            file,
-            next: 0,
+        match named_indexes(alloc, name, &file) {
+            Ok((name, first)) => Ok(Frame {
+                name,
+                file,
+                next: 0,
+                first,
+            }),
+            Err(NoMemory) => {
+                drop(file);
+                Err(NoMemory)
+            }
         }
     }
 
@@ -87,7 +101,7 @@ impl Frame {
     pub(crate) fn lists_before(&self, name: &str) -> bool
         ensures { result ≡ among (take self.now.next (imports_of self.now.entry)) name.now }
     {
-        among_texts(&self.imports()[..self.next], name)
+        is_below(self.first.get(name), self.next)
     }
 
     pub(crate) fn advance(&mut self)
@@ -103,13 +117,42 @@ impl Frame {
         ensures file { result.1 ≡ self.entry }
         ensures declared { bytes_eq (declared_name self.entry) self.name ≡ true }
     {
-        (self.name, self.file)
+        let Frame {
+            name,
+            file,
+            next: _,
+            first: _,
+        } = self;
+        (name, file)
     }
 }
 
-/// Whether a name is among these.
-fn among_texts(names: &[Text], name: &str) -> bool
-    ensures { result ≡ among names.now name.now }
+/// Whether there is an index, and it is below this one.
+fn is_below(index: Option<usize>, last: usize) -> bool
+    ensures { result ≡ is_below last index }
 {
-    names.iter().any(|other| other.as_str() == name)
+    match index {
+        Some(index) => index < last,
+        None => false,
+    }
+}
+
+/// A copy of the name, and the first index of each name that the file imports.
+fn named_indexes(alloc: Global, name: &str, file: &File) -> Result<(Text, Indexes), NoMemory>
+    ensures { IfOk result (λ made. (made.0 ≡ name.now) × AreIndexed made.1 (imports_of file.now)) }
+{
+    let name = Text::from_str(alloc, name)?;
+    let first = first_indexes(alloc, file.file_descriptor_proto().dependency.as_slice())?;
+    Ok((name, first))
+}
+
+/// The first index of each name.
+fn first_indexes(alloc: Global, names: &[Text]) -> Result<Indexes, NoMemory>
+    ensures { IfOk result (λ first. AreIndexed first names.now) }
+{
+    let mut first = Indexes::new(alloc);
+    for index in 0..names.len() {
+        first.push(alloc, names[index].as_str(), index)?;
+    }
+    Ok(first)
 }

@@ -4,6 +4,8 @@
 mod compiled;
 mod compiler;
 mod frame;
+mod indexes;
+mod known;
 mod laws;
 mod opening;
 mod place;

@@ -10,7 +10,7 @@ ghost use Rattle.protox_compile.specs.Refusals.{IsOpenOf, IsUnshadowed, StopsOpe
 
 use crate::frame::Frame;
 use crate::refusal::{mismatch, shadowed};
-use pbx_wire::{NoMemory, Text};
+use pbx_wire::NoMemory;
 use protox_file::{Error, File, FileResolver, looked_up_once, path_eq};
 use std::alloc::Global;
 use std::mem::drop;
@@ -50,7 +50,7 @@ pub(crate) fn open_frame<R: FileResolver>(
     ensures unshadowed { IfOk result (λ f. IsUnshadowed (asked_path resolved path.now) f.entry.path) }
     ensures fresh { IfOk result (λ f. (f.name ≡ name.now) × (f.next ≡ 0) × (length (imports_of f.entry) < 2 ^ 64)) }
     ensures stopped { IsTrue (R.tells resolver.old) → (lookup : Lookup) → IsLookup name.now (R.files resolver.old name.now) lookup → IfErr result (StopsOpening lookup name.now (asked_path resolved path.now)) }
-    ensures cause { IfErr result (HasOpenCause (Rose (R.faults resolver.old) (R.faults resolver.new) (R.at_end resolver.new))) }
+    ensures cause { IfErr result (HasOpenCause (asked_path resolved path.now) (Rose (R.faults resolver.old) (R.faults resolver.new) (R.at_end resolver.new))) }
     ensures later { R.faults resolver.old ≤ R.faults resolver.new }
     ensures keeps_tells { R.tells resolver.new ≡ R.tells resolver.old }
     ensures keeps_files { IsTrue (R.tells resolver.old) → R.files resolver.new ≡ R.files resolver.old }
@@ -73,11 +73,8 @@ pub(crate) fn open_frame<R: FileResolver>(
         return Err(error);
     }
     let _count = file.file_descriptor_proto().dependency.as_slice().len();
-    match Text::from_str(alloc, name) {
-        Ok(name) => Ok(Frame::new(name, file)),
-        Err(NoMemory) => {
-            drop(file);
-            Err(Error::from(NoMemory))
-        }
+    match Frame::new(alloc, name, file) {
+        Ok(frame) => Ok(frame),
+        Err(NoMemory) => Err(Error::from(NoMemory)),
     }
 }

@@ -1,19 +1,20 @@
 //! The opening of a path.
 
-ghost use Rattle.std.specs.Prelude.{◌≡◌, ◌≤◌, [], IfOk, IfErr, OnOk, OnErr, IsTrue, List, ℕ, map, min, true, false};
+ghost use Rattle.std.specs.Prelude.{◌≡◌, ◌≤◌, [], IfOk, IfErr, OnOk, OnErr, IsTrue, List, ℕ, length, true, false, Some, IfSome};
 ghost use Rattle.protox_io.specs.Count.{Rose};
+ghost use Rattle.protox_paths.specs.Paths.{name_of};
 ghost use Rattle.protox_file.specs.Told.{Lookup, AreLookups};
 ghost use Rattle.protox_compile.specs.Walk.{is_done};
-ghost use Rattle.protox_compile.specs.Opening.{opening, open_name as open_name_in, open_done, path_in, root_of, grown, Accepted, asked_path};
+ghost use Rattle.protox_compile.specs.Opening.{mark, opening, open_name as open_name_in, open_done, path_in, root_of, grown, Accepted, asked_path};
 ghost use Rattle.protox_compile.specs.Refusals.{RefusesWith, HasOpeningCause, Grows};
-ghost use Rattle.protox_compile.specs.State.{Opens, IsRoot, IsShadowedBy, IsLeftOut};
+ghost use Rattle.protox_compile.specs.State.{Opens, IsRoot, IsShadowedBy, IsLeftOut, is_settled};
 
 use crate::compiled::Compiled;
 use crate::opening::shadow_of;
 use crate::refusal::{not_included, root_error, shadowed};
 use crate::walk::visit_root;
 use pbx_wire::{NoMemory, Text};
-use protox_file::{Error, FileResolver, path_to_file_name};
+use protox_file::{Error, FileResolver, names_name_themselves, path_to_file_name};
 use std::alloc::Global;
 
 /// The name that a path asks for, and whether the resolver knows the path.
@@ -22,8 +23,10 @@ fn root_by<R: FileResolver>(
     alloc: Global,
     path: &str,
 ) -> Result<Option<(Text, bool)>, NoMemory>
-    ensures { IsTrue (R.tells resolver.now) → IfOk result (IsRoot (root_of (R.resolves resolver.now) path.now) path.now) }
+    ensures root { IsTrue (R.tells resolver.now) → IfOk result (IsRoot (root_of (R.resolves resolver.now) path.now) path.now) }
+    ensures named { IfOk result (λ found. IfSome found (λ f. name_of f.0 ≡ Some f.0)) }
 {
+    names_name_themselves();
     match resolver.resolve_path(alloc, path)? {
         Some(name) => Ok(Some((name, true))),
         None => match path_to_file_name(alloc, path)? {
@@ -42,6 +45,7 @@ fn open_again(
     path: &str,
 ) -> Result<(), Error>
     ensures ok { OnOk result (open_done name.now (asked_path resolved path.now) (path_in name.now done.old) done.old ≡ (done.new, Accepted)) }
+    ensures marked { OnOk result (done.new ≡ mark name.now done.old) }
     ensures err { OnErr result (done.new ≡ done.old) }
     ensures refused { IfErr result (IsShadowedBy name.now (asked_path resolved path.now) (path_in name.now done.old)) }
 {
@@ -62,12 +66,15 @@ fn open_name<R: FileResolver>(
     resolved: bool,
     path: &str,
 ) -> Result<(), Error>
+    requires { name_of name.now ≡ Some name.now }
     ensures ok { IsTrue (R.tells resolver.old) → (lookups : List ℕ → Lookup) → AreLookups (R.files resolver.old) lookups → OnOk result (open_name_in lookups limit (Some (name.now, asked_path resolved path.now)) done.old ≡ (done.new, Accepted)) }
     ensures err { IsTrue (R.tells resolver.old) → (lookups : List ℕ → Lookup) → AreLookups (R.files resolver.old) lookups → IfErr result (RefusesWith path.now (λ ls. grown ls limit (Some (name.now, asked_path resolved path.now)) done.old) (open_name_in lookups limit (Some (name.now, asked_path resolved path.now)) done.old) lookups done.new) }
     ensures opens { OnOk result (Opens done.old done.new) }
     ensures grows { OnErr result (Grows done.old done.new) }
     ensures root { OnErr result (is_done done.new name.now ≡ is_done done.old name.now) }
-    ensures cause { IfErr result (HasOpeningCause path.now (Rose (R.faults resolver.old) (R.faults resolver.new) (R.at_end resolver.new))) }
+    ensures again { is_done done.old name.now ≡ true → resolver.new ≡ resolver.old }
+    ensures unread { OnOk result (length done.new ≡ length done.old → resolver.new ≡ resolver.old) }
+    ensures cause { IfErr result (HasOpeningCause limit path.now done.new (Rose (R.faults resolver.old) (R.faults resolver.new) (R.at_end resolver.new))) }
     ensures later { R.faults resolver.old ≤ R.faults resolver.new }
     ensures keeps_tells { R.tells resolver.new ≡ R.tells resolver.old }
     ensures keeps_files { IsTrue (R.tells resolver.old) → R.files resolver.new ≡ R.files resolver.old }
@@ -99,7 +106,9 @@ pub(crate) fn open_path<R: FileResolver>(
     ensures opens { OnOk result (Opens done.old done.new) }
     ensures grows { OnErr result (Grows done.old done.new) }
     ensures root { IsTrue (R.tells resolver.old) → OnErr result (IsLeftOut (root_of (R.resolves resolver.old) path.now) done.old done.new) }
-    ensures cause { IfErr result (HasOpeningCause path.now (Rose (R.faults resolver.old) (R.faults resolver.new) (R.at_end resolver.new))) }
+    ensures again { IsTrue (R.tells resolver.old) → is_settled (root_of (R.resolves resolver.old) path.now) done.old ≡ true → resolver.new ≡ resolver.old }
+    ensures unread { OnOk result (length done.new ≡ length done.old → resolver.new ≡ resolver.old) }
+    ensures cause { IfErr result (HasOpeningCause limit path.now done.new (Rose (R.faults resolver.old) (R.faults resolver.new) (R.at_end resolver.new))) }
     ensures later { R.faults resolver.old ≤ R.faults resolver.new }
     ensures keeps_tells { R.tells resolver.new ≡ R.tells resolver.old }
     ensures keeps_files { IsTrue (R.tells resolver.old) → R.files resolver.new ≡ R.files resolver.old }

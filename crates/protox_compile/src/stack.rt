@@ -1,17 +1,17 @@
 ghost use Rattle.std.specs.Prelude.{◌≡◌, ◌∷◌, ◌++◌, [], length, map, reverse, IfOk, OnOk, OnErr, MatchOption};
-ghost use Rattle.std.specs.List.{list_any};
-ghost use Rattle.std.specs.Str.{bytes_eq};
 ghost use Rattle.pbx_definitions.specs.Names.{among};
 
 use crate::frame::Frame;
+use crate::indexes::Indexes;
 use pbx_wire::{NoMemory, Text, Texts};
 use std::alloc::Global;
 use std::marker::Model;
 
-/// The open files that wait for an import, the innermost first.
+/// The open files that wait for an import, the innermost first, and the index of each name.
 #[derive(Drop)]
 pub(crate) struct Stack {
     frames: Vec<Frame>,
+    names: Indexes,
 }
 
 impl Model for Stack {
@@ -19,24 +19,16 @@ impl Model for Stack {
     ghost use Rattle.std.specs.Coded.{codes};
     ghost use Rattle.pbx_desc_records.specs.contracts.file.FileDescriptorProto as proto;
     ghost use Rattle.protox_compile.specs.Walk.{Open};
+    ghost use Rattle.protox_compile.specs.Resume.{names_of};
+    ghost use Rattle.protox_compile.specs.Indexes.{AreIndexed};
 
     ghost Value = { List Open };
 
     ghost coded = { Prim.hlevel (codes, proto.the_row.coded) };
 
     ghost view = { λ s. reverse s.frames.items };
-}
 
-fn has_name(frame: &Frame, name: &str) -> bool
-    ensures { result ≡ bytes_eq frame.now.name name.now }
-{
-    frame.name() == name
-}
-
-fn any_named(frames: &[Frame], name: &str) -> bool
-    ensures { result ≡ list_any (λ f. bytes_eq f.name name.now) frames.now }
-{
-    frames.iter().any(|frame| has_name(frame, name))
+    ghost invariant = { λ s. AreIndexed s.names (names_of s.frames.items) };
 }
 
 impl Stack {
@@ -45,6 +37,7 @@ impl Stack {
     {
         Stack {
             frames: Vec::new(alloc),
+            names: Indexes::new(alloc),
         }
     }
 
@@ -54,25 +47,37 @@ impl Stack {
         self.frames.len()
     }
 
-    pub(crate) fn push(&mut self, frame: Frame) -> Result<(), NoMemory>
+    /// Puts a file on top. A refused call changes nothing.
+    pub(crate) fn push(&mut self, alloc: Global, frame: Frame) -> Result<(), NoMemory>
         ensures ok { OnOk result (self.new ≡ frame ∷ self.old) }
         ensures err { OnErr result (self.new ≡ self.old) }
     {
+        let index = self.frames.len();
         self.frames.push(frame)?;
+        if self
+            .names
+            .push(alloc, self.frames[index].name(), index)
+            .is_err()
+        {
+            self.frames.pop();
+            return Err(NoMemory);
+        }
         Ok(())
     }
 
     pub(crate) fn pop(&mut self) -> Option<Frame>
         ensures { MatchOption result ((self.old ≡ []) × (self.new ≡ [])) (λ frame. self.old ≡ frame ∷ self.new) }
     {
-        self.frames.pop()
+        let frame = self.frames.pop()?;
+        self.names.pop(frame.name(), self.frames.len());
+        Some(frame)
     }
 
-    /// Whether a file of this name is open.
+    /// Whether a file of this name is on it, by log n comparisons.
     pub(crate) fn holds(&self, name: &str) -> bool
         ensures { result ≡ among (map (λ f. f.name) self.now) name.now }
     {
-        any_named(&self.frames, name)
+        self.names.get(name).is_some()
     }
 
     /// The names of the open files, the outermost first.

@@ -46,7 +46,7 @@ pub(crate) fn next_import(
     requires { current.now.next < length (imports_of current.now.entry) }
     ensures ok { IfOk result (AdvancesOrVisits current.now parents.now done.now) }
     ensures err { (files : List ℕ → Told) (limit : ℕ) → IfErr result (λ e. EndsWalks files limit (current.now ∷ parents.now) done.now e done.now) }
-    ensures cause { IfErr result (HasStepCause ⊥) }
+    ensures cause { (limit : ℕ) → IfErr result (HasStepCause limit done.now ⊥) }
 {
     let name = current.import();
     if current.lists_before(name) {
@@ -81,7 +81,7 @@ pub(crate) fn open_import<R: FileResolver>(
     ensures fresh { IfOk result (λ child. (child.name ≡ name.now) × (child.next ≡ 0) × (length (imports_of child.entry) < 2 ^ 64)) }
     ensures room { OnOk result (length done.now + length parents.now + 2 ≤ limit) }
     ensures err { IsTrue (R.tells resolver.old) → IfErr result (λ e. EndsWalks (R.files resolver.old) limit (current.now ∷ parents.now) done.now e done.now) }
-    ensures cause { IfErr result (HasStepCause (Rose (R.faults resolver.old) (R.faults resolver.new) (R.at_end resolver.new))) }
+    ensures cause { IfErr result (HasStepCause limit done.now (Rose (R.faults resolver.old) (R.faults resolver.new) (R.at_end resolver.new))) }
     ensures later { R.faults resolver.old ≤ R.faults resolver.new }
     ensures keeps_tells { R.tells resolver.new ≡ R.tells resolver.old }
     ensures keeps_files { IsTrue (R.tells resolver.old) → R.files resolver.new ≡ R.files resolver.old }

@@ -1,9 +1,9 @@
-ghost use Rattle.std.specs.Prelude.{◌≡◌, ◌≤◌, ◌<◌, ◌^◌, ◌+◌, ◌∷◌, [], false, IfOk, IfErr, OnOk, OnErr, IsTrue, length, ◌++◌, List, ℕ};
+ghost use Rattle.std.specs.Prelude.{◌≡◌, ◌≤◌, ◌<◌, ◌^◌, ◌+◌, ◌∷◌, [], true, false, IfOk, IfErr, OnOk, OnErr, IsTrue, length, ◌++◌, List, ℕ};
 ghost use Rattle.protox_io.specs.Count.{Rose};
 ghost use Rattle.protox_file.specs.Told.{Lookup, AreLookups};
 ghost use Rattle.protox_compile.specs.Walk.{imports_of, visits, Finished, is_done};
 ghost use Rattle.protox_compile.specs.Opening.{asked_path};
-ghost use Rattle.protox_compile.specs.Refusals.{Walk, Ends, HasStepCause, Grows};
+ghost use Rattle.protox_compile.specs.Refusals.{Walk, Ends, HasStepCause, HasRootCause, Grows};
 ghost use Rattle.protox_compile.specs.Resume.{past, Follows, EndsWalks};
 
 use crate::compiled::Compiled;
@@ -18,13 +18,13 @@ use std::alloc::Global;
 use std::mem::drop;
 
 /// Puts an open file among those that wait, past the import that it waits for.
-fn suspend(parents: &mut Stack, mut file: Frame) -> Result<(), NoMemory>
+fn suspend(alloc: Global, parents: &mut Stack, mut file: Frame) -> Result<(), NoMemory>
     requires { file.next < length (imports_of file.entry) }
     ensures ok { OnOk result (parents.new ≡ past file ∷ parents.old) }
     ensures err { OnErr result (parents.new ≡ parents.old) }
 {
     file.advance();
-    parents.push(file)
+    parents.push(alloc, file)
 }
 
 /// Finishes the imports of an open file that no other waits for, and then that file.
@@ -40,10 +40,11 @@ fn finish_all<R: FileResolver>(
     requires room { length done.old + 1 ≤ limit }
     requires new { is_done done.old root.name ≡ false }
     ensures root { OnErr result (is_done done.new root.name ≡ false) }
+    ensures there { OnOk result (is_done done.new root.name ≡ true) }
     ensures grows { Grows done.old done.new }
     ensures ok { IsTrue (R.tells resolver.old) → (walk : Walk) → Follows (R.files resolver.old) walk limit (root ∷ []) done.old → (lookups : List ℕ → Lookup) → AreLookups (R.files resolver.old) lookups → OnOk result (walk lookups ≡ (done.new, Finished)) }
     ensures err { IsTrue (R.tells resolver.old) → IfErr result (λ e. EndsWalks (R.files resolver.old) limit (root ∷ []) done.old e done.new) }
-    ensures cause { IfErr result (HasStepCause (Rose (R.faults resolver.old) (R.faults resolver.new) (R.at_end resolver.new))) }
+    ensures cause { IfErr result (HasStepCause limit done.new (Rose (R.faults resolver.old) (R.faults resolver.new) (R.at_end resolver.new))) }
     ensures later { R.faults resolver.old ≤ R.faults resolver.new }
     ensures keeps_tells { R.tells resolver.new ≡ R.tells resolver.old }
     ensures keeps_files { IsTrue (R.tells resolver.old) → R.files resolver.new ≡ R.files resolver.old }
@@ -72,7 +73,7 @@ fn finish_all<R: FileResolver>(
                             return Err(error);
                         }
                     };
-                    if suspend(&mut parents, current).is_err() {
+                    if suspend(alloc, &mut parents, current).is_err() {
                         drop(child);
                         return Err(Error::from(NoMemory));
                     }
@@ -105,10 +106,11 @@ pub(crate) fn visit_root<R: FileResolver>(
 ) -> Result<(), Error>
     requires { is_done done.old root.now ≡ false }
     ensures root { OnErr result (is_done done.new root.now ≡ false) }
+    ensures there { OnOk result (is_done done.new root.now ≡ true) }
     ensures grows { Grows done.old done.new }
     ensures ok { IsTrue (R.tells resolver.old) → (lookups : List ℕ → Lookup) → AreLookups (R.files resolver.old) lookups → OnOk result (visits lookups limit [] (asked_path resolved path.now) root.now done.old ≡ (done.new, Finished)) }
     ensures err { IsTrue (R.tells resolver.old) → (lookups : List ℕ → Lookup) → AreLookups (R.files resolver.old) lookups → IfErr result (λ e. Ends e (λ ls. visits ls limit [] (asked_path resolved path.now) root.now done.old) lookups done.new) }
-    ensures cause { IfErr result (HasStepCause (Rose (R.faults resolver.old) (R.faults resolver.new) (R.at_end resolver.new))) }
+    ensures cause { IfErr result (HasRootCause (asked_path resolved path.now) limit done.new (Rose (R.faults resolver.old) (R.faults resolver.new) (R.at_end resolver.new))) }
     ensures later { R.faults resolver.old ≤ R.faults resolver.new }
     ensures keeps_tells { R.tells resolver.new ≡ R.tells resolver.old }
     ensures keeps_files { IsTrue (R.tells resolver.old) → R.files resolver.new ≡ R.files resolver.old }

@@ -31,7 +31,6 @@ abbrev pub of_descriptor : DescriptorError → ErrorKind
 of_descriptor (check.Rule file place rule) = Check (check.Rule file place rule)
 of_descriptor (check.Decode e) = of_decode e
 of_descriptor check.NoMemory = NoMemory
-of_descriptor (check.NotBuilt file) = Check (check.NotBuilt file)
 
 -- No want of memory stands inside of it.
 abbrev pub IsWhole : ErrorKind → Type 0
@@ -48,7 +47,6 @@ abbrev pub descriptor_file : DescriptorError → Option (List ℕ)
 descriptor_file (check.Rule file place rule) = Some file
 descriptor_file (check.Decode e) = None
 descriptor_file check.NoMemory = None
-descriptor_file (check.NotBuilt file) = Some file
 
 -- the file that an error names
 abbrev pub file_of : ErrorKind → Option (List ℕ)

@@ -43,7 +43,6 @@ abbrev pub descriptor_line : DescriptorError → Pieces
 descriptor_line (check.Rule file place rule) = codes "rule " ∷ decimal rule ∷ codes ": " ∷ rule_text rule ∷ codes " at " ∷ dotted place ∷ []
 descriptor_line (check.Decode e) = codes "record does not decode" ∷ []
 descriptor_line check.NoMemory = codes "out of memory" ∷ []
-descriptor_line (check.NotBuilt file) = codes "record not built yet" ∷ []
 
 -- the line of an error
 abbrev pub line_of : ErrorKind → Pieces
@@ -85,7 +84,6 @@ abbrev pub before_descriptor : DescriptorError → Pieces
 before_descriptor (check.Rule file place rule) = at_file file
 before_descriptor (check.Decode e) = []
 before_descriptor check.NoMemory = []
-before_descriptor (check.NotBuilt file) = at_file file
 
 -- what stands before the line in the long line
 abbrev pub before_line : ErrorKind → Pieces

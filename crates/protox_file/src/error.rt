@@ -106,7 +106,7 @@ pub enum ErrorKind {
         /// How many there may be.
         limit: u32,
     },
-    /// The options of a file do not decode.
+    /// A file nests more than 100 levels, or its options do not decode.
     Undecodable {
         /// The name of the file.
         file: Text,
@@ -324,7 +324,6 @@ fn descriptor_file(error: &DescriptorError) -> Option<&str>
         DescriptorError::Rule { file, .. } => Some(file.as_str()),
         DescriptorError::Decode(_) => None,
         DescriptorError::NoMemory => None,
-        DescriptorError::NotBuilt { file } => Some(file.as_str()),
     }
 }
 
@@ -370,9 +369,6 @@ impl From<DescriptorError> for Error {
             },
             DescriptorError::NoMemory => Error {
                 kind: ErrorKind::NoMemory,
-            },
-            DescriptorError::NotBuilt { file } => Error {
-                kind: ErrorKind::Check(DescriptorError::NotBuilt { file }),
             },
         }
     }

@@ -124,7 +124,6 @@ fn descriptor_line(alloc: Global, error: &DescriptorError) -> Result<Text, NoMem
         DescriptorError::Rule { place, rule, .. } => rule_line(alloc, place.as_slice(), *rule),
         DescriptorError::Decode(_) => Text::from_str(alloc, "record does not decode"),
         DescriptorError::NoMemory => Text::from_str(alloc, "out of memory"),
-        DescriptorError::NotBuilt { .. } => Text::from_str(alloc, "record not built yet"),
     }
 }
 
@@ -245,7 +244,6 @@ fn before_descriptor(alloc: Global, error: &DescriptorError) -> Result<Text, NoM
 {
     match error {
         DescriptorError::Rule { file, .. } => at_file(alloc, file.as_str()),
-        DescriptorError::NotBuilt { file } => at_file(alloc, file.as_str()),
         DescriptorError::Decode(_) => Text::from_str(alloc, ""),
         DescriptorError::NoMemory => Text::from_str(alloc, ""),
     }

@@ -59,8 +59,7 @@ fn of_one_text(alloc: Global, row: &Row) -> Result<Error, NoMemory> {
         "file too large" => Error::from_kind(ErrorKind::FileTooLarge { name }),
         "file no utf-8" => Error::from_kind(ErrorKind::FileInvalidUtf8 { name }),
         "file not included" => Error::from_kind(ErrorKind::FileNotIncluded { path: name }),
-        "options undecodable" => Error::from_kind(ErrorKind::Undecodable { file: name }),
-        _ => Error::from(DescriptorError::NotBuilt { file: name }),
+        _ => Error::from_kind(ErrorKind::Undecodable { file: name }),
     })
 }
 
@@ -131,11 +130,9 @@ fn of_fields(alloc: Global, row: &Row) -> Result<Error, NoMemory> {
     match row.text(0) {
         "syntax" => syntax(alloc, row),
         "rule" => rule(alloc, row),
-        "file too large"
-        | "file no utf-8"
-        | "file not included"
-        | "options undecodable"
-        | "not built" => of_one_text(alloc, row),
+        "file too large" | "file no utf-8" | "file not included" | "options undecodable" => {
+            of_one_text(alloc, row)
+        }
         "file not read" | "file shadowed" | "import cycle" | "other name" => of_texts(alloc, row),
         "import not found" | "import twice" => of_import(alloc, row),
         _ => Ok(of_no_text(alloc, row)),

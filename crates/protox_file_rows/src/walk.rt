@@ -1,7 +1,6 @@
 //! Questions about files with all that they import. The steps of a row put files, set limits and open paths.
 
 use crate::errors::{add_long_line, sort};
-use crate::files::name_of;
 use crate::resolvers;
 use crate::step::{Step, add_texts, small_number, step_at, steps};
 use crate::told::Told;
@@ -115,33 +114,28 @@ fn open<R: FileResolver>(
     }
 }
 
-/// The name of the record at that index.
-fn add_record(pool: &DescriptorPool, index: usize, told: &mut Told) {
-    match pool.file_at(index) {
-        Some(record) => told.add_quoted(name_of(record)),
-        None => told.add("no record"),
-    }
-}
-
 /// The names of the records in order.
 fn say_records(pool: &DescriptorPool, told: &mut Told) {
-    told.say(if pool.is_empty() {
+    told.say(if pool.files().len() == 0 {
         "empty:"
     } else {
         "records:"
     });
-    for index in 0..pool.len() {
+    for file in pool.files() {
         told.add(" ");
-        add_record(pool, index, told);
+        told.add_quoted(Some(file.name()));
     }
 }
 
 /// The name of the record at that index, and how many there are.
 fn say_record(pool: &DescriptorPool, index: &str, told: &mut Told) {
     told.next();
-    add_record(pool, index.parse::<usize>().unwrap_or(0), told);
+    match pool.files().nth(index.parse::<usize>().unwrap_or(0)) {
+        Some(file) => told.add_quoted(Some(file.name())),
+        None => told.add("no record"),
+    }
     told.add(" of ");
-    told.add_number(pool.len() as u64);
+    told.add_number(pool.files().len() as u64);
 }
 
 /// Opens a path, and tells the records that were there before.

@@ -8,8 +8,11 @@
 //! - `records`: the same, where the words are names of files and the input is unused. The answer is status, error output
 //!   and the output in hexadecimal digits.
 //! - `set`: names of files, input, a type's name, and the files. The answer is the set of the files in hexadecimal digits.
+//! - `deep`: a type's name, and files, each by its name and how many messages stand in one another there. The answer is `ok`, or what is
+//!   refused.
 #![tactic(auto)]
 
+mod deep;
 mod objects;
 mod runs;
 mod sets;
@@ -24,6 +27,7 @@ fn answer(alloc: Global, row: &Row) -> Result<String, NoMemory> {
         "run" => runs::run(alloc, row),
         "records" => runs::records(alloc, row),
         "set" => sets::set(alloc, row),
+        "deep" => deep::deep(alloc, row),
         _ => Ok(String::from_str(alloc, "no such question")?),
     }
 }

@@ -20,7 +20,9 @@ returns-clause-stop g c tells lookups are =
     let told = of_folder g.D.Disk.tells g.D.Disk.holds c.new-files.result c.args.disk c.in-Ok-from_str.folder c.args.file.now c.in-Ok.paths
     (λ ls rs ps. IfErr c.compile_and_transcode-resolver.result.result (Refuses ls rs ps c.args.type_name.now (view c.args.tree.now)))
     c.new-files.ensures c.in-Ok-from_str.ensures c.in-Ok.ensures c.compile_and_transcode-resolver.ensures.err tells lookups are in
-    file_stop c.args.type_name.now c.args.file.now lookups (view c.args.tree.now) c.in-Err.error c.stop_of.result c.stop_of.ensures (err_of _ c.compile_and_transcode-resolver.result.result c.in-Err.error c.in-Err.is told)
+    file_stop c.args.type_name.now c.args.file.now lookups (view c.args.tree.now) c.in-Err.error _ c.stop_of.result c.stop_of.ensures
+    (err_of _ c.compile_and_transcode-resolver.result.result c.in-Err.error c.in-Err.is c.compile_and_transcode-resolver.ensures.cause)
+    (err_of _ c.compile_and_transcode-resolver.result.result c.in-Err.error c.in-Err.is told)
 
 pub returns-clause-cause : goal.returns-clause-cause
 returns-clause-cause g c =

@@ -1,11 +1,17 @@
 use Rattle.protox.specs.Class.{AreRead}
 use Rattle.protox.specs.Stops.{line_of}
-use Rattle.protox.proofs.Endings.{ran_outcome, ran_quiet, ran_stopped, ran_fault}
+use Rattle.protox.proofs.Endings.{ran_outcome, ran_quiet, ran_stopped, ran_fault, ran_words, ran_faulty}
 use Rattle.protox.proofs.top.run.Goals as goal
 
 pub returns-clause-outcome : goal.returns-clause-outcome
 returns-clause-outcome g c disk input out lookups are small =
     (line_of c.args.words.now c.obey-worked.result.ended, ran_outcome c.args.words.now lookups _ _ _ _ _ _ _ _ _ _ c.report-status.ensures.status small (c.obey-worked.ensures.told disk input out lookups are), c.report-status.ensures.said)
+
+pub returns-clause-words : goal.returns-clause-words
+returns-clause-words g c two = ran_words _ _ _ _ c.obey-worked.result.ended _ c.report-status.ensures.status c.obey-worked.ensures.cause two
+
+pub returns-clause-faulty : goal.returns-clause-faulty
+returns-clause-faulty g c faulty = ran_faulty _ _ _ _ c.obey-worked.result.ended _ c.report-status.ensures.status c.obey-worked.ensures.cause faulty
 
 pub returns-clause-stopped : goal.returns-clause-stopped
 returns-clause-stopped g c disk input out lookups are large =

@@ -1,8 +1,9 @@
 use Rattle.serde_json.specs.View.{view}
-use Rattle.protox.proofs.Judged.{stopped, accepted, all_refused, all_given}
+use Rattle.protox_io.specs.Count.{Rose}
+use Rattle.protox.proofs.Judged.{stopped, accepted, all_refused, all_given, all_pooled, of_disk, walk_caused, pool_caused}
 use Rattle.protox.proofs.Transcoding.{ok_then, err_then}
-use Rattle.std.proofs.Common.{subst, sym}
-use Rattle.protox.specs.Top.{Refuses}
+use Rattle.std.proofs.Common.{ap, subst, sym}
+use Rattle.protox.specs.Top.{IsCaused, Refuses, of_error}
 use Rattle.protox.specs.declared.error.TopError.{TopError}
 use Rattle.protox.proofs.transcode.compile_and_transcode.Goals as goal
 
@@ -26,3 +27,22 @@ returns-clause-err g c tells lookups are =
     (λ error h. all_refused lookups (g.R.FileResolver.resolves c.args.resolver) c.args.paths.now c.args.type_name.now (view c.args.tree.now) c.open_files.new.self.done c.descriptor_pool-pool.result error c.descriptor_pool-pool.ensures.pool
     (accepted g.R.FileResolver.tells g.R.FileResolver.files g.R.FileResolver.resolves c.args.resolver c.in-Ok.compiler c.args.paths.now c.open_files.new.self.done c.in-Ok.ensures.ok c.in-Ok-open_files.ensures.ok tells lookups are) h)
     c.transcode_in-result.ensures.err
+
+pub returns-in-Err-open_files-clause-cause : goal.returns-in-Err-open_files-clause-cause
+returns-in-Err-open_files-clause-cause g c =
+    let P : TopError → Type 0 = λ e. IsCaused (Rose (g.R.FileResolver.faults c.args.resolver) (g.R.FileResolver.faults c.into_resolver.result) (g.R.FileResolver.at_end c.into_resolver.result)) e in
+    subst P (sym c.file_error.ensures)
+    (of_disk g.R.FileResolver.faults g.R.FileResolver.at_end c.args.resolver c.into_resolver.result c.in-Ok.compiler.resolver c.open_files.new.self.resolver (of_error c.in-Err-open_files.error)
+    (ap (λ s. s.resolver) c.in-Ok.ensures.ok) c.into_resolver.ensures (walk_caused _ _ _ _ c.in-Err-open_files.error c.in-Err-open_files.ensures.cause.2))
+
+pub returns-clause-cause : goal.returns-clause-cause
+returns-clause-cause g c =
+    err_then c.transcode_in-result.result
+    (λ error h. pool_caused _ c.args.type_name.now (view c.args.tree.now) c.descriptor_pool-pool.result error h) c.transcode_in-result.ensures.err
+
+pub returns-clause-ordered : goal.returns-clause-ordered
+returns-clause-ordered g c =
+    ok_then c.transcode_in-result.result
+    (λ done h. all_pooled c.args.type_name.now (view c.args.tree.now) c.open_files.new.self.done c.descriptor_pool-pool.result done.set done.wire (view done.tree) c.descriptor_pool-pool.ensures.pool
+    c.descriptor_pool-pool.ensures.ordered c.descriptor_pool-pool.ensures.pooled h)
+    c.transcode_in-result.ensures.ok

@@ -1,4 +1,5 @@
 use Rattle.std.proofs.Common.{arith}
+use Rattle.protox_compile.proofs.Causes.{import_cause}
 use Rattle.protox_compile.proofs.Steps.{ends_limit, visit_leads, ends_import}
 use Rattle.protox_compile.proofs.step.open_import.Goals as goal
 
@@ -10,3 +11,6 @@ returns-in-Ok-clause-child g c tells = visit_leads (g.R.FileResolver.files c.arg
 
 pub returns-in-Err-clause-err : goal.returns-in-Err-clause-err
 returns-in-Err-clause-err g c tells walk follows lookups all = ends_import (g.R.FileResolver.files c.args.resolver.now) c.args.limit c.args.current.now c.args.parents.now c.args.done.now c.args.name.now c.requires.more c.requires.visit.name_is c.requires.visit (omega arith) walk follows lookups all c.in-Err.error c.import_error.result c.import_error.ensures (c.in-Err.ensures.stopped tells (lookups c.args.name.now) (all c.args.name.now))
+
+pub returns-in-Err-clause-cause : goal.returns-in-Err-clause-cause
+returns-in-Err-clause-cause g c = import_cause c.args.limit c.args.done.now _ _ _ _ _ c.in-Err.error c.import_error.result c.in-Err.ensures.cause c.import_error.ensures

@@ -3,14 +3,17 @@ use Rattle.std.proofs.lemmas.List.{length_push}
 use Rattle.std.proofs.lemmas.Result.{err_from_is_err_and}
 use Rattle.protox_compile.specs.Walk.{done_as, is_done}
 use Rattle.protox_compile.specs.Resume.{past, IsVisit}
-use Rattle.protox_compile.proofs.Fresh.{on_err, fresh_root, fresh_finish, fresh_visit}
+use Rattle.protox_compile.proofs.Fresh.{on_err, fresh_root, fresh_finish, fresh_visit, root_done}
 use Rattle.protox_compile.proofs.Extends.{grows_push}
 use Rattle.protox_compile.proofs.Steps.{finish_leads, ends_memory}
-use Rattle.protox_compile.proofs.Walks.{advance_leads, to_visit, unlinked_ends, same_stack, fresh_next, ends_finished, ends_later, leads_later}
+use Rattle.protox_compile.proofs.Walks.{step_cause_later, advance_leads, to_visit, unlinked_ends, same_stack, fresh_next, ends_finished, ends_later, leads_later}
 use Rattle.protox_compile.proofs.walk.finish_all.Goals as goal
 
 pub returns-in-Err-clause-root : goal.returns-in-Err-clause-root
 returns-in-Err-clause-root g c = fresh_root _ c.walk.current _ _ c.walk.invariant.fresh
+
+pub returns-in-Err-clause-cause : goal.returns-in-Err-clause-cause
+returns-in-Err-clause-cause g c = step_cause_later c.args.limit c.walk.done ⊥ _ c.in-Err.error (λ no. absurd no) (c.in-Err.ensures.cause c.args.limit)
 
 pub returns-in-Err-clause-err : goal.returns-in-Err-clause-err
 returns-in-Err-clause-err g c tells = λ walk follows. c.in-Err.ensures.err (g.R.FileResolver.files c.args.resolver.now) c.args.limit walk (c.walk.invariant.leads tells walk follows)
@@ -62,9 +65,9 @@ walk-preserved-in-Ok-Visit g c =
 
 pub walk-preserved : goal.walk-preserved
 walk-preserved g c =
-    let grown : c.finish.new.self ≡ c.walk.done ++ done_as c.walk.current.name c.walk.current.entry ∷ [] = c.in_ok-finish.ensures.ok in
+    let grown : c.finish.new.self ≡ c.walk.done ++ done_as c.walk.done c.walk.current.name c.walk.current.entry ∷ [] = c.in_ok-finish.ensures.ok in
     let popped : c.walk.parents ≡ c.in-Some.parent ∷ c.pop.new.self = c.in-Some.ensures in
-    let longer : length (c.walk.done ++ done_as c.walk.current.name c.walk.current.entry ∷ []) ≡ length c.walk.done + 1 = length_push c.walk.done (done_as c.walk.current.name c.walk.current.entry) in
+    let longer : length (c.walk.done ++ done_as c.walk.done c.walk.current.name c.walk.current.entry ∷ []) ≡ length c.walk.done + 1 = length_push c.walk.done (done_as c.walk.done c.walk.current.name c.walk.current.entry) in
     record {
       tells = c.walk.invariant.tells;
       files = c.walk.invariant.files;
@@ -75,7 +78,7 @@ walk-preserved g c =
           same_stack (g.R.FileResolver.files c.args.resolver.now) walk c.args.limit c.walk.parents (c.in-Some.parent ∷ c.pop.new.self) c.finish.new.self popped
           (finish_leads (g.R.FileResolver.files c.args.resolver.now) c.args.limit c.walk.current c.walk.parents c.walk.done c.finish.new.self (sym c.has_next.ensures ∙ c.if-has_next.false) c.in_ok-finish.ensures.linked grown walk (c.walk.invariant.leads tells walk follows));
       fresh = fresh_finish _ c.walk.current c.in-Some.parent c.pop.new.self c.walk.parents c.walk.done _ popped grown c.walk.invariant.fresh;
-      grows = grows_push c.args.done.now c.walk.done c.finish.new.self (done_as c.walk.current.name c.walk.current.entry) c.walk.invariant.grows grown refl;
+      grows = grows_push c.args.done.now c.walk.done c.finish.new.self (done_as c.walk.done c.walk.current.name c.walk.current.entry) c.walk.invariant.grows grown refl;
       room = omega (arith, ap length grown, ap length popped, longer, c.walk.invariant.room);
     }
 
@@ -97,11 +100,14 @@ returns-in_err-finish-clause-err g c tells =
     rw (p.1, p.2, c.in_err-finish.ensures.err) (λ walk follows. unlinked_ends (g.R.FileResolver.files c.args.resolver.now) c.args.limit c.walk.current c.walk.parents c.walk.done _ (sym c.has_next.ensures ∙ c.if-has_next.false) c.in_err-finish.ensures.refused walk (c.walk.invariant.leads tells walk follows))
 
 pub returns-in-None-clause-grows : goal.returns-in-None-clause-grows
-returns-in-None-clause-grows g c = grows_push c.args.done.now c.walk.done c.finish.new.self (done_as c.walk.current.name c.walk.current.entry) c.walk.invariant.grows c.in_ok-finish.ensures.ok refl
+returns-in-None-clause-grows g c = grows_push c.args.done.now c.walk.done c.finish.new.self (done_as c.walk.done c.walk.current.name c.walk.current.entry) c.walk.invariant.grows c.in_ok-finish.ensures.ok refl
+
+pub returns-in-None-clause-there : goal.returns-in-None-clause-there
+returns-in-None-clause-there g c = root_done c.args.root.name c.walk.current c.walk.parents c.walk.done c.finish.new.self c.in-None.ensures.0 c.in_ok-finish.ensures.ok c.walk.invariant.fresh
 
 pub returns-in-None-clause-ok : goal.returns-in-None-clause-ok
 returns-in-None-clause-ok g c tells walk follows lookups all =
-    let grown : c.finish.new.self ≡ c.walk.done ++ done_as c.walk.current.name c.walk.current.entry ∷ [] = c.in_ok-finish.ensures.ok in
+    let grown : c.finish.new.self ≡ c.walk.done ++ done_as c.walk.done c.walk.current.name c.walk.current.entry ∷ [] = c.in_ok-finish.ensures.ok in
     let e : c.walk.parents ≡ [] = c.in-None.ensures.0 in
     ends_finished (g.R.FileResolver.files c.args.resolver.now) walk c.args.limit c.walk.parents c.finish.new.self lookups e
     (finish_leads (g.R.FileResolver.files c.args.resolver.now) c.args.limit c.walk.current c.walk.parents c.walk.done c.finish.new.self (sym c.has_next.ensures ∙ c.if-has_next.false) c.in_ok-finish.ensures.linked grown walk (c.walk.invariant.leads tells walk follows)) all

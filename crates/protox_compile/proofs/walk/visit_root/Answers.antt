@@ -3,6 +3,8 @@ use Rattle.protox_compile.specs.Resume.{Follows}
 use Rattle.protox_compile.specs.Opening.{asked_path}
 use Rattle.protox_compile.proofs.Roots.{root_limit, root_follows, root_stops, root_walk}
 use Rattle.protox_compile.proofs.Walks.{later_files, later_ends}
+use Rattle.protox_compile.proofs.Causes.{root_cause, root_step_cause}
+use Rattle.protox_compile.proofs.Openings.{rose_since}
 use Rattle.protox_compile.proofs.walk.visit_root.Goals as goal
 
 pub returns-then-len-limit-clause-err : goal.returns-then-len-limit-clause-err
@@ -28,3 +30,9 @@ pub returns-in-Err-clause-err : goal.returns-in-Err-clause-err
 returns-in-Err-clause-err g c tells lookups all =
     let room : length c.args.done.now + 1 ≤ c.args.limit = search rules in
     root_stops c.args.limit (asked_path c.args.resolved c.args.path.now) c.args.root.now c.args.done.now room lookups c.in-Err.error (c.in-Err.ensures.stopped tells (lookups c.args.root.now) (all c.args.root.now))
+
+pub returns-in-Ok-clause-cause : goal.returns-in-Ok-clause-cause
+returns-in-Ok-clause-cause g c = root_step_cause _ c.args.limit _ _ _ c.finish_all.result (rose_since _ _ _ _ c.open_frame.ensures.later) c.finish_all.ensures.cause
+
+pub returns-in-Err-clause-cause : goal.returns-in-Err-clause-cause
+returns-in-Err-clause-cause g c = root_cause _ c.args.limit _ _ c.in-Err.error c.in-Err.ensures.cause

@@ -1,5 +1,7 @@
-use Rattle.std.proofs.Common.{◌≡◌, ap, IsTrue}
+use Rattle.std.proofs.Common.{◌≡◌, ap, IsTrue, true}
 use Rattle.protox_file.specs.Told.{AreLookups}
+use Rattle.protox_compile.specs.Opening.{root_of}
+use Rattle.protox_compile.specs.State.{is_settled}
 use Rattle.protox_compile.proofs.compiler.Compiler.open_file.Goals as goal
 
 pub returns-clause-ok : goal.returns-clause-ok
@@ -15,3 +17,14 @@ returns-clause-err g c tells lookups all =
     let told : IsTrue (g.R.FileResolver.tells c.self.inside.resolver) = rw same tells in
     let looked : AreLookups (g.R.FileResolver.files c.self.inside.resolver) lookups = rw same all in
     rw (← c.self.view_is) (c.open_path.ensures.err told lookups looked)
+
+pub returns-clause-again : goal.returns-clause-again
+returns-clause-again g c tells settled =
+    let same : c.self.inside.resolver ≡ c.args.self.now.resolver = ap (λ s. s.resolver) c.self.view_is in
+    let files : c.self.inside.compiled ≡ c.args.self.now.done = ap (λ s. s.done) c.self.view_is in
+    let told : IsTrue (g.R.FileResolver.tells c.self.inside.resolver) = rw same tells in
+    let there : is_settled (root_of (g.R.FileResolver.resolves c.self.inside.resolver) c.args.path.now) c.self.inside.compiled ≡ true = rw (same, files) settled in
+    rw (← c.self.view_is) (c.open_path.ensures.again told there)
+
+pub returns-clause-unread : goal.returns-clause-unread
+returns-clause-unread g c = rw (← c.self.view_is) c.open_path.ensures.unread

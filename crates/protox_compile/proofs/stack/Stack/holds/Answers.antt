@@ -1,5 +1,11 @@
-use Rattle.protox_compile.proofs.Stacks.{holds_reversed}
+use Rattle.std.proofs.Common.{◌∙◌, ap}
+use Rattle.std.specs.Prelude.{is_some}
+use Rattle.protox_compile.specs.Resume.{names_of}
+use Rattle.protox_compile.proofs.Indexed.{found_among}
+use Rattle.protox_compile.proofs.Stacks.{among_reversed}
 use Rattle.protox_compile.proofs.stack.Stack.holds.Goals as goal
 
 pub returns : goal.returns
-returns c = rw (← c.self.view_is) (holds_reversed c.self.inside.frames.items _ _ (rw (← c.deref.ensures.value) c.any_named.ensures))
+returns c =
+    rw (← c.self.view_is) (c.is_some.ensures ∙ ap (λ o. is_some o) (c.get.ensures ∙ c.self.invariant c.args.name.now)
+    ∙ found_among c.args.name.now (names_of c.self.inside.frames.items) ∙ among_reversed c.self.inside.frames.items c.args.name.now)

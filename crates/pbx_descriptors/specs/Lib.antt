@@ -1,3 +1,0 @@
-pub mod Descriptors
-pub mod Tables
-pub mod Kinds

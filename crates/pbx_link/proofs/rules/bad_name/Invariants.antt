@@ -1,7 +1,0 @@
-use Rattle.std.proofs.Common.{◌≡◌, drop}
-use Rattle.pbx_link.specs.Rules.{bad_names, bad_names_in}
-use Rattle.pbx_link.proofs.Searched.{messages_from}
-use Rattle.pbx_link.proofs.rules.bad_name.Given as goal
-
-abbrev pub invariant-loop-index : goal.invariant-loop-index
-invariant-loop-index l = bad_names l.file ≡ messages_from bad_names_in l.index (drop l.index l.message-items)
