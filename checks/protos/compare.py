@@ -2,7 +2,7 @@
 
     compare.py PROGRAM LINKING FOLDER
 
-PROGRAM is protox_records, LINKING is pbx_pool_rows, and FOLDER holds the files, all of which protoc takes; the files that are
+PROGRAM is protox_records, LINKING is pbx_link_rows, and FOLDER holds the files, all of which protoc takes; the files that are
 installed with protoc are compared too. From protoc's record is taken away what linking adds to it, and its locations are brought
 to those that our profile lists; then both have to be equal, and ours has to have no byte more than the usual encoding. Then our
 records, with those of their imports, are linked, and the linked records have to be equal to protoc's. Prints the differences, and
