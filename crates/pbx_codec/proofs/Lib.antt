@@ -9,6 +9,7 @@ pub mod Reading
 pub mod Single
 pub mod Rivals
 pub mod TreeFields
+pub mod WrittenTexts
 pub mod Decoded
 pub mod Keyed
 pub mod EncodedOrder

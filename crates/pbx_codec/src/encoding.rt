@@ -2,7 +2,7 @@ ghost use Rattle.std.specs.Prelude.{◌≡◌, [], ◌∷◌, ◌++◌, map, Som
 ghost use Rattle.pbx_wire.specs.declared.rec.Rec.TheVariants as rec;
 ghost use Rattle.pbx_meaning.specs.Content.{vals_of, pairs_of};
 ghost use Rattle.pbx_meaning.specs.Shape.{fields_of, form_of};
-ghost use Rattle.pbx_meaning.specs.Encoding.{encoded, content_recs, fields_recs, field_recs, vals_recs, pairs_recs, val_rec};
+ghost use Rattle.pbx_meaning.specs.Encoding.{content_recs, fields_recs, field_recs, vals_recs, pairs_recs, val_rec};
 ghost use Rattle.pbx_meaning.specs.Encoding.{key_rec, type_of, keys_of, payload, number_rec, packed_text, numeral as numeral_of};
 ghost use Rattle.pbx_codec.specs.View.{val_of, content_of, entry_of, pair_of, key_of, fields_in};
 
@@ -20,7 +20,7 @@ use pbx_wire::{Blob, List, NoMemory, Rec, Recs, recs_text};
 use std::alloc::Global;
 
 /// The place of a message type.
-fn message_type(kind: Kind) -> usize
+pub(crate) fn message_type(kind: Kind) -> usize
     ensures { result ≡ type_of kind }
 {
     match kind {
@@ -30,7 +30,7 @@ fn message_type(kind: Kind) -> usize
 }
 
 /// The kind of the keys; a field that is no map has none, and any stands for it.
-fn key_kind(cardinality: Cardinality) -> Kind
+pub(crate) fn key_kind(cardinality: Cardinality) -> Kind
     ensures { result ≡ keys_of cardinality }
 {
     match cardinality {
@@ -248,7 +248,7 @@ fn fields_records(
 
 /// The records of a content, where the stack holds `room` levels.
 #[cycle(encode)]
-fn records_of(
+pub(crate) fn records_of(
     contents: &Contents,
     alloc: Global,
     schema: &Schema,
@@ -275,17 +275,4 @@ pub fn content_records(
     ensures { IfOk result (λ recs. recs ≡ content_recs schema.now type_at (content_of contents.now)) }
 {
     records_of(contents, alloc, schema, type_at, DEEPEST + 1)
-}
-
-/// The canonical encoding of the content, as `content_records` gives its records.
-pub fn encode(
-    alloc: Global,
-    schema: &Schema,
-    type_at: usize,
-    contents: &Contents,
-) -> Result<Blob, NoMemory>
-    ensures { IfOk result (λ bytes. bytes ≡ encoded schema.now type_at (content_of contents.now)) }
-{
-    let recs = content_records(alloc, schema, type_at, contents)?;
-    recs_text(alloc, &recs)
 }

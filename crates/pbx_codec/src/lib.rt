@@ -17,9 +17,11 @@ mod pairs;
 mod scalars;
 mod stabilizing;
 mod values;
+mod writing;
 
 pub use contents::{Contents, Held, Pair};
 pub use decoding::{decode, decode_parts, decode_within, merge};
-pub use encoding::{content_records, encode};
+pub use encoding::content_records;
 pub use key::MapKey;
 pub use levels::depth;
+pub use writing::encode;

@@ -1,6 +1,7 @@
 ghost use Rattle.std.specs.Prelude.{◌≡◌, ℕ, ◌%◌, ◌^◌, ◌<◌, pos, map, IfOk};
 ghost use Rattle.std.specs.List.{concat};
 ghost use Rattle.std.specs.Int.{w32, w64, to_le_bytes};
+ghost use Rattle.pbx_wire.specs.Varint.{varint};
 ghost use Rattle.pbx_meaning.specs.Content.{vals_of};
 ghost use Rattle.pbx_meaning.specs.Shape.{as_four, form_of};
 ghost use Rattle.pbx_meaning.specs.Encoding.{zigzag as zigzag_of, wire_number, numeral as numeral_of, number_rec, packed_text, is_packed as is_packed_of};
@@ -9,7 +10,7 @@ ghost use Rattle.pbx_codec.specs.View.{val_of};
 use crate::contents::Held;
 use crate::fields::{Form, form_of_kind};
 use pbx_meaning::{FieldShape, Kind};
-use pbx_wire::{Blob, List, NoMemory, Rec, varints_text};
+use pbx_wire::{Blob, List, NoMemory, Rec, put_varint};
 use std::alloc::Global;
 
 fn zigzag(value: i64) -> u64
@@ -94,6 +95,17 @@ fn numerals(alloc: Global, kind: Kind, many: &[Held]) -> Result<List<u64>, NoMem
     Ok(values)
 }
 
+/// The shortest spellings of the numbers that the scalars are written as.
+fn varints_payload(alloc: Global, kind: Kind, many: &[Held]) -> Result<Blob, NoMemory>
+    ensures { IfOk result (λ blob. blob ≡ concat (map varint (map (λ held. numeral_of kind (val_of held)) many.now))) }
+{
+    let mut text = Blob::with_capacity(alloc, many.len())?;
+    for held in many {
+        put_varint(&mut text, numeral(kind, held))?;
+    }
+    Ok(text)
+}
+
 /// The numbers in four bytes each, of which the least comes first.
 fn fours_text(alloc: Global, values: &[u64]) -> Result<Blob, NoMemory>
     ensures { IfOk result (λ blob. blob ≡ concat (map (to_le_bytes w32) values.now)) }
@@ -122,7 +134,7 @@ pub(crate) fn packed_payload(alloc: Global, kind: Kind, many: &[Held]) -> Result
     ensures { IfOk result (λ blob. blob ≡ packed_text kind (vals_of (map val_of many.now))) }
 {
     match form_of_kind(kind) {
-        Form::Varint => varints_text(alloc, numerals(alloc, kind, many)?.as_slice()),
+        Form::Varint => varints_payload(alloc, kind, many),
         Form::Four => fours_text(alloc, numerals(alloc, kind, many)?.as_slice()),
         Form::Eight => eights_text(alloc, numerals(alloc, kind, many)?.as_slice()),
         Form::Payload => Ok(Blob::new(alloc)),

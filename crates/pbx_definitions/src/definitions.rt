@@ -129,15 +129,15 @@ fn made_definition(
     scope: &str,
     name: &str,
     sort: Sort,
-    place: &[i32],
+    place: List<i32>,
 ) -> Result<Definition, NoMemory>
-    ensures { IfOk result (λ d. d ≡ record { scope = scope.now; name = name.now; sort = sort; place = place.now }) }
+    ensures { IfOk result (λ d. d ≡ record { scope = scope.now; name = name.now; sort = sort; place = place }) }
 {
     Ok(Definition {
         scope: Text::from_str(alloc, scope)?,
         name: Text::from_str(alloc, name)?,
         sort,
-        place: place_copy(alloc, place)?,
+        place,
     })
 }
 
@@ -156,7 +156,7 @@ fn add_items<T: Named>(
 {
     for (index, item) in items.iter().enumerate() {
         let there = place_in(alloc, place, number, index)?;
-        table.add(made_definition(alloc, scope, item.own_name(), sort, there.as_slice())?)?;
+        table.add(made_definition(alloc, scope, item.own_name(), sort, there)?)?;
     }
     Ok(())
 }
@@ -171,7 +171,8 @@ fn add_enum(
 ) -> Result<(), NoMemory>
     ensures { OnOk result (table.new ≡ table.old ++ enum_definitions (record { scope = scope.now; place = place.now; index = 0; item = item.now })) }
 {
-    table.add(made_definition(alloc, scope, text_or_empty(&item.name), Sort::Enum, place)?)?;
+    let own = text_or_empty(&item.name);
+    table.add(made_definition(alloc, scope, own, Sort::Enum, place_copy(alloc, place)?)?)?;
     add_items(
         alloc,
         scope,
@@ -213,7 +214,7 @@ fn add_service(
 {
     let own = text_or_empty(&item.name);
     let name = name_in(alloc, scope, own)?;
-    table.add(made_definition(alloc, scope, own, Sort::Service, place)?)?;
+    table.add(made_definition(alloc, scope, own, Sort::Service, place_copy(alloc, place)?)?)?;
     add_items(
         alloc,
         name.as_str(),
@@ -258,7 +259,7 @@ fn add_message(
     let own = text_or_empty(&message.name);
     let full = name_in(alloc, scope, own)?;
     let name = full.as_str();
-    table.add(made_definition(alloc, scope, own, Sort::Message, place)?)?;
+    table.add(made_definition(alloc, scope, own, Sort::Message, place_copy(alloc, place)?)?)?;
     add_items(
         alloc,
         name,

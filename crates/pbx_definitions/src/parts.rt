@@ -161,11 +161,11 @@ pub fn name_in(alloc: Global, scope: &str, name: &str) -> Result<Text, NoMemory>
     Text::joined(alloc, &[scope, ".", name])
 }
 
-/// An equal place.
+/// An equal place, with room for a number and an index behind it.
 pub(crate) fn place_copy(alloc: Global, place: &[i32]) -> Result<List<i32>, NoMemory>
     ensures { IfOk result (λ copy. copy ≡ place.now) }
 {
-    let mut copy = List::new(alloc);
+    let mut copy = List::with_capacity(alloc, place.len().saturating_add(2))?;
     for step in place {
         copy.add(*step)?;
     }

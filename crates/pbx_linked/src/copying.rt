@@ -41,7 +41,7 @@ impl<T: Duplicate> Duplicate for Option<T> {
 
 impl<T: Duplicate> Duplicate for List<T> {
     fn duplicate(&self, alloc: Global) -> Result<List<T>, NoMemory> {
-        let mut copies = List::new(alloc);
+        let mut copies = List::with_capacity(alloc, self.len())?;
         for item in self.as_slice() {
             copies.add(item.duplicate(alloc)?)?;
         }

@@ -72,7 +72,7 @@ pub(crate) fn linked_fields<V: Visible>(
 ) -> Result<List<FieldDescriptorProto>, NoMemory>
     ensures { IfOk result (λ linked. linked ≡ map settled_field (map (linked_field_of (V.files seen.now) scope.now) fields.now)) }
 {
-    let mut linked = List::new(alloc);
+    let mut linked = List::with_capacity(alloc, fields.len())?;
     for field in fields.as_slice() {
         linked.add(linked_field(alloc, seen, scope, field)?)?;
     }
@@ -89,7 +89,7 @@ pub(crate) fn linked_extensions<V: Visible>(
 ) -> Result<List<FieldDescriptorProto>, NoMemory>
     ensures { IfOk result (λ linked. linked ≡ map settled_field (map (linked_extension_of (V.files seen.now) scope.now) extensions.now)) }
 {
-    let mut linked = List::new(alloc);
+    let mut linked = List::with_capacity(alloc, extensions.len())?;
     for extension in extensions.as_slice() {
         linked.add(linked_extension(alloc, seen, scope, extension)?)?;
     }

@@ -134,7 +134,7 @@ pub(crate) fn linked_messages<V: Visible>(
 ) -> Result<List<DescriptorProto>, NoMemory>
     ensures { IfOk result (λ linked. linked ≡ map settled_message (map (linked_message_of (V.files seen.now) scope.now) messages.now)) }
 {
-    let mut linked = List::new(alloc);
+    let mut linked = List::with_capacity(alloc, messages.len())?;
     for message in messages.as_slice() {
         linked.add(linked_message(alloc, seen, scope, message)?)?;
     }

@@ -54,7 +54,7 @@ fn linked_methods<V: Visible>(
 ) -> Result<List<MethodDescriptorProto>, NoMemory>
     ensures { IfOk result (λ linked. linked ≡ map settled_method (map (linked_method_of (V.files seen.now) scope.now) methods.now)) }
 {
-    let mut linked = List::new(alloc);
+    let mut linked = List::with_capacity(alloc, methods.len())?;
     for method in methods.as_slice() {
         linked.add(linked_method(alloc, seen, scope, method)?)?;
     }
@@ -89,7 +89,7 @@ pub(crate) fn linked_services<V: Visible>(
 ) -> Result<List<ServiceDescriptorProto>, NoMemory>
     ensures { IfOk result (λ linked. linked ≡ map settled_service (map (linked_service_of (V.files seen.now) scope.now) services.now)) }
 {
-    let mut linked = List::new(alloc);
+    let mut linked = List::with_capacity(alloc, services.len())?;
     for service in services.as_slice() {
         linked.add(linked_service(alloc, seen, scope, service)?)?;
     }

@@ -58,7 +58,7 @@ impl<T: Settle> Settle for List<T> {
     ghost settled = { map T.settled };
 
     fn settle(&self, alloc: Global) -> Result<List<T>, NoMemory> {
-        let mut list = List::new(alloc);
+        let mut list = List::with_capacity(alloc, self.len())?;
         for item in self.as_slice() {
             list.add(item.settle(alloc)?)?;
         }

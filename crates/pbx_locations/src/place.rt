@@ -36,7 +36,7 @@ fn append(numbers: &mut List<i32>, more: &[i32]) -> Result<(), NoMemory>
 fn joined(alloc: Global, path: &List<i32>, more: &[i32]) -> Result<List<i32>, NoMemory>
     ensures { IfOk result (λ all. all ≡ path.now ++ more.now) }
 {
-    let mut all = List::new(alloc);
+    let mut all = List::with_capacity(alloc, path.len().saturating_add(more.len()))?;
     append(&mut all, path.as_slice())?;
     append(&mut all, more)?;
     Ok(all)
@@ -57,7 +57,7 @@ pub fn element(
 fn span(alloc: Global, from: Span, to: Span) -> Result<List<i32>, NoMemory>
     ensures { IfOk result (λ span. span ≡ span_of from to) }
 {
-    let mut span = List::new(alloc);
+    let mut span = List::with_capacity(alloc, 4)?;
     span.add(number(from.line)?)?;
     span.add(number(from.from)?)?;
     if from.line != to.line {

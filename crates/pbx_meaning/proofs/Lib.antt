@@ -11,6 +11,7 @@ pub mod WrittenOrder
 pub mod WrittenShort
 pub mod WrittenValues
 pub mod WrittenFields
+pub mod WrittenInOrder
 pub mod Written
 pub mod SoundLists
 pub mod SoundRecords

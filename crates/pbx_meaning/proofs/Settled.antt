@@ -19,7 +19,7 @@ use Rattle.pbx_meaning.proofs.Alike.{sorted_alike}
 
 -- ---- nothing is settled twice
 
-sorted_same : (rs : List Rec) → IsSorted rs → sorted rs ≡ rs
+pub sorted_same : (rs : List Rec) → IsSorted rs → sorted rs ≡ rs
 sorted_same [] h = refl
 sorted_same (r ∷ rs) h = rw (sorted_same rs h.1) (first_here rs h.0)
   where

@@ -49,7 +49,7 @@ has_got n (field m w fs) v e = at (n == m) e (has_got n fs v)
 
 -- ---- records of one number
 
-abbrev HaveNumber : ℕ → List Rec → Type 0
+abbrev pub HaveNumber : ℕ → List Rec → Type 0
 HaveNumber n [] = Unit {0}
 HaveNumber n (r ∷ rs) = (number_of r ≡ n) × HaveNumber n rs
 
@@ -98,7 +98,7 @@ field_recs_number shape f (many vs) = at (is_packed f) (vals_number shape f.numb
     at false h = h
 field_recs_number shape f (keyed ps) = pairs_number shape f.number (keys_of f.cardinality) f.kind ps
 
-have_number : (shape : Shape) (n : ℕ) (gs : List FieldShape) (v : Val) → HaveNumber n (field_recs shape (field_of n gs) v)
+pub have_number : (shape : Shape) (n : ℕ) (gs : List FieldShape) (v : Val) → HaveNumber n (field_recs shape (field_of n gs) v)
 have_number shape n gs v = at (field_of n gs) (field_number n gs)
   where
     at : (o : Option FieldShape) → ((f : FieldShape) → o ≡ Some f → n ≡ f.number) → HaveNumber n (field_recs shape o v)

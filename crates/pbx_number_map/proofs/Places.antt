@@ -245,3 +245,26 @@ without_at {T} es i d o lt = found_rest (get_or es i d).0 i es (there es i o lt)
     there (x ∷ es) (suc i) o lt =
         let first = above_first x.0 es i d o.0 o.1 (omega arith) in
         (grind (arith, nat_tests, first), there es i o.1 (omega arith))
+
+-- ---- whether numbers ascend
+
+-- each number is at least that many, and above the one before it
+abbrev pub ascend : {T : Type 0} → ℕ → List (ℕ × T) → Bool
+ascend k [] = true
+ascend k (e ∷ es) = if nat_lt e.0 k then false else ascend (e.0 + 1) es
+
+below_first : {T : Type 0} (m : ℕ) (es : List (ℕ × T)) → ascend (m + 1) es ≡ true → IsBelow m es
+below_first m [] a = tt
+below_first {T} m (f ∷ fs) a = by_test (nat_lt f.0 (m + 1)) refl a
+  where
+    by_test : (b : Bool) → nat_lt f.0 (m + 1) ≡ b → (if b then false else ascend (f.0 + 1) fs) ≡ true → nat_lt m f.0 ≡ true
+    by_test true is a = grind (arith, nat_tests, a)
+    by_test false is a = grind (arith, nat_tests)
+
+pub ascending_if : {T : Type 0} (k : ℕ) (es : List (ℕ × T)) → ascend k es ≡ true → IsAscending es
+ascending_if k [] a = tt
+ascending_if {T} k (e ∷ es) a = by_test (nat_lt e.0 k) (ascending_if (e.0 + 1) es) a
+  where
+    by_test : (b : Bool) → (ascend (e.0 + 1) es ≡ true → IsAscending es) → (if b then false else ascend (e.0 + 1) es) ≡ true → IsBelow e.0 es × IsAscending es
+    by_test true behind a = grind (arith, nat_tests, a)
+    by_test false behind a = (below_first e.0 es a, behind a)

@@ -1,4 +1,4 @@
-ghost use Rattle.std.specs.Prelude.{◌≡◌, ◌≤◌, [], length, insert, option_map, IfOk, IfErr, OnOk, OnErr};
+ghost use Rattle.std.specs.Prelude.{◌≡◌, ◌≤◌, [], length, insert, option_map, IsTrue, IfOk, IfErr, OnOk, OnErr};
 ghost use Rattle.pbx_number_map.specs.Entries.{IsAscending, value_under, without, with_entry, with_entries, place_of as place_of_number, StandsAt, IsGapAt};
 
 use pbx_wire::NoMemory;
@@ -89,10 +89,14 @@ impl<T> NumberMap<T> {
 }
 
 impl<T: Drop> NumberMap<T> {
-    /// The pairs put in, one after another: of a number that comes twice the last value counts. The only error is want of memory.
+    /// The pairs put in, one after another: of a number that comes twice the last value counts. Where the numbers ascend, none is moved.
+    /// The only error is want of memory.
     pub fn from_entries(alloc: Global, entries: Vec<(u32, T)>) -> Result<NumberMap<T>, NoMemory>
         ensures { IfOk result (λ map. map ≡ with_entries [] entries.items) }
     {
+        if are_ascending(entries.as_slice()) {
+            return Ok(NumberMap { entries });
+        }
         let mut map = NumberMap::new(alloc);
         for (number, value) in entries {
             map.put(number, value)?;
@@ -115,6 +119,20 @@ impl<T: Drop> NumberMap<T> {
             Err(at) => add_at(&mut self.entries, at, (number, value)),
         }
     }
+}
+
+/// Whether the numbers ascend.
+fn are_ascending<T>(entries: &[(u32, T)]) -> bool
+    ensures { IsTrue result → IsAscending entries.now }
+{
+    let mut least = 0;
+    for entry in entries {
+        if u64::from(entry.0) < least {
+            return false;
+        }
+        least = u64::from(entry.0) + 1;
+    }
+    true
 }
 
 /// How many pairs at the front have lesser numbers: by one comparison where all have, as where pairs come by ascending

@@ -7,18 +7,15 @@ use Rattle.pbx_codec.specs.Fields.{form_in}
 use Rattle.pbx_codec.proofs.EncodedNumbers.{packed_as, nothing_packed}
 use Rattle.pbx_codec.proofs.numeral.packed_payload.Goals as goal
 
-pub returns-in_ok-numerals-in-Varint : goal.returns-in_ok-numerals-in-Varint
-returns-in_ok-numerals-in-Varint c =
+pub returns-in-Varint : goal.returns-in-Varint
+returns-in-Varint c =
     let form = sym c.form_of_kind.ensures ∙ ap form_in c.in-Varint.is in
-    let numbers = c.as_slice-in-Varint.ensures ∙ c.in_ok-numerals-in-Varint.ensures in
-    subst
-    (λ (b : List ℕ). IfOk c.varints_text.result (λ blob. blob ≡ b))
-    (ap (λ ns. concat (map varint ns)) numbers ∙ packed_as as_varint c.args.kind c.args.many.now form) c.varints_text.ensures
+    subst (λ (b : List ℕ). IfOk c.varints_payload.result (λ blob. blob ≡ b)) (packed_as as_varint c.args.kind c.args.many.now form) c.varints_payload.ensures
 
 pub returns-in_ok-numerals-in-Four : goal.returns-in_ok-numerals-in-Four
 returns-in_ok-numerals-in-Four c =
     let form = sym c.form_of_kind.ensures ∙ ap form_in c.in-Four.is in
-    let numbers = c.as_slice-in-Four-2.ensures ∙ c.in_ok-numerals-in-Four.ensures in
+    let numbers = c.as_slice-in-Four.ensures ∙ c.in_ok-numerals-in-Four.ensures in
     subst
     (λ (b : List ℕ). IfOk c.fours_text.result (λ blob. blob ≡ b))
     (ap (λ ns. concat (map (to_le_bytes w32) ns)) numbers ∙ packed_as as_four c.args.kind c.args.many.now form) c.fours_text.ensures
