@@ -1,37 +1,12 @@
 -- Files that nest too many levels.
-use Rattle.std.proofs.Common.{◌≡◌, ℕ, suc, ◌+◌, ◌<◌, ◌≤◌, Bool, true, false, cond, List, [], ◌∷◌, map, length, Option, Some, None, refl, sym, ap, ◌∙◌, arith}
-use Rattle.std.specs.Prelude.{nat_lt, max, position}
+use Rattle.std.proofs.Common.{◌≡◌, ℕ, suc, ◌+◌, ◌≤◌, Bool, true, false, cond, List, [], ◌∷◌, map, length, Some, None, refl, arith}
+use Rattle.std.specs.Prelude.{nat_lt, position}
 use Rattle.std.specs.List.{position_or_len}
 use Rattle.pbx_meaning.specs.Content.{vals_of}
-use Rattle.pbx_meaning.specs.Sound.{depth, PartsFit, val_depth, vals_depth}
-use Rattle.pbx_codec.specs.declared.contents.Held.{Held}
-use Rattle.pbx_codec.specs.View.{val_of}
+use Rattle.pbx_meaning.specs.Sound.{depth, PartsFit, vals_depth}
 use Rattle.pbx_desc_records.specs.declared.file.FileDescriptorProto.{FileDescriptorProto}
 use Rattle.pbx_desc.specs.Content.{file_value, file_content, files_content}
-use Rattle.pbx_desc.specs.Sets.{is_deep, is_deep_file}
-
--- ---- the first of a list that passes
-
-same_length : {A B C : Type 0} (f : A → C) (g : B → C) (xs : List A) (ys : List B) → map f xs ≡ map g ys → length xs ≡ length ys
-same_length f g [] [] e = refl
-same_length f g [] (y ∷ ys) e = absurd (cc)
-same_length f g (x ∷ xs) [] e = absurd (cc)
-same_length f g (x ∷ xs) (y ∷ ys) e = ap suc (same_length f g xs ys (cc))
-
-same_first : {A B C : Type 0} (p : C → Bool) (f : A → C) (g : B → C) (xs : List A) (ys : List B) → map f xs ≡ map g ys
-    → position_or_len (λ x. p (f x)) xs ≡ position_or_len (λ y. p (g y)) ys
-same_first p f g [] [] e = refl
-same_first p f g [] (y ∷ ys) e = absurd (cc)
-same_first p f g (x ∷ xs) [] e = absurd (cc)
-same_first p f g (x ∷ xs) (y ∷ ys) e =
-    let here : f x ≡ g y = cc in
-    let rest : map f xs ≡ map g ys = cc in
-    rw (here, same_first p f g xs ys rest) refl
-
--- in values that are those of files, the first deep one has the index of the first deep file
-pub same_position : (values : List Held) (files : List FileDescriptorProto) → map val_of values ≡ map file_value files
-    → position (λ v. is_deep (val_of v)) values ≡ position is_deep_file files
-same_position values files e = rw (same_first is_deep val_of file_value values files e, same_length val_of file_value values files e) refl
+use Rattle.pbx_desc.specs.Sets.{is_deep_file}
 
 -- ---- where none passes
 
@@ -66,7 +41,6 @@ shallow (f ∷ fs) h = at (is_deep_file f) refl (shallow fs)
         absurd (not_first (position_or_len is_deep_file (f ∷ fs)) (length fs) first long)
     at false e later = omega (arith, bounded (depth (file_content f)) e, later (behind is_deep_file f fs e h))
 
-pub none_deep : (values : List Held) (files : List FileDescriptorProto) → map val_of values ≡ map file_value files
-    → position (λ v. is_deep (val_of v)) values ≡ None → PartsFit (files_content files)
-none_deep values [] e h = (omega arith, omega arith)
-none_deep values (f ∷ fs) e h = (omega (arith, shallow (f ∷ fs) (sym (same_position values (f ∷ fs) e) ∙ h)), omega arith)
+pub none_deep : (files : List FileDescriptorProto) → position is_deep_file files ≡ None → PartsFit (files_content files)
+none_deep [] h = (omega arith, omega arith)
+none_deep (f ∷ fs) h = (omega (arith, shallow (f ∷ fs) h), omega arith)

@@ -215,7 +215,7 @@ nested_deep : {S : Type 0} (v : S → DescriptorProto) → ((s : S) → depth (m
 nested_deep v within n [] h = tt
 nested_deep v within n (s ∷ ss) h = (omega (arith, within s, h), nested_deep v within n ss (omega (arith, h)))
 
-below-map : (ms : List DescriptorProto) → below (λ n. n) (map message_levels ms) ≡ below message_levels ms
+pub below-map : (ms : List DescriptorProto) → below (λ n. n) (map message_levels ms) ≡ below message_levels ms
 below-map [] = refl
 below-map (m ∷ ms) = ap (max (message_levels m + 1)) (below-map ms)
 

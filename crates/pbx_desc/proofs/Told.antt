@@ -36,7 +36,7 @@ pub values_more : {X : Type 0} (g : X → Val) (xs : List X) (i : ℕ) (x : X) (
 values_more g xs i x hs h lt is before here =
     map-append val_of hs (h ∷ []) ∙ ap (λ vs. vs ++ val_of h ∷ []) before ∙ ap (λ v. map g (take i xs) ++ v ∷ []) here ∙ sym (mapped_more g xs i x lt is)
 
-are_pushed : (shape : Shape) (k : Kind) (vs : List Val) (v : Val) → AreOf shape k vs → IsOf shape k v → AreOf shape k (vs ++ v ∷ [])
+pub are_pushed : (shape : Shape) (k : Kind) (vs : List Val) (v : Val) → AreOf shape k vs → IsOf shape k v → AreOf shape k (vs ++ v ∷ [])
 are_pushed shape k [] v before here = (here, tt)
 are_pushed shape k (w ∷ vs) v before here = (before.0, are_pushed shape k vs v before.1 here)
 

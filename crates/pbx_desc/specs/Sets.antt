@@ -1,13 +1,17 @@
 -- Sets of files, which are read file by file: each file has 100 levels of its own.
-use Rattle.std.specs.Prelude.{ℕ, nat_lt, List, Bool, false, Option}
+use Rattle.std.specs.Prelude.{◌≡◌, ℕ, nat_lt, List, length, map, position, Bool, false, Option}
 use Rattle.pbx_wire.specs.declared.error.DecodeError.{DecodeError}
 use Rattle.pbx_meaning.specs.Content.{Content, Val, number, truth, text, octets, message, many, keyed}
+use Rattle.pbx_wire.specs.Text.{text_of}
+use Rattle.pbx_meaning.specs.declared.shape.Kind.TheVariants.{Message}
+use Rattle.pbx_meaning.specs.Encoding.{payload, content_recs}
 use Rattle.pbx_meaning.specs.Meaning.{parts_meaning_of}
 use Rattle.pbx_meaning.specs.Same.{DecodesParts}
 use Rattle.pbx_meaning.specs.Faults.{IsFaultOfParts}
 use Rattle.pbx_meaning.specs.Sound.{depth}
 use Rattle.pbx_desc_records.specs.declared.file.FileDescriptorProto.{FileDescriptorProto}
-use Rattle.pbx_desc.specs.Content.{file_content}
+use Rattle.pbx_desc.specs.Content.{file_content, file_value}
+use Rattle.pbx_desc.specs.Sound.{AreOf}
 use Rattle.pbx_desc_shape.specs.Shape.{descriptor_shape}
 
 -- what bytes mean as a FileDescriptorSet
@@ -37,3 +41,18 @@ is_deep (keyed ps) = false
 -- the content of the file has more than 100 levels below its top
 abbrev pub is_deep_file : FileDescriptorProto → Bool
 is_deep_file f = nat_lt 100 (depth (file_content f))
+
+-- ---- sets that are being written
+
+-- the text of some files, how many they are, and the index of the first that nests more than 100 levels
+pub record SetText : Type 0 where
+  pub text : List ℕ
+  pub len : ℕ
+  pub deep : Option ℕ
+
+-- It is that of these files: each is one record, and each may be written.
+pub record IsSetOf (set : SetText) (files : List FileDescriptorProto) : Type 0 where
+  pub text : set.text ≡ text_of (map (λ f. payload 1 (content_recs descriptor_shape 1 (file_content f))) files)
+  pub sound : AreOf descriptor_shape (Message 1) (map file_value files)
+  pub len : set.len ≡ length files
+  pub deep : set.deep ≡ position is_deep_file files

@@ -167,7 +167,7 @@ fn text_values(alloc: Global, texts: &Texts) -> Result<List<Held>, NoMemory>
     ensures values { IfOk result (λ values. map val_of values ≡ map text_val texts.now) }
     ensures sound { OnOk result (AreOf descriptor_shape kind.String (map text_val texts.now)) }
 {
-    let mut values = List::new(alloc);
+    let mut values = List::with_capacity(alloc, texts.len())?;
     for text in texts.as_slice() {
         let copy = Text::from_str(alloc, text.as_str())?;
         values.add(Held::Text(copy))?;
@@ -179,7 +179,7 @@ fn number_values(alloc: Global, numbers: &List<i32>) -> Result<List<Held>, NoMem
     ensures values { IfOk result (λ values. map val_of values ≡ map number_val numbers.now) }
     ensures sound { OnOk result (AreOf descriptor_shape kind.Int32 (map number_val numbers.now)) }
 {
-    let mut values = List::new(alloc);
+    let mut values = List::with_capacity(alloc, numbers.len())?;
     for number in numbers.as_slice() {
         values.add(number_value(*number))?;
     }
@@ -191,7 +191,7 @@ fn record_values<R: HasContents>(alloc: Global, records: &List<R>) -> Result<Lis
     ensures sound { OnOk result
         (AreOf descriptor_shape (kind.Message R.TYPE_AT) (map (λ r. message (R.content r)) records.now)) }
 {
-    let mut values = List::new(alloc);
+    let mut values = List::with_capacity(alloc, records.len())?;
     for record in records.as_slice() {
         let contents = record.to_contents(alloc)?;
         values.add(Held::Message(contents))?;

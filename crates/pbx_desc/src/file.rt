@@ -83,7 +83,7 @@ impl Message for FileDescriptorProto {
 }
 
 /// Puts the encoding behind the text, part by part: the content of the whole would be larger than the file itself.
-fn write_file(
+pub(crate) fn write_file(
     alloc: Global,
     schema: &Schema,
     file: &FileDescriptorProto,

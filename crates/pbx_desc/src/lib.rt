@@ -9,6 +9,7 @@ mod enumeration;
 mod field;
 mod file;
 mod laws;
+mod levels;
 mod message;
 mod options;
 mod parts;

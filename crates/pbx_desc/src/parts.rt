@@ -20,7 +20,7 @@ use pbx_wire::{List, NoMemory, Recs, varints_text};
 use std::alloc::Global;
 
 /// Puts a payload behind the text, under this number.
-fn put_payload(
+pub(crate) fn put_payload(
     alloc: Global,
     number: u32,
     payload: &[u8],

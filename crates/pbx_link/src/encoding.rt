@@ -1,12 +1,11 @@
 // The files of a pool, to be written.
-ghost use Rattle.std.specs.Prelude.{◌≡◌, ◌≤◌, IfOk, map};
+ghost use Rattle.std.specs.Prelude.{◌≡◌, ◌≤◌, IfOk};
 ghost use Rattle.pbx_meaning.specs.Encoding.{encoded};
 ghost use Rattle.pbx_meaning.specs.Same.{Decodes};
 ghost use Rattle.pbx_meaning.specs.Sound.{PartsFit, depth};
-ghost use Rattle.pbx_codec.specs.View.{val_of};
 ghost use Rattle.pbx_desc_shape.specs.Shape.{descriptor_shape};
-ghost use Rattle.pbx_desc.specs.Content.{file_content, file_value, files_content};
-ghost use Rattle.pbx_desc.specs.Sets.{DecodesSet};
+ghost use Rattle.pbx_desc.specs.Content.{file_content, files_content};
+ghost use Rattle.pbx_desc.specs.Sets.{DecodesSet, IsSetOf};
 
 use crate::file::FileDescriptor;
 use crate::pool::DescriptorPool;
@@ -17,12 +16,12 @@ use std::alloc::Global;
 
 /// The files of a pool in order, to be written as a set. The only error is want of memory.
 pub fn file_set(alloc: Global, pool: &DescriptorPool) -> Result<FileSet, NoMemory>
-    ensures { IfOk result (λ set. map val_of set ≡ map file_value pool.now) }
+    ensures { IfOk result (λ set. IsSetOf set pool.now) }
 {
     let tables = pool.tables();
-    let mut set = FileSet::new(alloc);
+    let mut set = FileSet::new(alloc)?;
     for table in tables {
-        set.add(alloc, table.as_ref().file())?;
+        set = set.with_file(alloc, table.as_ref().file())?;
     }
     Ok(set)
 }

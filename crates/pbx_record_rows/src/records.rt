@@ -126,9 +126,9 @@ fn contents_bytes(alloc: Global, contents: &Contents) -> Result<String, Stop> {
 }
 
 fn file_set_of(alloc: Global, files: &[FileDescriptorProto]) -> Result<FileSet, NoMemory> {
-    let mut set = FileSet::new(alloc);
+    let mut set = FileSet::new(alloc)?;
     for file in files {
-        set.add(alloc, file)?;
+        set = set.with_file(alloc, file)?;
     }
     Ok(set)
 }

@@ -1,14 +1,14 @@
 //! The set of the files of a pool.
 
-ghost use Rattle.std.specs.Prelude.{◌≡◌, ◌⊎◌, None, map, option_map, find, IfOk, IfErr, OnOk};
+ghost use Rattle.std.specs.Prelude.{◌≡◌, ◌⊎◌, List, None, option_map, find, IfOk, IfErr, OnOk};
 ghost use Rattle.pbx_meaning.specs.Encoding.{encoded};
 ghost use Rattle.pbx_meaning.specs.Sound.{PartsFit};
-ghost use Rattle.pbx_codec.specs.View.{val_of};
+ghost use Rattle.pbx_desc_records.specs.declared.file.FileDescriptorProto.{FileDescriptorProto};
 ghost use Rattle.pbx_definitions.specs.Names.{text_or_empty};
 ghost use Rattle.pbx_described.specs.Descriptors.{FileDescribed};
 ghost use Rattle.pbx_desc_shape.specs.Shape.{descriptor_shape};
-ghost use Rattle.pbx_desc.specs.Content.{file_value, set_content, files_content};
-ghost use Rattle.pbx_desc.specs.Sets.{DecodesSet, is_deep_file};
+ghost use Rattle.pbx_desc.specs.Content.{files_content};
+ghost use Rattle.pbx_desc.specs.Sets.{DecodesSet, IsSetOf, is_deep_file};
 ghost use Rattle.protox.specs.Parts.{IsNoSet};
 ghost use Rattle.protox.specs.Top.{AreWithinLevels, IsSet};
 
@@ -21,8 +21,8 @@ use std::alloc::Global;
 
 /// The first file of a pool that nests more than 100 levels; the set has the pool's files.
 fn deep_file(pool: &DescriptorPool, set: &FileSet) -> Option<FileDescriptor>
-    ensures first { map val_of set.now ≡ map file_value pool.now → option_map (λ (d : FileDescribed). d.file) result ≡ find is_deep_file pool.now }
-    ensures fits { map val_of set.now ≡ map file_value pool.now → result ≡ None → PartsFit (files_content pool.now) }
+    ensures first { IsSetOf set.now pool.now → option_map (λ (d : FileDescribed). d.file) result ≡ find is_deep_file pool.now }
+    ensures fits { IsSetOf set.now pool.now → result ≡ None → PartsFit (files_content pool.now) }
 {
     let index = set.deep_file()?;
     pool.files().nth(index)
@@ -38,8 +38,9 @@ fn undecodable(alloc: Global, file: &FileDescriptor) -> TopError
 }
 
 fn bytes_of(alloc: Global, set: FileSet) -> Result<Blob, NoMemory>
-    ensures bytes { IfOk result (λ blob. blob ≡ encoded descriptor_shape 0 (set_content (map val_of set))) }
-    ensures parts { IfOk result (λ blob. PartsFit (set_content (map val_of set)) → DecodesSet blob (set_content (map val_of set))) }
+    ensures bytes { IfOk result (λ blob. (files : List FileDescriptorProto) → IsSetOf set files → blob ≡ encoded descriptor_shape 0 (files_content files)) }
+    ensures parts { IfOk result (λ blob. (files : List FileDescriptorProto) → IsSetOf set files → PartsFit (files_content files)
+        → DecodesSet blob (files_content files)) }
 {
     let bytes = set.encode(alloc)?;
     Blob::from_slice(alloc, bytes.as_slice())

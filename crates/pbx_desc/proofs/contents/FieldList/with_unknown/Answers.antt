@@ -1,7 +1,6 @@
-use Rattle.std.proofs.Common.{◌≡◌, List, ap, ◌∙◌}
+use Rattle.std.proofs.Common.{List, ap, ◌∙◌}
 use Rattle.pbx_wire.specs.declared.rec.Rec.{Rec}
 use Rattle.pbx_meaning.specs.Content.{content}
-use Rattle.pbx_number_map.specs.Entries.{with_entries}
 use Rattle.pbx_desc.specs.Building.{entries}
 use Rattle.pbx_desc.proofs.Built.{list_made}
 use Rattle.pbx_desc.proofs.contents.FieldList.with_unknown.Goals as goal
