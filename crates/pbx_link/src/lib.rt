@@ -19,6 +19,7 @@ mod parents;
 mod pool;
 mod pool_extensions;
 mod pool_messages;
+mod same;
 mod service;
 mod shapes;
 

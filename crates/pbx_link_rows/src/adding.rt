@@ -53,12 +53,24 @@ fn add_file(alloc: Global, pool: &mut DescriptorPool, index: usize, digits: &str
     }
 }
 
+/// Adds the files of the row's fields from one to before another.
+pub(crate) fn add_between(
+    alloc: Global,
+    pool: &mut DescriptorPool,
+    row: &Row,
+    first: usize,
+    end: usize,
+) -> Done {
+    for index in first..end {
+        add_file(alloc, pool, index - first, row.text(index))?;
+    }
+    Ok(())
+}
+
 /// The pool of the files behind so many fields of the row.
 pub(crate) fn pool_behind(alloc: Global, row: &Row, first: usize) -> Result<DescriptorPool, Stop> {
     let mut pool = DescriptorPool::new(alloc)?;
-    for index in first..row.len() {
-        add_file(alloc, &mut pool, index - first, row.text(index))?;
-    }
+    add_between(alloc, &mut pool, row, first, row.len())?;
     Ok(pool)
 }
 

@@ -12,6 +12,7 @@ mod enums;
 mod fields;
 mod files;
 mod messages;
+mod same;
 mod services;
 mod shapes;
 mod stop;
@@ -21,6 +22,7 @@ use enums::enumeration;
 use fields::extension;
 use files::{file, files, linked};
 use messages::{message, messages};
+use same::same;
 use services::service;
 use shapes::shape;
 use std::alloc::{AllocError, Global};
@@ -60,6 +62,7 @@ fn answer(alloc: Global, row: &Row) -> Result<String, Stop> {
     match row.asked() {
         "added" => added(alloc, row),
         "copy" | "clone" => kept(alloc, row),
+        "same" | "same-grown" => same(alloc, row),
         "link" | "linked" | "files" | "messages" => of_pool(alloc, row),
         _ => of_name(alloc, row),
     }

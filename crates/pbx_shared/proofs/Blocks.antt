@@ -16,7 +16,7 @@ use types.Logic.{Logic, sem}
 use types.Kit.{Item, Goal, Seq, Soaks, ‵, raw, ◌⊛◌, some, given, later, ◌$◌, ◌∵◌, !, qed, by, move, drop, split, split3, fsplit, fsplit3, fjoin, fjoin3, fpick, flt_i, flt_l, pick, learn, await, assume, use1, use2, use3, rewrite, done}
 use types.Na.{na_inv, na_inv_dup}
 use denote.RattleType.{RattleType}
-use denote.RawPtr.{Ptr, block_ptr, in_a_block, block_of, count_of, lies_at}
+use denote.RawPtr.{Ptr, block_ptr, in_a_block, lies_at}
 use denote.Memory.{part_at, part_of, lone}
 use denote.Plain.{UInt, uint_out, uint_in, uint_Lawful}
 use denote.Param.{param, layout}
@@ -27,7 +27,7 @@ use denote.Struct.Parts.{Struct-parts, PartsBack, shape_of}
 use denote.Struct.Struct.{Struct}
 use denote.Struct.Lending.{Lends, Lends-first, Lends-lies}
 use Rattle.pbx_shared.specs.Ownership as own
-use Rattle.pbx_shared.specs.Ownership.{Id, raw_owns, count_at, back, shown, value_owns, value_ptr, rejoins, frees, handle_owns}
+use Rattle.pbx_shared.specs.Ownership.{Id, key, raw_owns, count_at, back, shown, value_owns, value_ptr, rejoins, frees, handle_owns}
 use Rattle.pbx_shared.specs.Block.{block, alone}
 use Rattle.pbx_shared.specs.declared.node.Node.{Node}
 use Rattle.pbx_shared.specs.contracts.node.Node as node
@@ -77,7 +77,7 @@ module _ (X : RattleType) (L : Laws X) where
 
   module _ (p : Ptr) (x : X.Denot) where
     abbrev pub k : ℕ × ℕ
-    k = (block_of p, count_of p)
+    k = key R p x
 
     abbrev pub S : ℕ → Fml
     S = count_at p

@@ -1,6 +1,7 @@
 -- The block of a handle behind a `&`, and what every walk does with an open block. Assumes `Logic`.
 --     Cell, Room        the cell of the count, at a block;  what an open block has: [the count; the level; what shuts it]
 --     shuts_count       the block is shut at a count, and the thread's token is had back
+--     opens_count       the block is opened by a share of ν's token: [the count; the level; what shuts it; the share]
 --     opens_behind      the block of a handle behind a `&` is opened: [the count; the level; what shuts it; the handle's word; what is kept]
 --     copied            it is shut, and with a grip more there is a handle more
 --     held_again        the block of a handle by value is shut, and there is the handle again
@@ -73,7 +74,7 @@ module _ (X : RattleType) (L : Laws X) (p : Ptr) (x : X.Denot) where
         flt_i u n (2 ^ 64) fits $ fjoin u $ rewrite u 0 (λ (r : Ptr). ‵ (count_at r n)) (sym at) refl $
         use3 𝓛 (later (‵ (ftok every))) (steps.shut (blocks.k X L p x) (blocks.S X L p x) (blocks.P X L p x) (blocks.t X L p x) 𝓛 i n) $ await u z $ rest)
 
-    opens_count : K → Soaks G → (i : Id) (s : Share)
+    pub opens_count : K → Soaks G → (i : Id) (s : Share)
         → ((n b o : ℕ) → p ≡ block_ptr b o → n < 2 ^ 64 → Seq K 𝓛 (‵ (cell b o n) ∷ ‵ (level i n) ∷ shutter 𝓛 i ∷ ‵ (flft (ν i) s) ∷ Γ) G)
         → Seq K 𝓛 (‵ (hidden i) ∷ ‵ (flft (ν i) s) ∷ ‵ (ftok every) ∷ Γ) G
     opens_count u z i s go =

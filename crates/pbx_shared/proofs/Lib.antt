@@ -1,7 +1,9 @@
 pub mod Blocks
+pub mod Both
 pub mod Held
 pub mod Loosened
 pub mod Names
+pub mod Numbers
 pub mod Steps
 pub mod Walks
 pub mod Word

@@ -4,6 +4,7 @@
 use Rattle.std.specs.Prelude.{◌≡◌, ℕ, ◌+◌, ◌-◌, ◌^◌, Bool, true, false, [], ◌∷◌}
 use base.Fraction.{full_share}
 use base.FractionLaws.{Counts}
+use base.Stored.{coded×}
 use base.Fml.{Lft, Key, Share, Fml, ftrue, ffalse, fsep, fex, fwand, flt, fat, flft, flent, fdead}
 use mir.Syntax.{Ty, w64, ty_int}
 use mir.Val.{vint}
@@ -13,12 +14,13 @@ use types.RcWeak.{rest}
 use types.Na.{na_inv}
 use denote.RattleType.{RattleType}
 use denote.Memory.{lone}
-use denote.RawPtr.{Ptr, block_ptr, null_ptr, block_of, count_of, lies_at, ◌+ₚ◌}
+use denote.RawPtr.{Ptr, block_ptr, null_ptr, block_of, coded_ptr, lies_at, ◌+ₚ◌}
 use denote.Sharing.{beside, some, one, held}
 use denote.Hidden.{kept}
 use denote.Struct.Lending.{lent_at}
 use Rattle.std.specs.declared.alloc.Global.{Global}
 use Rattle.std.specs.contracts.impls.GlobalAllocator.TheImpl.{ghosts}
+use Rattle.pbx_shared.specs.Numbering.{numbered}
 
 -- the count, at the head of the block
 abbrev pub count_at : Ptr → ℕ → Fml
@@ -32,6 +34,11 @@ frees τ p = fex Global (λ a. ghosts.dealloc_token a τ p)
 -- the value x of type R at p, and the right to free its block
 abbrev pub raw_owns : (R : RattleType) → Ptr → R.Denot → Fml
 raw_owns R p x = fsep (lies_at R full_share p x) (frees (raw (lone R.mir)) p)
+
+-- what the invariant of a block is kept under: the block, and a number for its place and its value.
+-- So two handles are of one value, or both their blocks can be open at once.
+abbrev pub key : (R : RattleType) → Ptr → R.Denot → Key
+key R c x = (block_of c, numbered ((coded× coded_ptr R.coded).code (c, x)))
 
 abbrev pub Id : Type 0
 Id = ℕ × ℕ
@@ -103,7 +110,7 @@ module _ (N R : RattleType) (node : R.Denot → N.Denot) (c : Ptr) (x : R.Denot)
   shown = lent_at R value_ptr x
 
   abbrev pub handle_owns : Fml
-  handle_owns = owns_by (block_of c, count_of c) (count_at c) back shown
+  handle_owns = owns_by (key R c x) (count_at c) back shown
 
   abbrev pub handle_shares : Lft → Fml
-  handle_shares = lends_by (block_of c, count_of c) (count_at c) back shown
+  handle_shares = lends_by (key R c x) (count_at c) back shown

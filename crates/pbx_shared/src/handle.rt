@@ -1,5 +1,5 @@
 // A handle, and the count that all the handles of one block share. Only this file has raw pointers to a block.
-ghost use Rattle.std.specs.Prelude.{◌≡◌, IfOk, IfErr, IfSome};
+ghost use Rattle.std.specs.Prelude.{◌≡◌, IsTrue, IfOk, IfErr, IfSome};
 ghost use Rattle.pbx_shared.specs.Block.{alone};
 
 use crate::node::{Loose, Node};
@@ -47,6 +47,20 @@ impl<T> Handle<T> {
             unsafe { (*ptr).count = before + 1 };
         }
         Handle { ptr }
+    }
+
+    // Whether the other is a handle of the same block. Pointers into two blocks may not be compared. So one count is set to 0,
+    // where no block's is, the other is read, and the first is set back.
+    pub(crate) fn is_same_block(&self, other: &Handle<T>) -> bool
+        ensures { IsTrue result → self.now.value ≡ other.now.value }
+    {
+        let ptr = self.ptr;
+        let other = other.ptr;
+        let count = unsafe { (*ptr).count };
+        unsafe { (*ptr).count = 0 };
+        let seen = unsafe { (*other).count };
+        unsafe { (*ptr).count = count };
+        seen == 0
     }
 
     // The block, if this is its one handle.

@@ -4,7 +4,7 @@
 //! holds is read through it, and is written only where no other handle has it.
 #![tactic(auto)]
 
-ghost use Rattle.std.specs.Prelude.{◌≡◌, ⊤, IfOk, IfErr};
+ghost use Rattle.std.specs.Prelude.{◌≡◌, ⊤, IsTrue, IfOk, IfErr};
 
 mod handle;
 mod node;
@@ -52,6 +52,14 @@ impl<T> Shared<T> {
             handle: self.handle.copy(),
             alloc: self.alloc,
         }
+    }
+
+    /// Whether both are handles of one value on the heap, so that the values are equal. It reads neither value: a no says nothing
+    /// of whether they are.
+    pub fn ptr_eq(&self, other: &Shared<T>) -> bool
+        ensures { IsTrue result → self.now ≡ other.now }
+    {
+        self.handle.is_same_block(&other.handle)
     }
 }
 

@@ -75,6 +75,19 @@ pub fn compare(alloc: Global) -> Result<[u64; 2], AllocError> {
     Ok([u64::from(one == two), u64::from(one != three)])
 }
 
+/// Whether a handle and its copy are of one value, whether those of two equal values are, and whether a handle that was asked can
+/// be alone again.
+pub fn tell_apart(alloc: Global) -> Result<[u64; 3], AllocError> {
+    let one = Shared::new(alloc, 7u64)?;
+    let two = Shared::new(alloc, 7u64)?;
+    let copy = one.copy();
+    let of_copy = one.ptr_eq(&copy);
+    let of_equal = one.ptr_eq(&two);
+    drop(copy);
+    let alone = one.into_unique().is_ok();
+    Ok([u64::from(of_copy), u64::from(of_equal), u64::from(alone)])
+}
+
 // A clone through the bound, and what is printed of both.
 fn printed_twice<T: Clone + Debug + Drop>(alloc: Global, x: &T) -> Result<String, AllocError> {
     let y = x.clone()?;

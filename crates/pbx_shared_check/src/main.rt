@@ -75,6 +75,11 @@ fn show_handles(rt: &HostRuntime) -> io::Result<()> {
         "equal values equal, other values not",
         handles::compare(rt.alloc()),
     )?;
+    show_made(
+        rt,
+        "one with its copy, one with an equal value, alone again",
+        handles::tell_apart(rt.alloc()),
+    )?;
     show_clone(rt)
 }
 
