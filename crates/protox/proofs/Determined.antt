@@ -14,14 +14,17 @@ use Rattle.pbx_json.specs.Stands.{Stands}
 use Rattle.pbx_shapes.specs.Shapes.{shape_of, message_named}
 use Rattle.pbx_parse.specs.declared.error.ParseError.TheVariants as parse
 use Rattle.protox_paths.specs.Paths.{resolved}
-use Rattle.protox_file.specs.Told.{Lookup}
+use Rattle.protox_io.specs.Disk.{Held}
+use Rattle.protox_io.specs.Paths.{Component}
+use Rattle.protox_file.specs.Told.{Told, Lookup, ByLookups}
 use Rattle.protox_file.specs.declared.error.ErrorKind.{ErrorKind}
 use Rattle.protox_file.specs.declared.error.ErrorKind.TheVariants as kinds
-use Rattle.protox_compile.specs.Walk.{Done, records}
-use Rattle.protox_compile.specs.Opening.{Opened, Accepted, NotIncluded, Refused, opening, closure, after_opening, grown, root_of}
+use Rattle.protox_compile.specs.Walk.{Done, NotRead, records}
+use Rattle.protox_compile.specs.Opening.{Opened, Accepted, NotIncluded, Refused, IsDecided, opening, closure, after_opening, grown, root_of}
 use Rattle.protox_compile.specs.Refusals.{RefusesWith}
 use Rattle.protox_compile.specs.Closures.{StopsAt}
-use Rattle.protox.specs.Class.{limit, folder, json_of, Done as Ended, Refusing, Judges}
+use Rattle.protox_compile.specs.Laws.{ClosesOnce}
+use Rattle.protox.specs.Class.{limit, folder, told_on, json_of, Done as Ended, Refusing, Judges}
 use Rattle.protox.specs.Thin.{is_thin}
 use Rattle.protox.specs.Top.{AreWithinLevels, ForFiles, IsNotBuilt, IsRefused, IsTranscoded, IsTypeTranscoded, IsUnbuilt, IsUndecodable, Refuses, Transcodes, has_own_names, is_fault, is_refusal, most_files}
 use Rattle.protox.specs.Words.{Args}
@@ -35,34 +38,41 @@ use Rattle.protox.specs.declared.stop.Refusal.TheVariants.{TooLong, NotJson, Top
 abbrev IsStopped : List Done × Opened → Type 0
 IsStopped (done, Accepted) = ⊥
 IsStopped (done, NotIncluded) = Unit {0}
+IsStopped (done, Refused (NotRead name)) = ⊥
 IsStopped (done, Refused fault) = Unit {0}
 
 stopped_by : (o p : List Done × Opened) → o ≡ p → IsStopped p → IsStopped o
 stopped_by o p e h = let P : List Done × Opened → Type 0 = λ x. IsStopped x in subst P (sym e) h
 
-stopped : (path : List ℕ) (files : (List ℕ → Lookup) → List Done) (o : List Done × Opened) (lookups : List ℕ → Lookup) (later : List Done) (error : ErrorKind) → is_fault error ≡ false → RefusesWith path files o lookups later error → IsStopped o
-stopped path files o lookups later (kinds.Parse (parse.Syntax file line column expected found)) f h = stopped_by o _ h tt
+stopped : (path : List ℕ) (files : (List ℕ → Lookup) → List Done) (o : (List ℕ → Lookup) → List Done × Opened) (lookups : List ℕ → Lookup) (later : List Done) (error : ErrorKind) → is_fault error ≡ false → RefusesWith path files o lookups later error → IsStopped (o lookups)
+stopped path files o lookups later (kinds.Parse (parse.Syntax file line column expected found)) f h = stopped_by (o lookups) _ h tt
 stopped path files o lookups later (kinds.Parse parse.NoMemory) f h = absurd h
-stopped path files o lookups later (kinds.Check e) f h = stopped_by o _ h.opened_is tt
+stopped path files o lookups later (kinds.Check e) f h = stopped_by (o lookups) _ h.opened_is tt
 stopped path files o lookups later (kinds.OpenFile name p fault) f h = absurd (cc)
-stopped path files o lookups later (kinds.FileTooLarge name) f h = stopped_by o _ h tt
-stopped path files o lookups later (kinds.FileInvalidUtf8 name) f h = stopped_by o _ h tt
+stopped path files o lookups later (kinds.FileTooLarge name) f h = stopped_by (o lookups) _ h tt
+stopped path files o lookups later (kinds.FileInvalidUtf8 name) f h = stopped_by (o lookups) _ h tt
 stopped path files o lookups later (kinds.FileNotFound name) f h = absurd h
-stopped path files o lookups later (kinds.ImportNotFound file index place name) f h = stopped_by o _ h tt
-stopped path files o lookups later (kinds.CircularImport name cycle) f h = stopped_by o _ h tt
-stopped path files o lookups later (kinds.FileNotIncluded p) f h = stopped_by o _ h.1 tt
-stopped path files o lookups later (kinds.FileShadowed name asked shadow) f h = stopped_by o _ h tt
-stopped path files o lookups later (kinds.DuplicateImport file index place name) f h = stopped_by o _ h tt
+stopped path files o lookups later (kinds.ImportNotFound file index place name) f h = stopped_by (o lookups) _ h tt
+stopped path files o lookups later (kinds.CircularImport name cycle) f h = stopped_by (o lookups) _ h tt
+stopped path files o lookups later (kinds.FileNotIncluded p) f h = stopped_by (o lookups) _ h.1 tt
+stopped path files o lookups later (kinds.FileShadowed name asked shadow) f h = stopped_by (o lookups) _ h tt
+stopped path files o lookups later (kinds.DuplicateImport file index place name) f h = stopped_by (o lookups) _ h tt
 stopped path files o lookups later (kinds.Custom text is_io) f h = absurd (cc)
-stopped path files o lookups later (kinds.NameMismatch asked declared) f h = stopped_by o _ h tt
-stopped path files o lookups later (kinds.FileLimit n) f h = stopped_by o _ h tt
+stopped path files o lookups later (kinds.NameMismatch asked declared) f h = stopped_by (o lookups) _ h tt
+stopped path files o lookups later (kinds.FileLimit n) f h = stopped_by (o lookups) _ h tt
 stopped path files o lookups later (kinds.Undecodable file) f h = absurd h
 stopped path files o lookups later kinds.NoMemory f h = absurd (cc)
 
-not_accepted : (o : List Done × Opened) (rest : List Done → List Done × Opened) (files : List Done) → IsStopped o → after_opening o rest ≡ (files, Accepted) → ⊥
-not_accepted (done, Accepted) rest files s e = absurd s
-not_accepted (done, NotIncluded) rest files s e = let k : NotIncluded ≡ Accepted = ap (λ p. p.1) e in cc
-not_accepted (done, Refused fault) rest files s e = let k : Refused fault ≡ Accepted = ap (λ p. p.1) e in cc
+stays : (o : List Done × Opened) (rest : List Done → List Done × Opened) → IsStopped o → after_opening o rest ≡ o
+stays (done, Accepted) rest s = absurd s
+stays (done, NotIncluded) rest s = refl
+stays (done, Refused fault) rest s = refl
+
+decided : (o : List Done × Opened) → IsStopped o → IsDecided o.1
+decided (done, Accepted) s = absurd s
+decided (done, NotIncluded) s = tt
+decided (done, Refused (NotRead name)) s = absurd s
+decided (done, Refused _) s = tt
 
 module _ (lookups : List ℕ → Lookup) (resolves : List ℕ → Option (List ℕ)) (n : ℕ) where
   closure_of_both : (before rest : List (List ℕ)) (old : List Done) → closure lookups resolves n (before ++ rest) old ≡ after_opening (closure lookups resolves n before old) (closure lookups resolves n rest)
@@ -74,12 +84,26 @@ module _ (lookups : List ℕ → Lookup) (resolves : List ℕ → Option (List �
       at later (done, NotIncluded) = refl
       at later (done, Refused fault) = refl
 
-  accepted_alone : (paths : List (List ℕ)) (files later : List Done) (error : ErrorKind) → is_fault error ≡ false → closure lookups resolves n paths [] ≡ (files, Accepted) → StopsAt lookups resolves n paths [] later error → ⊥
-  accepted_alone paths files later error f whole s =
-      let there : after_opening (opening lookups resolves n s.path s.middle) (closure lookups resolves n s.after) ≡ (files, Accepted) =
-      sym (closure_of_both s.before (s.path ∷ s.after) [] ∙ ap (λ o. after_opening o (closure lookups resolves n (s.path ∷ s.after))) s.accepted) ∙ ap (λ ps. closure lookups resolves n ps []) (sym s.split) ∙ whole in
-      not_accepted (opening lookups resolves n s.path s.middle) (closure lookups resolves n s.after) files
-      (stopped s.path (λ ls. grown ls n (root_of resolves s.path) s.middle) (opening lookups resolves n s.path s.middle) lookups later error f s.refused) there
+  -- the paths come to what the refused one comes to
+  stopped_all : (paths : List (List ℕ)) (later : List Done) (error : ErrorKind) → is_fault error ≡ false → StopsAt lookups resolves n paths [] later error → IsStopped (closure lookups resolves n paths [])
+  stopped_all paths later error f s =
+      let o : IsStopped (opening lookups resolves n s.path s.middle) = stopped s.path (λ ls. grown ls n (root_of resolves s.path) s.middle) (λ ls. opening ls resolves n s.path s.middle) lookups later error f s.refused.refused in
+      let whole : closure lookups resolves n paths [] ≡ opening lookups resolves n s.path s.middle =
+      ap (λ ps. closure lookups resolves n ps []) s.split ∙ closure_of_both s.before (s.path ∷ s.after) [] ∙ ap (λ x. after_opening x (closure lookups resolves n (s.path ∷ s.after))) s.accepted
+      ∙ stays (opening lookups resolves n s.path s.middle) (closure lookups resolves n s.after) o in
+      stopped_by (closure lookups resolves n paths []) (opening lookups resolves n s.path s.middle) whole o
+
+accepted_decided : (o : List Done × Opened) (files : List Done) → o ≡ (files, Accepted) → IsDecided o.1
+accepted_decided o files e = let P : List Done × Opened → Type 0 = λ x. IsDecided x.1 in subst P (sym e) tt
+
+-- where the paths are accepted, none is refused
+accepted_alone : ClosesOnce → (told : List ℕ → Told) (resolves : List ℕ → Option (List ℕ)) (paths : List (List ℕ)) (P : List FileDescriptorProto → Type 0) (error : ErrorKind) → is_fault error ≡ false → ForFiles told resolves paths P
+    → ByLookups told (λ ls. (later : List Done) × StopsAt ls resolves most_files paths [] later error) → ⊥
+accepted_alone once told resolves paths P error f h r =
+    let s : IsStopped (closure r.0 resolves most_files paths []) = stopped_all r.0 resolves most_files paths r.2.0 error f r.2.1 in
+    let same : closure h.0 resolves most_files paths [] ≡ closure r.0 resolves most_files paths [] =
+    once told resolves most_files paths [] h.0 r.0 h.1 r.1 (accepted_decided (closure h.0 resolves most_files paths []) h.2.0 h.2.1) (decided (closure r.0 resolves most_files paths []) s) in
+    stopped_by (h.2.0, Accepted) (closure r.0 resolves most_files paths []) (sym h.2.1 ∙ same) s
 
 -- ---- what is transcoded is refused for no reason
 
@@ -145,10 +169,13 @@ not_refused name tree files set wire written top.TooDeep k h r = absurd r
 not_refused name tree files set wire written top.NoMemory k h r = absurd (cc)
 not_refused name tree files set wire written top.NotBuilt k h r = not_built name tree files set wire written h r.1
 
-among : (lookups : List ℕ → Lookup) (resolves : List ℕ → Option (List ℕ)) (paths : List (List ℕ)) (P : List FileDescriptorProto → Type 0) (files : List Done) → closure lookups resolves most_files paths [] ≡ (files, Accepted) → ForFiles lookups resolves paths P → P (records files)
-among lookups resolves paths P files e h =
-    let Q : List Done → Type 0 = λ fs. P (records fs) in
-    subst Q (same_files h.0 files (closure lookups resolves most_files paths []) h.1 e) h.2
+-- the linked files are the same, by whatever look-ups
+among : ClosesOnce → (told : List ℕ → Told) (resolves : List ℕ → Option (List ℕ)) (paths : List (List ℕ)) (P Q : List FileDescriptorProto → Type 0) (h : ForFiles told resolves paths P) → ForFiles told resolves paths Q → Q (records h.2.0)
+among once told resolves paths P Q h k =
+    let same : closure h.0 resolves most_files paths [] ≡ closure k.0 resolves most_files paths [] =
+    once told resolves most_files paths [] h.0 k.0 h.1 k.1 (accepted_decided (closure h.0 resolves most_files paths []) h.2.0 h.2.1) (accepted_decided (closure k.0 resolves most_files paths []) k.2.0 k.2.1) in
+    let R : List Done → Type 0 = λ fs. Q (records fs) in
+    subst R (same_files k.2.0 h.2.0 (closure k.0 resolves most_files paths []) k.2.1 (sym same ∙ h.2.1)) k.2.2
 
 no_fault : (error : ErrorKind) → is_refusal (top.File error) ≡ true → is_fault error ≡ false
 no_fault error h = at (is_fault error) h
@@ -157,29 +184,32 @@ no_fault error h = at (is_fault error) h
     at true k = absurd (cc)
     at false k = refl
 
-pub refuses_not : (lookups : List ℕ → Lookup) (resolves : List ℕ → Option (List ℕ)) (paths : List (List ℕ)) (name : List ℕ) (tree : Data) (set wire : List ℕ) (written : Data) (error : TopError) → is_refusal error ≡ true
-    → ForFiles lookups resolves paths (λ files. IsTranscoded name tree files set wire written) → Refuses lookups resolves paths name tree error → ⊥
-refuses_not lookups resolves paths name tree set wire written (top.File error) k h (inl r) = accepted_alone lookups resolves most_files paths h.0 r.0 error (no_fault error k) h.1 r.1
-refuses_not lookups resolves paths name tree set wire written (top.File error) k h (inr r) =
-    not_refused name tree (records h.0) set wire written (top.File error) k h.2 (among lookups resolves paths (λ files. IsUndecodable files error) h.0 h.1 r)
-refuses_not lookups resolves paths name tree set wire written (top.JsonNames message key) k h r = absurd r.2
-refuses_not lookups resolves paths name tree set wire written (top.WellKnownShape message) k h r = absurd r.2
-refuses_not lookups resolves paths name tree set wire written (top.TypeNotFound n) k h r =
-    not_refused name tree (records h.0) set wire written (top.TypeNotFound n) k h.2 (among lookups resolves paths (λ files. IsRefused name tree files (top.TypeNotFound n)) h.0 h.1 r)
-refuses_not lookups resolves paths name tree set wire written top.TooDeep k h r = absurd r.2
-refuses_not lookups resolves paths name tree set wire written top.NoMemory k h r = absurd (cc)
-refuses_not lookups resolves paths name tree set wire written top.NotBuilt k h r =
-    not_refused name tree (records h.0) set wire written top.NotBuilt k h.2 (among lookups resolves paths (λ files. IsRefused name tree files top.NotBuilt) h.0 h.1 r)
+pub refuses_not : ClosesOnce → (told : List ℕ → Told) (resolves : List ℕ → Option (List ℕ)) (paths : List (List ℕ)) (name : List ℕ) (tree : Data) (set wire : List ℕ) (written : Data) (error : TopError) → is_refusal error ≡ true
+    → ForFiles told resolves paths (λ files. IsTranscoded name tree files set wire written) → Refuses told resolves paths name tree error → ⊥
+refuses_not once told resolves paths name tree set wire written error k h r = at error k r
+  where
+    here : (Q : List FileDescriptorProto → Type 0) → ForFiles told resolves paths Q → Q (records h.2.0)
+    here Q q = among once told resolves paths (λ files. IsTranscoded name tree files set wire written) Q h q
 
-pub done_alone : (args : Args) (lookups : List ℕ → Lookup) (input wire text : List ℕ) (refusal : Refusal) → Judges args lookups input (Ended wire text) → Judges args lookups input (Refusing refusal) → ⊥
-done_alone args lookups input wire text TooLong h r = let short : length input ≤ limit = h.0 in omega (arith, short, r)
-done_alone args lookups input wire text NotJson h r = let e : None ≡ Some h.1.0 = sym r.1 ∙ h.1.1 in cc
-done_alone args lookups input wire text (Top line) h r =
+    at : (e : TopError) → is_refusal e ≡ true → Refuses told resolves paths name tree e → ⊥
+    at (top.File kind) k (inl r) = accepted_alone once told resolves paths (λ files. IsTranscoded name tree files set wire written) kind (no_fault kind k) h r
+    at (top.File kind) k (inr r) = not_refused name tree (records h.2.0) set wire written (top.File kind) k h.2.2 (here (λ files. IsUndecodable files kind) r)
+    at (top.JsonNames message key) k r = absurd r.2.2
+    at (top.WellKnownShape message) k r = absurd r.2.2
+    at (top.TypeNotFound n) k r = not_refused name tree (records h.2.0) set wire written (top.TypeNotFound n) k h.2.2 (here (λ files. IsRefused name tree files (top.TypeNotFound n)) r)
+    at top.TooDeep k r = absurd r.2.2
+    at top.NoMemory k r = absurd (cc)
+    at top.NotBuilt k r = not_refused name tree (records h.2.0) set wire written top.NotBuilt k h.2.2 (here (λ files. IsRefused name tree files top.NotBuilt) r)
+
+pub done_alone : ClosesOnce → (args : Args) (disk : List Component → Held) (input wire text : List ℕ) (refusal : Refusal) → Judges args disk input (Ended wire text) → Judges args disk input (Refusing refusal) → ⊥
+done_alone once args disk input wire text TooLong h r = let short : length input ≤ limit = h.0 in omega (arith, short, r)
+done_alone once args disk input wire text NotJson h r = let e : None ≡ Some h.1.0 = sym r.1 ∙ h.1.1 in cc
+done_alone once args disk input wire text (Top line) h r =
     let same : r.1.0 ≡ h.1.0 = same_tree input r.1.0 h.1.0 r.1.1 h.1.1 in
     let given = h.1.2 in
     let refused = r.1.2 in
-    let Q : Data → Type 0 = λ d. Refuses lookups (resolved folder) (args.file ∷ []) args.type_name d refused.0 in
-    refuses_not lookups (resolved folder) (args.file ∷ []) args.type_name h.1.0 given.0 wire given.1 refused.0 refused.1 given.2 (subst Q same refused.2)
+    let Q : Data → Type 0 = λ d. Refuses (told_on disk) (resolved folder) (args.file ∷ []) args.type_name d refused.0 in
+    refuses_not once (told_on disk) (resolved folder) (args.file ∷ []) args.type_name h.1.0 given.0 wire given.1 refused.0 refused.1 given.2 (subst Q same refused.2)
 
 -- ---- what is transcoded is determined
 
@@ -200,18 +230,18 @@ transcoded_once name tree files set wire written later_set later_wire later_writ
     let once = transcodes_once (shape_of files) x.place tree wire later_wire written later_written x.transcodes (subst P place y.transcodes) in
     (h.set_is.0 ∙ sym k.set_is.0, once.0, once.1)
 
-pub files_once : (lookups : List ℕ → Lookup) (resolves : List ℕ → Option (List ℕ)) (paths : List (List ℕ)) (name : List ℕ) (tree : Data) (set wire : List ℕ) (written : Data) (later_set later_wire : List ℕ) (later_written : Data)
-    → ForFiles lookups resolves paths (λ files. IsTranscoded name tree files set wire written) → ForFiles lookups resolves paths (λ files. IsTranscoded name tree files later_set later_wire later_written)
+pub files_once : ClosesOnce → (told : List ℕ → Told) (resolves : List ℕ → Option (List ℕ)) (paths : List (List ℕ)) (name : List ℕ) (tree : Data) (set wire : List ℕ) (written : Data) (later_set later_wire : List ℕ) (later_written : Data)
+    → ForFiles told resolves paths (λ files. IsTranscoded name tree files set wire written) → ForFiles told resolves paths (λ files. IsTranscoded name tree files later_set later_wire later_written)
     → (set ≡ later_set) × (wire ≡ later_wire) × (written ≡ later_written)
-files_once lookups resolves paths name tree set wire written later_set later_wire later_written h k =
-    transcoded_once name tree (records h.0) set wire written later_set later_wire later_written h.2
-    (among lookups resolves paths (λ files. IsTranscoded name tree files later_set later_wire later_written) h.0 h.1 k)
+files_once once told resolves paths name tree set wire written later_set later_wire later_written h k =
+    transcoded_once name tree (records h.2.0) set wire written later_set later_wire later_written h.2.2
+    (among once told resolves paths (λ files. IsTranscoded name tree files set wire written) (λ files. IsTranscoded name tree files later_set later_wire later_written) h k)
 
-pub done_once : (args : Args) (lookups : List ℕ → Lookup) (input wire text later_wire later_text : List ℕ) → Judges args lookups input (Ended wire text) → Judges args lookups input (Ended later_wire later_text) → (wire ≡ later_wire) × (text ≡ later_text)
-done_once args lookups input wire text later_wire later_text h k =
+pub done_once : ClosesOnce → (args : Args) (disk : List Component → Held) (input wire text later_wire later_text : List ℕ) → Judges args disk input (Ended wire text) → Judges args disk input (Ended later_wire later_text) → (wire ≡ later_wire) × (text ≡ later_text)
+done_once once args disk input wire text later_wire later_text h k =
     let same : k.1.0 ≡ h.1.0 = same_tree input k.1.0 h.1.0 k.1.1 h.1.1 in
     let a = h.1.2 in
     let b = k.1.2 in
-    let P : Data → Type 0 = λ d. ForFiles lookups (resolved folder) (args.file ∷ []) (λ fs. IsTranscoded args.type_name d fs b.0 later_wire b.1) in
-    let once = files_once lookups (resolved folder) (args.file ∷ []) args.type_name h.1.0 a.0 wire a.1 b.0 later_wire b.1 a.2 (subst P same b.2) in
-    (once.1, a.3 ∙ ap compact_text once.2 ∙ sym b.3)
+    let P : Data → Type 0 = λ d. ForFiles (told_on disk) (resolved folder) (args.file ∷ []) (λ fs. IsTranscoded args.type_name d fs b.0 later_wire b.1) in
+    let both = files_once once (told_on disk) (resolved folder) (args.file ∷ []) args.type_name h.1.0 a.0 wire a.1 b.0 later_wire b.1 a.2 (subst P same b.2) in
+    (both.1, a.3 ∙ ap compact_text both.2 ∙ sym b.3)

@@ -4,7 +4,6 @@ use Rattle.protox_io.specs.Disk.{Held}
 use Rattle.protox_io.specs.Paths.{Component, disk_key}
 use Rattle.protox_io.specs.Sink.{Appends}
 use Rattle.protox.specs.Words.{Args}
-use Rattle.protox_file.specs.Told.{Lookup}
 use Rattle.protox.specs.Class.{Done, Refusing, Judges}
 use Rattle.protox.specs.Outcome.{Obeys, SameBut, error_line}
 use Rattle.protox.specs.Stops.{Caused, RoseOf, Reached, PlanStops, Untouched, Carrying, Carries, CarryStops, Works, WorkStops, Comes, EndsFor, Leftover, Says, status_of, line_of, object_line}
@@ -22,33 +21,33 @@ carrying_in path wire text disk before later out rose risen refused e k h = reco
   state = elim h.state [ inl p ↦ inl (k p.0, p.1) | inr q ↦ inr q ];
 }
 
-carry_stops : (args : Args) (lookups : List ℕ → Lookup) (disk before later : List Component → Held) (input wire text out : List ℕ) (rose risen refused : Type 0) (stop : Stop) → Judges args lookups input (Done wire text) → before ≡ disk → (risen → rose) → CarryStops args.path wire text before later out risen refused stop → WorkStops args lookups disk input later out rose refused stop
-carry_stops args lookups disk before later input wire text out rose risen refused Words ends e k h = absurd h
-carry_stops args lookups disk before later input wire text out rose risen refused (Refused r) ends e k h = absurd h
-carry_stops args lookups disk before later input wire text out rose risen refused (Broken Input) ends e k h = absurd h
-carry_stops args lookups disk before later input wire text out rose risen refused (Broken (File fault)) ends e k h = absurd h
-carry_stops args lookups disk before later input wire text out rose risen refused (Broken Path) ends e k h = record { wire = wire; text = text; ends = ends; carrying = carrying_in _ _ _ _ _ _ _ _ _ _ e k h }
-carry_stops args lookups disk before later input wire text out rose risen refused (Broken Output) ends e k h = record { wire = wire; text = text; ends = ends; carrying = carrying_in _ _ _ _ _ _ _ _ _ _ e k h }
-carry_stops args lookups disk before later input wire text out rose risen refused NoMemory ends e k h = inr (record { wire = wire; text = text; ends = ends; carrying = carrying_in _ _ _ _ _ _ _ (Unit {0}) _ _ e (λ u. u) h })
+carry_stops : (args : Args) (disk before later : List Component → Held) (input wire text out : List ℕ) (rose risen refused : Type 0) (stop : Stop) → Judges args disk input (Done wire text) → before ≡ disk → (risen → rose) → CarryStops args.path wire text before later out risen refused stop → WorkStops args disk input later out rose refused stop
+carry_stops args disk before later input wire text out rose risen refused Words ends e k h = absurd h
+carry_stops args disk before later input wire text out rose risen refused (Refused r) ends e k h = absurd h
+carry_stops args disk before later input wire text out rose risen refused (Broken Input) ends e k h = absurd h
+carry_stops args disk before later input wire text out rose risen refused (Broken (File fault)) ends e k h = absurd h
+carry_stops args disk before later input wire text out rose risen refused (Broken Path) ends e k h = record { wire = wire; text = text; ends = ends; carrying = carrying_in _ _ _ _ _ _ _ _ _ _ e k h }
+carry_stops args disk before later input wire text out rose risen refused (Broken Output) ends e k h = record { wire = wire; text = text; ends = ends; carrying = carrying_in _ _ _ _ _ _ _ _ _ _ e k h }
+carry_stops args disk before later input wire text out rose risen refused NoMemory ends e k h = inr (record { wire = wire; text = text; ends = ends; carrying = carrying_in _ _ _ _ _ _ _ (Unit {0}) _ _ e (λ u. u) h })
 
-pub carry_works : {T : Type 0} (args : Args) (lookups : List ℕ → Lookup) (disk before later : List Component → Held) (input wire text : List ℕ) (rose risen refused : Type 0) (old new : List ℕ) (r : Result T Stop) → Judges args lookups input (Done wire text) → before ≡ disk → (risen → rose) → Appends old new (Carries args.path wire text before later risen refused r) → Appends old new (Works args lookups disk input later rose refused r)
-carry_works args lookups disk before later input wire text rose risen refused old new (Ok x) ends e k h = record {
+pub carry_works : {T : Type 0} (args : Args) (disk before later : List Component → Held) (input wire text : List ℕ) (rose risen refused : Type 0) (old new : List ℕ) (r : Result T Stop) → Judges args disk input (Done wire text) → before ≡ disk → (risen → rose) → Appends old new (Carries args.path wire text before later risen refused r) → Appends old new (Works args disk input later rose refused r)
+carry_works args disk before later input wire text rose risen refused old new (Ok x) ends e k h = record {
   added = h.added;
   is = h.is;
   so = record { wire = wire; text = text; ends = ends; carried = record { set = h.so.set; others = (let P : (List Component → Held) → Type 0 = λ d. SameBut (disk_key args.path) d later in subst P e h.so.others); printed = h.so.printed } };
 }
-carry_works args lookups disk before later input wire text rose risen refused old new (Err stop) ends e k h = record {
+carry_works args disk before later input wire text rose risen refused old new (Err stop) ends e k h = record {
   added = h.added;
   is = h.is;
-  so = carry_stops args lookups disk before later input wire text h.added rose risen refused stop ends e k h.so;
+  so = carry_stops args disk before later input wire text h.added rose risen refused stop ends e k h.so;
 }
 
-reached : (T : Type 0) (lookups : List ℕ → Lookup) (disk later : List Component → Held) (input : List ℕ) (rose refused : Type 0) (args : Option Args) (object : Object) (out : List ℕ) → Comes {T = T} args lookups disk input later rose refused (Err (Broken object)) out → Reached args lookups input object
-reached T lookups disk later input rose refused None object out h = absurd h
-reached T lookups disk later input rose refused (Some args) Input out h = tt
-reached T lookups disk later input rose refused (Some args) (File text) out h = h.0
-reached T lookups disk later input rose refused (Some args) Path out h = (h.wire, h.text, h.ends)
-reached T lookups disk later input rose refused (Some args) Output out h = (h.wire, h.text, h.ends)
+reached : (T : Type 0) (disk later : List Component → Held) (input : List ℕ) (rose refused : Type 0) (args : Option Args) (object : Object) (out : List ℕ) → Comes {T = T} args disk input later rose refused (Err (Broken object)) out → Reached args disk input object
+reached T disk later input rose refused None object out h = absurd h
+reached T disk later input rose refused (Some args) Input out h = tt
+reached T disk later input rose refused (Some args) (File text) out h = h.0
+reached T disk later input rose refused (Some args) Path out h = (h.wire, h.text, h.ends)
+reached T disk later input rose refused (Some args) Output out h = (h.wire, h.text, h.ends)
 
 -- ---- what ends a run over every disk, input and output
 
@@ -88,8 +87,8 @@ ran_faulty None disk input out (Err (Broken object)) status e ends faulty = absu
 ran_faulty None disk input out (Err NoMemory) status e ends faulty = inr e
 ran_faulty (Some args) disk input out r status e ends faulty = absurd (cc)
 
-module _ {T : Type 0} (words : List (List ℕ)) (lookups : List ℕ → Lookup) (disk later : List Component → Held) (input : List ℕ) (rose refused : Type 0) where
-  obeys : (args : Option Args) (r : Result T Stop) (out : List ℕ) → status_of r ≤ 2 → Comes args lookups disk input later rose refused r out → Obeys args lookups disk input (status_of r) out later (line_of words r)
+module _ {T : Type 0} (words : List (List ℕ)) (disk later : List Component → Held) (input : List ℕ) (rose refused : Type 0) where
+  obeys : (args : Option Args) (r : Result T Stop) (out : List ℕ) → status_of r ≤ 2 → Comes args disk input later rose refused r out → Obeys args disk input (status_of r) out later (line_of words r)
   obeys None (Ok x) out small h = absurd h
   obeys None (Err Words) out small h = (refl, h.silent, h.same, refl)
   obeys None (Err (Refused r)) out small h = absurd h
@@ -101,14 +100,14 @@ module _ {T : Type 0} (words : List (List ℕ)) (lookups : List ℕ → Lookup) 
   obeys (Some args) (Err (Broken object)) out small h = absurd (omega arith)
   obeys (Some args) (Err NoMemory) out small h = absurd (omega arith)
 
-  pub ran_outcome : (args : Option Args) (r : Result T Stop) (old new : List ℕ) (status : ℕ) → status ≡ status_of r → status ≤ 2 → Appends old new (Comes args lookups disk input later rose refused r) → Appends old new (λ out. Obeys args lookups disk input status out later (line_of words r))
+  pub ran_outcome : (args : Option Args) (r : Result T Stop) (old new : List ℕ) (status : ℕ) → status ≡ status_of r → status ≤ 2 → Appends old new (Comes args disk input later rose refused r) → Appends old new (λ out. Obeys args disk input status out later (line_of words r))
   ran_outcome args r old new status e small h = record {
     added = h.added;
     is = h.is;
-    so = (let P : ℕ → Type 0 = λ n. Obeys args lookups disk input n h.added later (line_of words r) in subst P (sym e) (obeys args r h.added (let Q : ℕ → Type 0 = λ n. n ≤ 2 in subst Q e small) h.so));
+    so = (let P : ℕ → Type 0 = λ n. Obeys args disk input n h.added later (line_of words r) in subst P (sym e) (obeys args r h.added (let Q : ℕ → Type 0 = λ n. n ≤ 2 in subst Q e small) h.so));
   }
 
-  stands : (args : Option Args) (r : Result T Stop) (out : List ℕ) → 3 ≤ status_of r → Comes args lookups disk input later rose refused r out → Leftover args lookups disk input later out (rose ⊎ (status_of r ≡ 4)) refused
+  stands : (args : Option Args) (r : Result T Stop) (out : List ℕ) → 3 ≤ status_of r → Comes args disk input later rose refused r out → Leftover args disk input later out (rose ⊎ (status_of r ≡ 4)) refused
   stands None (Ok x) out large h = absurd h
   stands None (Err Words) out large h = h
   stands None (Err (Refused r)) out large h = absurd h
@@ -124,16 +123,16 @@ module _ {T : Type 0} (words : List (List ℕ)) (lookups : List ℕ → Lookup) 
   stands (Some args) (Err NoMemory) out large (inl h) = inl h
   stands (Some args) (Err NoMemory) out large (inr h) = inr (record { wire = h.wire; text = h.text; ends = h.ends; carrying = carrying_in _ _ _ _ _ _ _ _ _ _ refl (λ u. inr refl) h.carrying })
 
-  pub ran_stopped : (args : Option Args) (r : Result T Stop) (old new : List ℕ) (status : ℕ) → status ≡ status_of r → 3 ≤ status → Appends old new (Comes args lookups disk input later rose refused r) → Appends old new (λ out. Leftover args lookups disk input later out (rose ⊎ (status ≡ 4)) refused)
+  pub ran_stopped : (args : Option Args) (r : Result T Stop) (old new : List ℕ) (status : ℕ) → status ≡ status_of r → 3 ≤ status → Appends old new (Comes args disk input later rose refused r) → Appends old new (λ out. Leftover args disk input later out (rose ⊎ (status ≡ 4)) refused)
   ran_stopped args r old new status e large h = record {
     added = h.added;
     is = h.is;
-    so = (let P : ℕ → Type 0 = λ n. Leftover args lookups disk input later h.added (rose ⊎ (n ≡ 4)) refused in subst P (sym e) (stands args r h.added (let Q : ℕ → Type 0 = λ n. 3 ≤ n in subst Q e large) h.so));
+    so = (let P : ℕ → Type 0 = λ n. Leftover args disk input later h.added (rose ⊎ (n ≡ 4)) refused in subst P (sym e) (stands args r h.added (let Q : ℕ → Type 0 = λ n. 3 ≤ n in subst Q e large) h.so));
   }
 
   calm : (args : Option Args) (r : Result T Stop) (old new said saying : List ℕ) (status : ℕ) (muted : Type 0) (tells : Bool) → status ≡ status_of r → status ≤ 2
-      → Appends old new (Comes args lookups disk input later rose refused r) → Says tells muted said saying (line_of words r) → IsTrue tells → ¬ muted
-      → Appends old new (λ out. Appends said saying (λ line. Obeys args lookups disk input status out later line))
+      → Appends old new (Comes args disk input later rose refused r) → Says tells muted said saying (line_of words r) → IsTrue tells → ¬ muted
+      → Appends old new (λ out. Appends said saying (λ line. Obeys args disk input status out later line))
   calm args r old new said saying status muted tells e small h says t quiet =
       let o = ran_outcome args r old new status e small h in
       let s = says t in
@@ -141,13 +140,13 @@ module _ {T : Type 0} (words : List (List ℕ)) (lookups : List ℕ → Lookup) 
       record {
         added = o.added;
         is = o.is;
-        so = record { added = s.added; is = s.is; so = (let P : List ℕ → Type 0 = λ l. Obeys args lookups disk input status o.added later l in subst P (sym whole) o.so) };
+        so = record { added = s.added; is = s.is; so = (let P : List ℕ → Type 0 = λ l. Obeys args disk input status o.added later l in subst P (sym whole) o.so) };
       }
 
   -- with no fault, what err holds is the line
   pub ran_quiet : (args : Option Args) (r : Result T Stop) (old new said saying : List ℕ) (status : ℕ) (disk_rose input_rose out_rose muted : Type 0) (tells : Bool) → status ≡ status_of r → EndsFor args disk_rose input_rose out_rose r
-      → Appends old new (Comes args lookups disk input later rose refused r) → Says tells muted said saying (line_of words r) → IsTrue tells → ¬ disk_rose → ¬ input_rose → ¬ out_rose → ¬ muted
-      → (status ≡ 4) ⊎ Appends old new (λ out. Appends said saying (λ line. Obeys args lookups disk input status out later line))
+      → Appends old new (Comes args disk input later rose refused r) → Says tells muted said saying (line_of words r) → IsTrue tells → ¬ disk_rose → ¬ input_rose → ¬ out_rose → ¬ muted
+      → (status ≡ 4) ⊎ Appends old new (λ out. Appends said saying (λ line. Obeys args disk input status out later line))
   ran_quiet args (Ok x) old new said saying status dr ir kr muted tells e cause h says t nd ni nk nm = inr (calm args (Ok x) old new said saying status muted tells e (rw e (lit≤ tt)) h says t nm)
   ran_quiet args (Err Words) old new said saying status dr ir kr muted tells e cause h says t nd ni nk nm = inr (calm args (Err Words) old new said saying status muted tells e (rw e (lit≤ tt)) h says t nm)
   ran_quiet args (Err (Refused r)) old new said saying status dr ir kr muted tells e cause h says t nd ni nk nm = inr (calm args (Err (Refused r)) old new said saying status muted tells e (rw e (lit≤ tt)) h says t nm)
@@ -158,52 +157,52 @@ module _ {T : Type 0} (words : List (List ℕ)) (lookups : List ℕ → Lookup) 
   ran_quiet args (Err NoMemory) old new said saying status dr ir kr muted tells e cause h says t nd ni nk nm = inl e
 
 pub ran_fault : {T : Type 0} (words : List (List ℕ)) (disk later : List Component → Held) (input : List ℕ) (rose refused : Type 0) (args : Option Args) (r : Result T Stop) (old new said saying : List ℕ) (status : ℕ) (disk_rose input_rose out_rose D S K : Type 0)
-    (L : (List ℕ → Lookup) → Type 0) (tells : Bool) (muted : Type 0) → status ≡ status_of r → EndsFor args disk_rose input_rose out_rose r
-    → (D → S → K → (lookups : List ℕ → Lookup) → L lookups → Appends old new (Comes args lookups disk input later rose refused r)) → Says tells muted said saying (line_of words r) → status ≡ 3
-    → (object : Object) × RoseOf disk_rose input_rose out_rose object × (D → S → K → (lookups : List ℕ → Lookup) → L lookups → Reached args lookups input object) × Says tells muted said saying (error_line (object_line words object))
-ran_fault words disk later input rose refused args (Ok x) old new said saying status dr ir kr D S K L tells muted e cause told says three = absurd (omega arith)
-ran_fault words disk later input rose refused args (Err Words) old new said saying status dr ir kr D S K L tells muted e cause told says three = absurd (omega arith)
-ran_fault words disk later input rose refused args (Err (Refused r)) old new said saying status dr ir kr D S K L tells muted e cause told says three = absurd (omega arith)
-ran_fault {T = T} words disk later input rose refused args (Err (Broken object)) old new said saying status dr ir kr D S K L tells muted e cause told says three =
-    (object, by_object T args dr ir kr object cause, (λ d s k lookups l. let h = told d s k lookups l in reached T lookups disk later input rose refused args object h.added h.so), says)
-ran_fault words disk later input rose refused args (Err NoMemory) old new said saying status dr ir kr D S K L tells muted e cause told says three = absurd (omega arith)
+    (tells : Bool) (muted : Type 0) → status ≡ status_of r → EndsFor args disk_rose input_rose out_rose r
+    → (D → S → K → Appends old new (Comes args disk input later rose refused r)) → Says tells muted said saying (line_of words r) → status ≡ 3
+    → (object : Object) × RoseOf disk_rose input_rose out_rose object × (D → S → K → Reached args disk input object) × Says tells muted said saying (error_line (object_line words object))
+ran_fault words disk later input rose refused args (Ok x) old new said saying status dr ir kr D S K tells muted e cause told says three = absurd (omega arith)
+ran_fault words disk later input rose refused args (Err Words) old new said saying status dr ir kr D S K tells muted e cause told says three = absurd (omega arith)
+ran_fault words disk later input rose refused args (Err (Refused r)) old new said saying status dr ir kr D S K tells muted e cause told says three = absurd (omega arith)
+ran_fault {T = T} words disk later input rose refused args (Err (Broken object)) old new said saying status dr ir kr D S K tells muted e cause told says three =
+    (object, by_object T args dr ir kr object cause, (λ d s k. let h = told d s k in reached T disk later input rose refused args object h.added h.so), says)
+ran_fault words disk later input rose refused args (Err NoMemory) old new said saying status dr ir kr D S K tells muted e cause told says three = absurd (omega arith)
 
 -- ---- stops before any write
 
 untouched : (disk later : List Component → Held) → later ≡ disk → Untouched disk later []
 untouched disk later e = record { same = (λ key. ap (λ d. d key) e); silent = refl }
 
-plan_stops : (args : Args) (lookups : List ℕ → Lookup) (disk later : List Component → Held) (input : List ℕ) (rose refused : Type 0) (stop : Stop) → later ≡ disk → PlanStops args lookups input stop → WorkStops args lookups disk input later [] rose refused stop
-plan_stops args lookups disk later input rose refused Words e h = absurd h
-plan_stops args lookups disk later input rose refused (Refused r) e h = (h, untouched disk later e)
-plan_stops args lookups disk later input rose refused (Broken Input) e h = untouched disk later e
-plan_stops args lookups disk later input rose refused (Broken (File line)) e h = (h, untouched disk later e)
-plan_stops args lookups disk later input rose refused (Broken Path) e h = absurd h
-plan_stops args lookups disk later input rose refused (Broken Output) e h = absurd h
-plan_stops args lookups disk later input rose refused NoMemory e h = inl (untouched disk later e)
+plan_stops : (args : Args) (disk later : List Component → Held) (input : List ℕ) (rose refused : Type 0) (stop : Stop) → later ≡ disk → PlanStops args disk input stop → WorkStops args disk input later [] rose refused stop
+plan_stops args disk later input rose refused Words e h = absurd h
+plan_stops args disk later input rose refused (Refused r) e h = (h, untouched disk later e)
+plan_stops args disk later input rose refused (Broken Input) e h = untouched disk later e
+plan_stops args disk later input rose refused (Broken (File line)) e h = (h, untouched disk later e)
+plan_stops args disk later input rose refused (Broken Path) e h = absurd h
+plan_stops args disk later input rose refused (Broken Output) e h = absurd h
+plan_stops args disk later input rose refused NoMemory e h = inl (untouched disk later e)
 
 nothing_more : (xs : List ℕ) → xs ≡ xs ++ []
 nothing_more [] = refl
 nothing_more (x ∷ xs) = ap (λ ys. x ∷ ys) (nothing_more xs)
 
-pub plan_works : (T : Type 0) (args : Args) (lookups : List ℕ → Lookup) (disk later : List Component → Held) (input : List ℕ) (rose refused : Type 0) (old : List ℕ) (stop : Stop) → later ≡ disk → PlanStops args lookups input stop
-    → Appends old old (Works {T = T} args lookups disk input later rose refused (Err stop))
-plan_works T args lookups disk later input rose refused old stop e h = record { added = []; is = nothing_more old; so = plan_stops args lookups disk later input rose refused stop e h }
+pub plan_works : (T : Type 0) (args : Args) (disk later : List Component → Held) (input : List ℕ) (rose refused : Type 0) (old : List ℕ) (stop : Stop) → later ≡ disk → PlanStops args disk input stop
+    → Appends old old (Works {T = T} args disk input later rose refused (Err stop))
+plan_works T args disk later input rose refused old stop e h = record { added = []; is = nothing_more old; so = plan_stops args disk later input rose refused stop e h }
 
 -- without words, and where memory runs out for them
-word_stops : (T : Type 0) (args : Option Args) (lookups : List ℕ → Lookup) (disk : List Component → Held) (input : List ℕ) (rose refused : Type 0) → Comes {T = T} args lookups disk input disk rose refused (Err NoMemory) []
-word_stops T None lookups disk input rose refused = untouched disk disk refl
-word_stops T (Some args) lookups disk input rose refused = inl (untouched disk disk refl)
+word_stops : (T : Type 0) (args : Option Args) (disk : List Component → Held) (input : List ℕ) (rose refused : Type 0) → Comes {T = T} args disk input disk rose refused (Err NoMemory) []
+word_stops T None disk input rose refused = untouched disk disk refl
+word_stops T (Some args) disk input rose refused = inl (untouched disk disk refl)
 
-pub words_memory : (T : Type 0) (args : Option Args) (lookups : List ℕ → Lookup) (disk : List Component → Held) (input : List ℕ) (rose refused : Type 0) (old : List ℕ) → Appends old old (Comes {T = T} args lookups disk input disk rose refused (Err NoMemory))
-words_memory T args lookups disk input rose refused old = record { added = []; is = nothing_more old; so = word_stops T args lookups disk input rose refused }
+pub words_memory : (T : Type 0) (args : Option Args) (disk : List Component → Held) (input : List ℕ) (rose refused : Type 0) (old : List ℕ) → Appends old old (Comes {T = T} args disk input disk rose refused (Err NoMemory))
+words_memory T args disk input rose refused old = record { added = []; is = nothing_more old; so = word_stops T args disk input rose refused }
 
-pub no_words : (T : Type 0) (args : Option Args) (lookups : List ℕ → Lookup) (disk : List Component → Held) (input : List ℕ) (rose refused : Type 0) (old : List ℕ) → args ≡ None → Appends old old (Comes {T = T} args lookups disk input disk rose refused (Err Words))
-no_words T args lookups disk input rose refused old e =
-    let so : Comes {T = T} None lookups disk input disk rose refused (Err Words) [] = untouched disk disk refl in
-    record { added = []; is = nothing_more old; so = (let P : Option Args → Type 0 = λ a. Comes {T = T} a lookups disk input disk rose refused (Err Words) [] in subst P (sym e) so) }
+pub no_words : (T : Type 0) (args : Option Args) (disk : List Component → Held) (input : List ℕ) (rose refused : Type 0) (old : List ℕ) → args ≡ None → Appends old old (Comes {T = T} args disk input disk rose refused (Err Words))
+no_words T args disk input rose refused old e =
+    let so : Comes {T = T} None disk input disk rose refused (Err Words) [] = untouched disk disk refl in
+    record { added = []; is = nothing_more old; so = (let P : Option Args → Type 0 = λ a. Comes {T = T} a disk input disk rose refused (Err Words) [] in subst P (sym e) so) }
 
-pub some_words : {T : Type 0} (args : Option Args) (a : Args) (lookups : List ℕ → Lookup) (disk later : List Component → Held) (input : List ℕ) (rose refused : Type 0) (old new : List ℕ) (r : Result T Stop) → args ≡ Some a
-    → Appends old new (Works a lookups disk input later rose refused r) → Appends old new (Comes args lookups disk input later rose refused r)
-some_words {T = T} args a lookups disk later input rose refused old new r e h =
-    record { added = h.added; is = h.is; so = (let P : Option Args → Type 0 = λ x. Comes {T = T} x lookups disk input later rose refused r h.added in subst P (sym e) h.so) }
+pub some_words : {T : Type 0} (args : Option Args) (a : Args) (disk later : List Component → Held) (input : List ℕ) (rose refused : Type 0) (old new : List ℕ) (r : Result T Stop) → args ≡ Some a
+    → Appends old new (Works a disk input later rose refused r) → Appends old new (Comes args disk input later rose refused r)
+some_words {T = T} args a disk later input rose refused old new r e h =
+    record { added = h.added; is = h.is; so = (let P : Option Args → Type 0 = λ x. Comes {T = T} x disk input later rose refused r h.added in subst P (sym e) h.so) }

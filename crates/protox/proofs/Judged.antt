@@ -1,5 +1,5 @@
 -- From the answers of the parts to what the whole run comes to.
-use Rattle.std.proofs.Common.{◌≡◌, ◌∷◌, [], ◌≤◌, Bool, true, false, inl, inr, if◌then◌else◌, IsTrue, Result, Ok, Err, IfOk, IfErr, MatchOption, ℕ, List, length, Option, Some, codes, sym, subst, refl}
+use Rattle.std.proofs.Common.{◌≡◌, ◌∷◌, [], ◌≤◌, Bool, true, false, inl, inr, if◌then◌else◌, IsTrue, Result, Ok, Err, IfOk, IfErr, MatchOption, ℕ, List, length, Option, Some, codes, ap, ◌∙◌, sym, subst, refl}
 use Rattle.serde_json.specs.Data.{Data}
 use Rattle.serde_json.specs.Written.{has_float, compact_text}
 use Rattle.pbx_desc_records.specs.declared.file.FileDescriptorProto.{FileDescriptorProto}
@@ -11,7 +11,7 @@ use Rattle.protox_io.specs.Disk.{Held}
 use Rattle.protox_io.specs.Paths.{Component}
 use Rattle.protox_file.specs.Include.{Include}
 use Rattle.protox_paths.specs.Paths.{resolved}
-use Rattle.protox_file.specs.Told.{Told, Lookup, AreLookups, told_below}
+use Rattle.protox_file.specs.Told.{Told, ByLookups, told_below}
 use Rattle.protox_file.specs.declared.error.ErrorKind.{ErrorKind}
 use Rattle.protox_file.specs.declared.error.ErrorKind.TheVariants as kinds
 use Rattle.protox_compile.specs.Walk.{Done, records}
@@ -19,9 +19,9 @@ use Rattle.protox_compile.specs.Opening.{Accepted, closure}
 use Rattle.protox_compile.specs.Closures.{StopsAt}
 use Rattle.protox_compile.specs.Compiled.{IsOrdered}
 use Rattle.protox_compile.specs.Refusals.{HasOpeningCause}
-use Rattle.protox_compile.specs.State.{State}
+use Rattle.protox_compile.specs.State.{State, Keeps}
 use Rattle.protox.specs.Top.{ForFiles, IsCaused, IsRefused, IsTranscoded, IsUndecodable, Refuses, is_fault, is_resolver_fault, is_memory, most_files, of_error}
-use Rattle.protox.specs.Class.{limit, folder, json_of, AreRead, Gives}
+use Rattle.protox.specs.Class.{limit, folder, told_on, json_of, Gives}
 use Rattle.protox.specs.Parts.{IsFileStop, IsInputStop, IsStopOf}
 use Rattle.protox.specs.Stops.{Caused, PlanStops}
 use Rattle.protox.specs.Words.{Args}
@@ -53,43 +53,44 @@ fresh r = record { resolver = r; done = []; limit = 65536 }
 
 module _ {R : Type 0} (tells : R → Bool) (files : R → List ℕ → Told) (resolves : R → List ℕ → Option (List ℕ)) (r : R) (s : State R) (paths : List (List ℕ)) (later : List Done) where
   pub stopped : (name : List ℕ) (tree : Data) (error : ErrorKind) → s ≡ fresh r
-      → (IsTrue (tells s.resolver) → (lookups : List ℕ → Lookup) → AreLookups (files s.resolver) lookups → StopsAt lookups (resolves s.resolver) s.limit paths s.done later error)
-      → IsTrue (tells r) → (lookups : List ℕ → Lookup) → AreLookups (files r) lookups → Refuses lookups (resolves r) paths name tree (of_error error)
-  stopped name tree error e h t lookups are = at (is_memory error)
+      → (IsTrue (tells s.resolver) → ByLookups (files s.resolver) (λ ls. StopsAt ls (resolves s.resolver) s.limit paths s.done later error))
+      → IsTrue (tells r) → Refuses (files r) (resolves r) paths name tree (of_error error)
+  stopped name tree error e h t = at (is_memory error)
     where
       P : State R → Type 0
-      P c = (IsTrue (tells c.resolver) → (ls : List ℕ → Lookup) → AreLookups (files c.resolver) ls → StopsAt ls (resolves c.resolver) c.limit paths c.done later error)
+      P c = (IsTrue (tells c.resolver) → ByLookups (files c.resolver) (λ ls. StopsAt ls (resolves c.resolver) c.limit paths c.done later error))
 
-      stops : StopsAt lookups (resolves r) most_files paths [] later error
-      stops = (subst P e h) t lookups are
+      stops : ByLookups (files r) (λ ls. StopsAt ls (resolves r) most_files paths [] later error)
+      stops = (subst P e h) t
 
-      at : (b : Bool) → Refuses lookups (resolves r) paths name tree (if b then top.NoMemory else top.File error)
+      at : (b : Bool) → Refuses (files r) (resolves r) paths name tree (if b then top.NoMemory else top.File error)
       at true = tt
-      at false = inl (later, stops)
+      at false = inl (stops.0, stops.1, (later, stops.2))
 
   pub accepted : s ≡ fresh r
-      → (IsTrue (tells s.resolver) → (lookups : List ℕ → Lookup) → AreLookups (files s.resolver) lookups → closure lookups (resolves s.resolver) s.limit paths s.done ≡ (later, Accepted))
-      → IsTrue (tells r) → (lookups : List ℕ → Lookup) → AreLookups (files r) lookups → closure lookups (resolves r) most_files paths [] ≡ (later, Accepted)
-  accepted e h t lookups are =
-      let P : State R → Type 0 = λ c. (IsTrue (tells c.resolver) → (ls : List ℕ → Lookup) → AreLookups (files c.resolver) ls → closure ls (resolves c.resolver) c.limit paths c.done ≡ (later, Accepted)) in
-      (subst P e h) t lookups are
+      → (IsTrue (tells s.resolver) → ByLookups (files s.resolver) (λ ls. closure ls (resolves s.resolver) s.limit paths s.done ≡ (later, Accepted)))
+      → IsTrue (tells r) → ByLookups (files r) (λ ls. closure ls (resolves r) most_files paths [] ≡ (later, Accepted))
+  accepted e h t =
+      let P : State R → Type 0 = λ c. (IsTrue (tells c.resolver) → ByLookups (files c.resolver) (λ ls. closure ls (resolves c.resolver) c.limit paths c.done ≡ (later, Accepted))) in
+      (subst P e h) t
 
--- what is refused among the files of the closure
-pub all_refused : (lookups : List ℕ → Lookup) (resolves : List ℕ → Option (List ℕ)) (paths : List (List ℕ)) (name : List ℕ) (tree : Data) (later : List Done) (files : List FileDescriptorProto) (error : TopError) → files ≡ records later
-    → closure lookups resolves most_files paths [] ≡ (later, Accepted) → IsRefused name tree files error → Refuses lookups resolves paths name tree error
-all_refused lookups resolves paths name tree later files (top.File error) e all h =
-    inr (later, all, (let P : List FileDescriptorProto → Type 0 = λ fs. IsUndecodable fs error in subst P e h))
-all_refused lookups resolves paths name tree later files (top.JsonNames message key) e all h = absurd h
-all_refused lookups resolves paths name tree later files (top.WellKnownShape message) e all h = absurd h
-all_refused lookups resolves paths name tree later files (top.TypeNotFound n) e all h = (later, all, (let P : List FileDescriptorProto → Type 0 = λ fs. IsRefused name tree fs (top.TypeNotFound n) in subst P e h))
-all_refused lookups resolves paths name tree later files top.TooDeep e all h = absurd h
-all_refused lookups resolves paths name tree later files top.NoMemory e all h = tt
-all_refused lookups resolves paths name tree later files top.NotBuilt e all h = (later, all, (let P : List FileDescriptorProto → Type 0 = λ fs. IsRefused name tree fs top.NotBuilt in subst P e h))
+module _ (told : List ℕ → Told) (resolves : List ℕ → Option (List ℕ)) (paths : List (List ℕ)) (later : List Done) (all : ByLookups told (λ ls. closure ls resolves most_files paths [] ≡ (later, Accepted))) (files : List FileDescriptorProto) (is : files ≡ records later) where
+  -- what is said of the files of the closure
+  for_files : (P : List FileDescriptorProto → Type 0) → P files → ForFiles told resolves paths P
+  for_files P h = (all.0, all.1, (later, all.2, subst P is h))
 
-pub all_given : (lookups : List ℕ → Lookup) (resolves : List ℕ → Option (List ℕ)) (paths : List (List ℕ)) (name : List ℕ) (tree : Data) (later : List Done) (files : List FileDescriptorProto) (set wire : List ℕ) (written : Data) → files ≡ records later
-    → closure lookups resolves most_files paths [] ≡ (later, Accepted) → IsTranscoded name tree files set wire written → ForFiles lookups resolves paths (λ fs. IsTranscoded name tree fs set wire written)
-all_given lookups resolves paths name tree later files set wire written e all h =
-    (later, all, (let P : List FileDescriptorProto → Type 0 = λ fs. IsTranscoded name tree fs set wire written in subst P e h))
+  -- what is refused among them
+  pub all_refused : (name : List ℕ) (tree : Data) (error : TopError) → IsRefused name tree files error → Refuses told resolves paths name tree error
+  all_refused name tree (top.File error) h = inr (for_files (λ fs. IsUndecodable fs error) h)
+  all_refused name tree (top.JsonNames message key) h = absurd h
+  all_refused name tree (top.WellKnownShape message) h = absurd h
+  all_refused name tree (top.TypeNotFound n) h = for_files (λ fs. IsRefused name tree fs (top.TypeNotFound n)) h
+  all_refused name tree top.TooDeep h = absurd h
+  all_refused name tree top.NoMemory h = tt
+  all_refused name tree top.NotBuilt h = for_files (λ fs. IsRefused name tree fs top.NotBuilt) h
+
+  pub all_given : (name : List ℕ) (tree : Data) (set wire : List ℕ) (written : Data) → IsTranscoded name tree files set wire written → ForFiles told resolves paths (λ fs. IsTranscoded name tree fs set wire written)
+  all_given name tree set wire written h = for_files (λ fs. IsTranscoded name tree fs set wire written) h
 
 -- the files of the pool are those that the compiler holds, in order and linked
 pub all_pooled : (name : List ℕ) (tree : Data) (later : List Done) (files : List FileDescriptorProto) (set wire : List ℕ) (written : Data) → files ≡ records later → IsOrdered [] later → ArePooled [] (records later)
@@ -100,23 +101,23 @@ all_pooled name tree later files set wire written e ordered pooled h =
 -- ---- the folder of a run
 
 -- what is said of the resolver of the folder is said of the disk
-pub of_folder : {D : Type 0} (tells : D → Bool) (holds : D → List Component → Held) (r : Include D) (disk : D) (include file : List ℕ) (paths : List (List ℕ)) (Q : (List ℕ → Lookup) → (List ℕ → Option (List ℕ)) → List (List ℕ) → Type 0)
+pub of_folder : {D : Type 0} (tells : D → Bool) (holds : D → List Component → Held) (r : Include D) (disk : D) (include file : List ℕ) (paths : List (List ℕ)) (Q : (List ℕ → Told) → (List ℕ → Option (List ℕ)) → List (List ℕ) → Type 0)
     → r ≡ record { include = include; disk = disk } → include ≡ codes "." → paths ≡ file ∷ []
-    → (IsTrue (tells r.disk) → (lookups : List ℕ → Lookup) → AreLookups (told_below (holds r.disk) r.include) lookups → Q lookups (resolved r.include) paths)
-    → IsTrue (tells disk) → (lookups : List ℕ → Lookup) → AreRead (holds disk) lookups → Q lookups (resolved folder) (file ∷ [])
-of_folder {D = D} tells holds r disk include file paths Q is dot one h t lookups are =
-    let P : Include D → Type 0 = λ x. (IsTrue (tells x.disk) → (ls : List ℕ → Lookup) → AreLookups (told_below (holds x.disk) x.include) ls → Q ls (resolved x.include) paths) in
+    → (IsTrue (tells r.disk) → Q (told_below (holds r.disk) r.include) (resolved r.include) paths)
+    → IsTrue (tells disk) → Q (told_on (holds disk)) (resolved folder) (file ∷ [])
+of_folder {D = D} tells holds r disk include file paths Q is dot one h t =
+    let P : Include D → Type 0 = λ x. (IsTrue (tells x.disk) → Q (told_below (holds x.disk) x.include) (resolved x.include) paths) in
     let first : P (record { include = include; disk = disk }) = subst P is h in
-    let S : List ℕ → Type 0 = λ x. (IsTrue (tells disk) → (ls : List ℕ → Lookup) → AreLookups (told_below (holds disk) x) ls → Q ls (resolved x) paths) in
+    let S : List ℕ → Type 0 = λ x. (IsTrue (tells disk) → Q (told_below (holds disk) x) (resolved x) paths) in
     let second : S (codes ".") = subst S dot first in
-    (let N : List (List ℕ) → Type 0 = λ ps. Q lookups (resolved folder) ps in subst N one (second t lookups are))
+    (let N : List (List ℕ) → Type 0 = λ ps. Q (told_on (holds disk)) (resolved folder) ps in subst N one (second t))
 
-pub gives : (type_name file : List ℕ) (lookups : List ℕ → Lookup) (tree : Data) (set wire : List ℕ) (written : Data) (given text : List ℕ) → CanonicalIsPlain → ForFiles lookups (resolved folder) (file ∷ []) (λ files. IsTranscoded type_name tree files set wire written)
-    → given ≡ wire → (has_float written ≡ false → text ≡ compact_text written) → Gives type_name file lookups tree given text
-gives type_name file lookups tree set wire written given text plain h e printed =
-    let P : List ℕ → Type 0 = λ w. ForFiles lookups (resolved folder) (file ∷ []) (λ files. IsTranscoded type_name tree files set w written) in
-    let type_told = h.2.transcoded in
-    (set, written, subst P (sym e) h, printed (plain (shape_of (records h.0)) type_told.place type_told.transcodes.0 written type_told.transcodes.4))
+pub gives : (type_name file : List ℕ) (disk : List Component → Held) (tree : Data) (set wire : List ℕ) (written : Data) (given text : List ℕ) → CanonicalIsPlain → ForFiles (told_on disk) (resolved folder) (file ∷ []) (λ files. IsTranscoded type_name tree files set wire written)
+    → given ≡ wire → (has_float written ≡ false → text ≡ compact_text written) → Gives type_name file disk tree given text
+gives type_name file disk tree set wire written given text plain h e printed =
+    let P : List ℕ → Type 0 = λ w. ForFiles (told_on disk) (resolved folder) (file ∷ []) (λ files. IsTranscoded type_name tree files set w written) in
+    let type_told = h.2.2.transcoded in
+    (set, written, subst P (sym e) h, printed (plain (shape_of (records h.2.0)) type_told.place type_told.transcodes.0 written type_told.transcodes.4))
 
 -- ---- stops
 
@@ -139,23 +140,23 @@ fault_told rose (kinds.FileLimit n) f c = absurd (cc)
 fault_told rose (kinds.Undecodable file) f c = absurd (cc)
 fault_told rose kinds.NoMemory f c = absurd c
 
-pub file_stop : (type_name file : List ℕ) (lookups : List ℕ → Lookup) (tree : Data) (error : TopError) (rose : Type 0) (stop : Stop) → IsStopOf error stop → IsCaused rose error → Refuses lookups (resolved folder) (file ∷ []) type_name tree error
-    → IsFileStop type_name file lookups tree stop
-file_stop type_name file lookups tree error rose Words s k h = absurd s
-file_stop type_name file lookups tree error rose (Refused TooLong) s k h = absurd s
-file_stop type_name file lookups tree error rose (Refused NotJson) s k h = absurd s
-file_stop type_name file lookups tree error rose (Refused (Top line)) s k h = (error, s.0, h, s.1)
-file_stop type_name file lookups tree error rose (Broken Input) s k h = absurd s
-file_stop type_name file lookups tree (top.File error) rose (Broken (File line)) s k h = (error, fault_told rose error s.0 k, s.1)
-file_stop type_name file lookups tree (top.JsonNames message key) rose (Broken (File line)) s k h = absurd s
-file_stop type_name file lookups tree (top.WellKnownShape message) rose (Broken (File line)) s k h = absurd s
-file_stop type_name file lookups tree (top.TypeNotFound n) rose (Broken (File line)) s k h = absurd s
-file_stop type_name file lookups tree top.TooDeep rose (Broken (File line)) s k h = absurd s
-file_stop type_name file lookups tree top.NoMemory rose (Broken (File line)) s k h = absurd s
-file_stop type_name file lookups tree top.NotBuilt rose (Broken (File line)) s k h = absurd s
-file_stop type_name file lookups tree error rose (Broken Path) s k h = absurd s
-file_stop type_name file lookups tree error rose (Broken Output) s k h = absurd s
-file_stop type_name file lookups tree error rose NoMemory s k h = tt
+pub file_stop : (type_name file : List ℕ) (disk : List Component → Held) (tree : Data) (error : TopError) (rose : Type 0) (stop : Stop) → IsStopOf error stop → IsCaused rose error → Refuses (told_on disk) (resolved folder) (file ∷ []) type_name tree error
+    → IsFileStop type_name file disk tree stop
+file_stop type_name file disk tree error rose Words s k h = absurd s
+file_stop type_name file disk tree error rose (Refused TooLong) s k h = absurd s
+file_stop type_name file disk tree error rose (Refused NotJson) s k h = absurd s
+file_stop type_name file disk tree error rose (Refused (Top line)) s k h = (error, s.0, h, s.1)
+file_stop type_name file disk tree error rose (Broken Input) s k h = absurd s
+file_stop type_name file disk tree (top.File error) rose (Broken (File line)) s k h = (error, fault_told rose error s.0 k, s.1)
+file_stop type_name file disk tree (top.JsonNames message key) rose (Broken (File line)) s k h = absurd s
+file_stop type_name file disk tree (top.WellKnownShape message) rose (Broken (File line)) s k h = absurd s
+file_stop type_name file disk tree (top.TypeNotFound n) rose (Broken (File line)) s k h = absurd s
+file_stop type_name file disk tree top.TooDeep rose (Broken (File line)) s k h = absurd s
+file_stop type_name file disk tree top.NoMemory rose (Broken (File line)) s k h = absurd s
+file_stop type_name file disk tree top.NotBuilt rose (Broken (File line)) s k h = absurd s
+file_stop type_name file disk tree error rose (Broken Path) s k h = absurd s
+file_stop type_name file disk tree error rose (Broken Output) s k h = absurd s
+file_stop type_name file disk tree error rose NoMemory s k h = tt
 
 fault_rose : (rose : Type 0) (error : ErrorKind) → is_fault error ≡ true → IsCaused rose (top.File error) → rose
 fault_rose rose (kinds.Parse e) f c = absurd (cc)
@@ -196,6 +197,22 @@ of_disk {D = D} faults at_end a b x y error e k h =
     let P : D → Type 0 = λ d. IsCaused (Rose (faults d) (faults y) (at_end y)) error in
     let Q : D → Type 0 = λ d. IsCaused (Rose (faults a) (faults d) (at_end d)) error in
     subst Q (sym k) (subst P e h)
+
+-- what is kept of the resolver that is handed back
+pub resolver_kept : {R : Type 0} (tells : R → Bool) (files : R → List ℕ → Told) (resolves : R → List ℕ → Option (List ℕ)) (holds : R → List Component → Held) (a b x y : R) → x ≡ a → b ≡ y → Keeps tells files resolves holds x y → Keeps tells files resolves holds a b
+resolver_kept {R = R} tells files resolves holds a b x y e k h =
+    let P : R → Type 0 = λ r. Keeps tells files resolves holds r y in
+    let Q : R → Type 0 = λ r. Keeps tells files resolves holds a r in
+    subst Q (sym k) (subst P e h)
+
+pub resolver_same : {R : Type 0} (tells : R → Bool) (files : R → List ℕ → Told) (resolves : R → List ℕ → Option (List ℕ)) (holds : R → List Component → Held) (a b : R) → b ≡ a → Keeps tells files resolves holds a b
+resolver_same {R = R} tells files resolves holds a b e =
+    let P : R → Type 0 = λ r. Keeps tells files resolves holds a r in
+    subst P (sym e) (record { tells = refl; files = λ t. refl; resolves = λ t. refl; disk = λ t. refl })
+
+-- and of the disk below the folder
+pub disk_kept : {D X : Type 0} (f : D → X) (r s : Include D) (disk later : D) (include : List ℕ) → r ≡ record { include = include; disk = disk } → later ≡ s.disk → f s.disk ≡ f r.disk → f later ≡ f disk
+disk_kept f r s disk later include e k h = ap f k ∙ h ∙ ap (λ x. f x.disk) e
 
 -- the cause that an error of a walk has over every resolver
 pub walk_caused : (most : ℕ) (path : List ℕ) (later : List Done) (rose : Type 0) (error : ErrorKind) → HasOpeningCause most path later rose error → IsCaused rose (of_error error)
@@ -242,25 +259,25 @@ pool_caused rose name tree files top.NoMemory h = tt
 pool_caused rose name tree files top.NotBuilt h = tt
 
 -- the input ended the run
-pub input_judged : (args : Args) (lookups : List ℕ → Lookup) (input : List ℕ) (stop : Stop) → IsInputStop input stop → PlanStops args lookups input stop
-input_judged args lookups input Words h = absurd h
-input_judged args lookups input (Refused TooLong) h = h
-input_judged args lookups input (Refused NotJson) h = h
-input_judged args lookups input (Refused (Top line)) h = absurd h
-input_judged args lookups input (Broken Input) h = tt
-input_judged args lookups input (Broken (File line)) h = absurd h
-input_judged args lookups input (Broken Path) h = absurd h
-input_judged args lookups input (Broken Output) h = absurd h
-input_judged args lookups input NoMemory h = tt
+pub input_judged : (args : Args) (disk : List Component → Held) (input : List ℕ) (stop : Stop) → IsInputStop input stop → PlanStops args disk input stop
+input_judged args disk input Words h = absurd h
+input_judged args disk input (Refused TooLong) h = h
+input_judged args disk input (Refused NotJson) h = h
+input_judged args disk input (Refused (Top line)) h = absurd h
+input_judged args disk input (Broken Input) h = tt
+input_judged args disk input (Broken (File line)) h = absurd h
+input_judged args disk input (Broken Path) h = absurd h
+input_judged args disk input (Broken Output) h = absurd h
+input_judged args disk input NoMemory h = tt
 
 -- a file, the type's name or the tree ended the run
-pub file_judged : (args : Args) (lookups : List ℕ → Lookup) (input : List ℕ) (tree : Data) (stop : Stop) → length input ≤ limit → json_of input ≡ Some tree → IsFileStop args.type_name args.file lookups tree stop → PlanStops args lookups input stop
-file_judged args lookups input tree Words short is h = absurd h
-file_judged args lookups input tree (Refused TooLong) short is h = absurd h
-file_judged args lookups input tree (Refused NotJson) short is h = absurd h
-file_judged args lookups input tree (Refused (Top line)) short is h = (short, (tree, is, h))
-file_judged args lookups input tree (Broken Input) short is h = absurd h
-file_judged args lookups input tree (Broken (File line)) short is h = h
-file_judged args lookups input tree (Broken Path) short is h = absurd h
-file_judged args lookups input tree (Broken Output) short is h = absurd h
-file_judged args lookups input tree NoMemory short is h = tt
+pub file_judged : (args : Args) (disk : List Component → Held) (input : List ℕ) (tree : Data) (stop : Stop) → length input ≤ limit → json_of input ≡ Some tree → IsFileStop args.type_name args.file disk tree stop → PlanStops args disk input stop
+file_judged args disk input tree Words short is h = absurd h
+file_judged args disk input tree (Refused TooLong) short is h = absurd h
+file_judged args disk input tree (Refused NotJson) short is h = absurd h
+file_judged args disk input tree (Refused (Top line)) short is h = (short, (tree, is, h))
+file_judged args disk input tree (Broken Input) short is h = absurd h
+file_judged args disk input tree (Broken (File line)) short is h = h
+file_judged args disk input tree (Broken Path) short is h = absurd h
+file_judged args disk input tree (Broken Output) short is h = absurd h
+file_judged args disk input tree NoMemory short is h = tt

@@ -8,7 +8,7 @@ use Rattle.serde_json.specs.Written.{compact_text}
 use Rattle.protox_io.specs.Disk.{Held}
 use Rattle.protox_io.specs.Paths.{Component}
 use Rattle.protox_paths.specs.Paths.{resolved}
-use Rattle.protox_file.specs.Told.{Lookup, AreLookups, told_below}
+use Rattle.protox_file.specs.Told.{Told, told_below}
 use Rattle.protox.specs.Top.{ForFiles, IsTranscoded, Refuses, is_refusal, top_line}
 use Rattle.protox.specs.Words.{Args}
 use Rattle.protox.specs.declared.error.TopError.{TopError}
@@ -23,9 +23,9 @@ limit = 1073741824
 abbrev pub folder : List ℕ
 folder = codes "."
 
--- what looking each name up in the folder comes to, on a disk that has this at each key
-abbrev pub AreRead : (List Component → Held) → (List ℕ → Lookup) → Type 0
-AreRead disk lookups = AreLookups (told_below disk folder) lookups
+-- what the folder tells of each name, on a disk that has this at each key
+abbrev pub told_on : (List Component → Held) → List ℕ → Told
+told_on disk = told_below disk folder
 
 -- the tree of a JSON text in UTF-8 (RFC 8259), nested at most 127 deep
 abbrev pub json_of : List ℕ → Option Data
@@ -36,24 +36,25 @@ abbrev pub ForTree : List ℕ → (Data → Type 0) → Type 0
 ForTree input P = (length input ≤ limit) × ((tree : Data) × (json_of input ≡ Some tree) × P tree)
 
 -- the wire bytes and the text that a tree is transcoded to, as a message of the type of that name in the file and all that it imports
-abbrev pub Gives : List ℕ → List ℕ → (List ℕ → Lookup) → Data → List ℕ → List ℕ → Type 0
-Gives type_name file lookups tree wire text =
+abbrev pub Gives : List ℕ → List ℕ → (List Component → Held) → Data → List ℕ → List ℕ → Type 0
+Gives type_name file disk tree wire text =
     (set : List ℕ) × (written : Data)
-    × ForFiles lookups (resolved folder) (file ∷ []) (λ files. IsTranscoded type_name tree files set wire written) × (text ≡ compact_text written)
+    × ForFiles (told_on disk) (resolved folder) (file ∷ []) (λ files. IsTranscoded type_name tree files set wire written) × (text ≡ compact_text written)
 
 -- the line of a refusal of the file, the type's name or the tree
-abbrev pub RefusedWith : List ℕ → List ℕ → (List ℕ → Lookup) → Data → List ℕ → Type 0
-RefusedWith type_name file lookups tree line =
-    (error : TopError) × (is_refusal error ≡ true) × Refuses lookups (resolved folder) (file ∷ []) type_name tree error × (line ≡ concat (top_line error))
+abbrev pub RefusedWith : List ℕ → List ℕ → (List Component → Held) → Data → List ℕ → Type 0
+RefusedWith type_name file disk tree line =
+    (error : TopError) × (is_refusal error ≡ true) × Refuses (told_on disk) (resolved folder) (file ∷ []) type_name tree error
+    × (line ≡ concat (top_line error))
 
 -- what a run comes to: these wire bytes and this text, or this refusal
 pub data Ending : Type 0 where
   Done : List ℕ → List ℕ → Ending
   Refusing : Refusal → Ending
 
--- in the order of refusals, where the names of files look up to this
-abbrev pub Judges : Args → (List ℕ → Lookup) → List ℕ → Ending → Type 0
-Judges args lookups input (Refusing TooLong) = limit < length input
-Judges args lookups input (Refusing NotJson) = (length input ≤ limit) × (json_of input ≡ None)
-Judges args lookups input (Refusing (Top line)) = ForTree input (λ tree. RefusedWith args.type_name args.file lookups tree line)
-Judges args lookups input (Done wire text) = ForTree input (λ tree. Gives args.type_name args.file lookups tree wire text)
+-- in the order of refusals, on a disk that has this at each key
+abbrev pub Judges : Args → (List Component → Held) → List ℕ → Ending → Type 0
+Judges args disk input (Refusing TooLong) = limit < length input
+Judges args disk input (Refusing NotJson) = (length input ≤ limit) × (json_of input ≡ None)
+Judges args disk input (Refusing (Top line)) = ForTree input (λ tree. RefusedWith args.type_name args.file disk tree line)
+Judges args disk input (Done wire text) = ForTree input (λ tree. Gives args.type_name args.file disk tree wire text)

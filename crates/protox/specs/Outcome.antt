@@ -3,7 +3,6 @@ use Rattle.std.specs.Prelude.{◌≡◌, ◌∷◌, ◌++◌, [], ℕ, List, Opt
 use Rattle.std.specs.List.{concat}
 use Rattle.protox_io.specs.Disk.{Held, Stored}
 use Rattle.protox_io.specs.Paths.{Component, disk_key}
-use Rattle.protox_file.specs.Told.{Lookup}
 use Rattle.protox.specs.Words.{Args, args_of}
 use Rattle.protox.specs.Class.{Ending, Done, Refusing, Judges}
 use Rattle.protox.specs.declared.stop.Refusal.{Refusal}
@@ -41,11 +40,11 @@ Leaves args disk (Done wire text) status out later line =
 Leaves args disk (Refusing refusal) status out later line =
     (status ≡ 1) × (out ≡ []) × Same disk later × (line ≡ error_line (refusal_line refusal))
 
-abbrev pub Obeys : Option Args → (List ℕ → Lookup) → (List Component → Held) → List ℕ → ℕ → List ℕ → (List Component → Held) → List ℕ → Type 0
-Obeys None lookups disk input status out later line = (status ≡ 2) × (out ≡ []) × Same disk later × (line ≡ error_line words_line)
-Obeys (Some args) lookups disk input status out later line =
-    (ending : Ending) × Judges args lookups input ending × Leaves args disk ending status out later line
+abbrev pub Obeys : Option Args → (List Component → Held) → List ℕ → ℕ → List ℕ → (List Component → Held) → List ℕ → Type 0
+Obeys None disk input status out later line = (status ≡ 2) × (out ≡ []) × Same disk later × (line ≡ error_line words_line)
+Obeys (Some args) disk input status out later line =
+    (ending : Ending) × Judges args disk input ending × Leaves args disk ending status out later line
 
--- words, disk and input come to this status, these bytes on out, this disk and this line on err, where the names of files look up to this
-abbrev pub Outcome : List (List ℕ) → (List ℕ → Lookup) → (List Component → Held) → List ℕ → ℕ → List ℕ → (List Component → Held) → List ℕ → Type 0
-Outcome words lookups disk input status out later line = Obeys (args_of words) lookups disk input status out later line
+-- words, disk and input come to this status, these bytes on out, this disk and this line on err
+abbrev pub Outcome : List (List ℕ) → (List Component → Held) → List ℕ → ℕ → List ℕ → (List Component → Held) → List ℕ → Type 0
+Outcome words disk input status out later line = Obeys (args_of words) disk input status out later line

@@ -13,7 +13,8 @@ use Rattle.pbx_described.specs.Descriptors.{Described, message_of_name}
 use Rattle.pbx_json.specs.Canonical.{canonical}
 use Rattle.pbx_json.specs.Named.{IsWellNamed}
 use Rattle.pbx_json.specs.Stands.{Stands}
-use Rattle.protox_file.specs.Told.{Lookup}
+use Rattle.protox_io.specs.Disk.{Held}
+use Rattle.protox_io.specs.Paths.{Component}
 use Rattle.protox_file.specs.Lines.{long_line_of}
 use Rattle.protox.specs.Thin.{is_thin}
 use Rattle.protox.specs.Top.{IsUnbuilt, IsUndecodable, is_fault, is_refusal, top_line}
@@ -93,16 +94,16 @@ IsInputStop input (Broken Output) = ⊥
 IsInputStop input NoMemory = Unit {0}
 
 -- the file, the type's name or the tree ended the run
-abbrev pub IsFileStop : List ℕ → List ℕ → (List ℕ → Lookup) → Data → Stop → Type 0
-IsFileStop type_name file lookups tree Words = ⊥
-IsFileStop type_name file lookups tree (Refused TooLong) = ⊥
-IsFileStop type_name file lookups tree (Refused NotJson) = ⊥
-IsFileStop type_name file lookups tree (Refused (Top line)) = RefusedWith type_name file lookups tree line
-IsFileStop type_name file lookups tree (Broken Input) = ⊥
-IsFileStop type_name file lookups tree (Broken (File line)) = IsFaultLine line
-IsFileStop type_name file lookups tree (Broken Path) = ⊥
-IsFileStop type_name file lookups tree (Broken Output) = ⊥
-IsFileStop type_name file lookups tree NoMemory = Unit {0}
+abbrev pub IsFileStop : List ℕ → List ℕ → (List Component → Held) → Data → Stop → Type 0
+IsFileStop type_name file disk tree Words = ⊥
+IsFileStop type_name file disk tree (Refused TooLong) = ⊥
+IsFileStop type_name file disk tree (Refused NotJson) = ⊥
+IsFileStop type_name file disk tree (Refused (Top line)) = RefusedWith type_name file disk tree line
+IsFileStop type_name file disk tree (Broken Input) = ⊥
+IsFileStop type_name file disk tree (Broken (File line)) = IsFaultLine line
+IsFileStop type_name file disk tree (Broken Path) = ⊥
+IsFileStop type_name file disk tree (Broken Output) = ⊥
+IsFileStop type_name file disk tree NoMemory = Unit {0}
 
 -- a fault of reading a file, with its line
 abbrev pub IsFaultOf : TopError → List ℕ → Type 0

@@ -4,7 +4,6 @@ use Rattle.std.specs.List.{concat}
 use Rattle.protox_io.specs.Disk.{Held, Stored}
 use Rattle.protox_io.specs.Paths.{Component, disk_key}
 use Rattle.protox_io.specs.Sink.{Appends, Begins}
-use Rattle.protox_file.specs.Told.{Lookup}
 use Rattle.protox_file.specs.Lines.{long_line_of}
 use Rattle.protox_file.specs.declared.error.ErrorKind.{ErrorKind}
 use Rattle.protox.specs.Top.{is_resolver_fault}
@@ -32,29 +31,30 @@ pub record Carrying (path wire text : List ℕ) (disk later : List Component →
   pub state : (path_refused × (out ≡ [])) ⊎ ((later (disk_key path) ≡ Stored wire) × out_refused × Begins out (text ++ codes "\n"))
 
 -- all was read and accepted, and the writing was begun
-pub record Midway (args : Args) (lookups : List ℕ → Lookup) (disk : List Component → Held) (input : List ℕ) (later : List Component → Held) (out : List ℕ) (path_refused out_refused : Type 0) : Type 0 where
+pub record Midway (args : Args) (disk : List Component → Held) (input : List ℕ) (later : List Component → Held) (out : List ℕ)
+    (path_refused out_refused : Type 0) : Type 0 where
   pub wire : List ℕ
   pub text : List ℕ
-  pub ends : Judges args lookups input (Done wire text)
+  pub ends : Judges args disk input (Done wire text)
   pub carrying : Carrying args.path wire text disk later out path_refused out_refused
 
 -- where a stop leaves a run
-abbrev pub Leftover : Option Args → (List ℕ → Lookup) → (List Component → Held) → List ℕ → (List Component → Held) → List ℕ → Type 0 → Type 0 → Type 0
-Leftover None lookups disk input later out path_refused out_refused = Untouched disk later out
-Leftover (Some args) lookups disk input later out path_refused out_refused =
-    Untouched disk later out ⊎ Midway args lookups disk input later out path_refused out_refused
+abbrev pub Leftover : Option Args → (List Component → Held) → List ℕ → (List Component → Held) → List ℕ → Type 0 → Type 0 → Type 0
+Leftover None disk input later out path_refused out_refused = Untouched disk later out
+Leftover (Some args) disk input later out path_refused out_refused =
+    Untouched disk later out ⊎ Midway args disk input later out path_refused out_refused
 
 -- Faulty words end a run before anything is read. A fault of reading says which file could not be read and why; a write comes only where
 -- all was read and accepted.
-abbrev pub Reached : Option Args → (List ℕ → Lookup) → List ℕ → Object → Type 0
-Reached None lookups input Input = ⊥
-Reached (Some args) lookups input Input = Unit {0}
-Reached None lookups input (File line) = ⊥
-Reached (Some args) lookups input (File line) = IsFaultLine line
-Reached None lookups input Path = ⊥
-Reached (Some args) lookups input Path = (wire : List ℕ) × (text : List ℕ) × Judges args lookups input (Done wire text)
-Reached None lookups input Output = ⊥
-Reached (Some args) lookups input Output = (wire : List ℕ) × (text : List ℕ) × Judges args lookups input (Done wire text)
+abbrev pub Reached : Option Args → (List Component → Held) → List ℕ → Object → Type 0
+Reached None disk input Input = ⊥
+Reached (Some args) disk input Input = Unit {0}
+Reached None disk input (File line) = ⊥
+Reached (Some args) disk input (File line) = IsFaultLine line
+Reached None disk input Path = ⊥
+Reached (Some args) disk input Path = (wire : List ℕ) × (text : List ℕ) × Judges args disk input (Done wire text)
+Reached None disk input Output = ⊥
+Reached (Some args) disk input Output = (wire : List ℕ) × (text : List ℕ) × Judges args disk input (Done wire text)
 
 -- the count of the object rose
 abbrev pub RoseOf : Type 0 → Type 0 → Type 0 → Object → Type 0
@@ -100,14 +100,14 @@ Says tells refused old new whole = IsTrue tells → Appends old new (λ said. Be
 -- The parts of a run.
 
 -- what a stop before any write says of what was read
-abbrev pub PlanStops : Args → (List ℕ → Lookup) → List ℕ → Stop → Type 0
-PlanStops args lookups input Words = ⊥
-PlanStops args lookups input (Refused refusal) = Judges args lookups input (Refusing refusal)
-PlanStops args lookups input (Broken Input) = Unit {0}
-PlanStops args lookups input (Broken (File line)) = IsFaultLine line
-PlanStops args lookups input (Broken Path) = ⊥
-PlanStops args lookups input (Broken Output) = ⊥
-PlanStops args lookups input NoMemory = Unit {0}
+abbrev pub PlanStops : Args → (List Component → Held) → List ℕ → Stop → Type 0
+PlanStops args disk input Words = ⊥
+PlanStops args disk input (Refused refusal) = Judges args disk input (Refusing refusal)
+PlanStops args disk input (Broken Input) = Unit {0}
+PlanStops args disk input (Broken (File line)) = IsFaultLine line
+PlanStops args disk input (Broken Path) = ⊥
+PlanStops args disk input (Broken Output) = ⊥
+PlanStops args disk input NoMemory = Unit {0}
 
 -- a stop of a run with arguments is none for its words; one by an object has that object's count as its cause
 abbrev pub Caused : Type 0 → Type 0 → Type 0 → Stop → Type 0
@@ -132,30 +132,31 @@ pub record Carried (path wire text : List ℕ) (disk later : List Component → 
   pub others : SameBut (disk_key path) disk later
   pub printed : out ≡ text ++ codes "\n"
 
-abbrev pub Carries : {T : Type 0} → List ℕ → List ℕ → List ℕ → (List Component → Held) → (List Component → Held) → Type 0 → Type 0 → Result T Stop → List ℕ → Type 0
+abbrev pub Carries : {T : Type 0} → List ℕ → List ℕ → List ℕ → (List Component → Held) → (List Component → Held) → Type 0 → Type 0 → Result T Stop
+    → List ℕ → Type 0
 Carries path wire text disk later rose refused (Ok x) out = Carried path wire text disk later out
 Carries path wire text disk later rose refused (Err stop) out = CarryStops path wire text disk later out rose refused stop
 
 -- what a stop of a run with these arguments leaves
-abbrev pub WorkStops : Args → (List ℕ → Lookup) → (List Component → Held) → List ℕ → (List Component → Held) → List ℕ → Type 0 → Type 0 → Stop → Type 0
-WorkStops args lookups disk input later out rose refused Words = ⊥
-WorkStops args lookups disk input later out rose refused (Refused refusal) = Judges args lookups input (Refusing refusal) × Untouched disk later out
-WorkStops args lookups disk input later out rose refused (Broken Input) = Untouched disk later out
-WorkStops args lookups disk input later out rose refused (Broken (File line)) = IsFaultLine line × Untouched disk later out
-WorkStops args lookups disk input later out rose refused (Broken Path) = Midway args lookups disk input later out rose refused
-WorkStops args lookups disk input later out rose refused (Broken Output) = Midway args lookups disk input later out rose refused
-WorkStops args lookups disk input later out rose refused NoMemory = Untouched disk later out ⊎ Midway args lookups disk input later out (Unit {0}) refused
+abbrev pub WorkStops : Args → (List Component → Held) → List ℕ → (List Component → Held) → List ℕ → Type 0 → Type 0 → Stop → Type 0
+WorkStops args disk input later out rose refused Words = ⊥
+WorkStops args disk input later out rose refused (Refused refusal) = Judges args disk input (Refusing refusal) × Untouched disk later out
+WorkStops args disk input later out rose refused (Broken Input) = Untouched disk later out
+WorkStops args disk input later out rose refused (Broken (File line)) = IsFaultLine line × Untouched disk later out
+WorkStops args disk input later out rose refused (Broken Path) = Midway args disk input later out rose refused
+WorkStops args disk input later out rose refused (Broken Output) = Midway args disk input later out rose refused
+WorkStops args disk input later out rose refused NoMemory = Untouched disk later out ⊎ Midway args disk input later out (Unit {0}) refused
 
 -- all was read, accepted and written
-pub record Finished (args : Args) (lookups : List ℕ → Lookup) (disk : List Component → Held) (input : List ℕ) (later : List Component → Held) (out : List ℕ) : Type 0 where
+pub record Finished (args : Args) (disk : List Component → Held) (input : List ℕ) (later : List Component → Held) (out : List ℕ) : Type 0 where
   pub wire : List ℕ
   pub text : List ℕ
-  pub ends : Judges args lookups input (Done wire text)
+  pub ends : Judges args disk input (Done wire text)
   pub carried : Carried args.path wire text disk later out
 
-abbrev pub Works : {T : Type 0} → Args → (List ℕ → Lookup) → (List Component → Held) → List ℕ → (List Component → Held) → Type 0 → Type 0 → Result T Stop → List ℕ → Type 0
-Works args lookups disk input later rose refused (Ok x) out = Finished args lookups disk input later out
-Works args lookups disk input later rose refused (Err stop) out = WorkStops args lookups disk input later out rose refused stop
+abbrev pub Works : {T : Type 0} → Args → (List Component → Held) → List ℕ → (List Component → Held) → Type 0 → Type 0 → Result T Stop → List ℕ → Type 0
+Works args disk input later rose refused (Ok x) out = Finished args disk input later out
+Works args disk input later rose refused (Err stop) out = WorkStops args disk input later out rose refused stop
 
 -- without arguments
 abbrev pub WordStops : (List Component → Held) → (List Component → Held) → List ℕ → Stop → Type 0
@@ -178,10 +179,10 @@ EndsFor None disk input out (Err stop) = IsWordStop stop
 EndsFor (Some args) disk input out (Ok x) = Unit {0}
 EndsFor (Some args) disk input out (Err stop) = Caused disk input out stop
 
-abbrev pub Comes : {T : Type 0} → Option Args → (List ℕ → Lookup) → (List Component → Held) → List ℕ → (List Component → Held) → Type 0 → Type 0 → Result T Stop → List ℕ → Type 0
-Comes None lookups disk input later rose refused (Ok x) out = ⊥
-Comes None lookups disk input later rose refused (Err stop) out = WordStops disk later out stop
-Comes (Some args) lookups disk input later rose refused result out = Works args lookups disk input later rose refused result out
+abbrev pub Comes : {T : Type 0} → Option Args → (List Component → Held) → List ℕ → (List Component → Held) → Type 0 → Type 0 → Result T Stop → List ℕ → Type 0
+Comes None disk input later rose refused (Ok x) out = ⊥
+Comes None disk input later rose refused (Err stop) out = WordStops disk later out stop
+Comes (Some args) disk input later rose refused result out = Works args disk input later rose refused result out
 
 abbrev pub IsWireStop : Stop → Type 0
 IsWireStop Words = ⊥

@@ -21,7 +21,7 @@ use Rattle.pbx_definitions.specs.Names.{text_or_empty}
 use Rattle.pbx_described.specs.Descriptors.{Described, message_of_name}
 use Rattle.pbx_shapes.specs.Shapes.{shape_of, message_named}
 use Rattle.protox_file.specs.Lines.{long_line_of}
-use Rattle.protox_file.specs.Told.{Lookup}
+use Rattle.protox_file.specs.Told.{Told, ByLookups}
 use Rattle.protox_file.specs.declared.error.ErrorKind.{ErrorKind}
 use Rattle.protox_file.specs.declared.error.ErrorKind.TheVariants as kinds
 use Rattle.protox_compile.specs.Walk.{Done, records}
@@ -103,21 +103,22 @@ IsRefused name tree files NotBuilt = AreWithinLevels files × IsNotBuilt name tr
 IsRefused name tree files NoMemory = Unit {0}
 IsRefused name tree files error = ⊥
 
--- this holds of the linked files of the paths and of all that they import, each once and behind its imports
-abbrev pub ForFiles : (List ℕ → Lookup) → (List ℕ → Option (List ℕ)) → List (List ℕ) → (List FileDescriptorProto → Type 0) → Type 0
-ForFiles lookups resolves paths P =
-    (files : List Done) × (closure lookups resolves most_files paths [] ≡ (files, Accepted)) × P (records files)
+-- this holds of the linked files of the paths and of all that they import, each once and behind its imports, where this is told of names
+abbrev pub ForFiles : (List ℕ → Told) → (List ℕ → Option (List ℕ)) → List (List ℕ) → (List FileDescriptorProto → Type 0) → Type 0
+ForFiles told resolves paths P =
+    ByLookups told (λ lookups. (files : List Done) × (closure lookups resolves most_files paths [] ≡ (files, Accepted)) × P (records files))
 
 -- why the files of paths are refused: a fault of the walk, or else a file that nests more than 100 levels
-abbrev pub RefusesFiles : (List ℕ → Lookup) → (List ℕ → Option (List ℕ)) → List (List ℕ) → ErrorKind → Type 0
-RefusesFiles lookups resolves paths error =
-    ((later : List Done) × StopsAt lookups resolves most_files paths [] later error) ⊎ ForFiles lookups resolves paths (λ files. IsUndecodable files error)
+abbrev pub RefusesFiles : (List ℕ → Told) → (List ℕ → Option (List ℕ)) → List (List ℕ) → ErrorKind → Type 0
+RefusesFiles told resolves paths error =
+    ByLookups told (λ lookups. (later : List Done) × StopsAt lookups resolves most_files paths [] later error)
+    ⊎ ForFiles told resolves paths (λ files. IsUndecodable files error)
 
 -- why paths, a type's name and a tree are refused
-abbrev pub Refuses : (List ℕ → Lookup) → (List ℕ → Option (List ℕ)) → List (List ℕ) → List ℕ → Data → TopError → Type 0
-Refuses lookups resolves paths name tree (File error) = RefusesFiles lookups resolves paths error
-Refuses lookups resolves paths name tree NoMemory = Unit {0}
-Refuses lookups resolves paths name tree error = ForFiles lookups resolves paths (λ files. IsRefused name tree files error)
+abbrev pub Refuses : (List ℕ → Told) → (List ℕ → Option (List ℕ)) → List (List ℕ) → List ℕ → Data → TopError → Type 0
+Refuses told resolves paths name tree (File error) = RefusesFiles told resolves paths error
+Refuses told resolves paths name tree NoMemory = Unit {0}
+Refuses told resolves paths name tree error = ForFiles told resolves paths (λ files. IsRefused name tree files error)
 
 -- a fault of the resolver, or want of memory
 abbrev pub is_fault : ErrorKind → Bool

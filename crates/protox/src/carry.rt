@@ -46,8 +46,14 @@ pub(crate) fn carry<D: Disk, K: Sink>(
     out: &mut K,
     done: &Ready,
 ) -> Result<(), Stop>
-    ensures told { IsTrue (D.tells disk.old) → IsTrue (K.tells out.old) → Appends (K.held out.old) (K.held out.new) (Carries path.now done.now.wire (string_bytes done.now.text) (D.holds disk.old) (D.holds disk.new) (Rose (D.faults disk.old) (D.faults disk.new) (D.at_end disk.new)) (SinkRefuses (Rose (K.faults out.old) (K.faults out.new) (K.at_end out.new)) (K.short out.new)) result) }
-    ensures cause { IfErr result (Caused (Rose (D.faults disk.old) (D.faults disk.new) (D.at_end disk.new)) ⊥ (Rose (K.faults out.old) (K.faults out.new) (K.at_end out.new))) }
+    ensures told { IsTrue (D.tells disk.old) → IsTrue (K.tells out.old) →
+        Appends (K.held out.old) (K.held out.new)
+        (Carries path.now done.now.wire (string_bytes done.now.text) (D.holds disk.old) (D.holds disk.new)
+        (Rose (D.faults disk.old) (D.faults disk.new) (D.at_end disk.new))
+        (SinkRefuses (Rose (K.faults out.old) (K.faults out.new) (K.at_end out.new)) (K.short out.new)) result) }
+    ensures cause { IfErr result
+        (Caused (Rose (D.faults disk.old) (D.faults disk.new) (D.at_end disk.new)) ⊥
+        (Rose (K.faults out.old) (K.faults out.new) (K.at_end out.new))) }
     ensures later { D.faults disk.old ≤ D.faults disk.new }
 {
     match write_wire(alloc, path, disk, done.wire.as_slice()) {

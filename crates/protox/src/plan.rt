@@ -1,9 +1,8 @@
-ghost use Rattle.std.specs.Prelude.{◌≡◌, ◌≤◌, ◌∷◌, [], IfOk, IfErr, OnOk, IsTrue, length, string_bytes, Some, false, List, ℕ};
+ghost use Rattle.std.specs.Prelude.{◌≡◌, ◌≤◌, ◌∷◌, [], IfOk, IfErr, OnOk, IsTrue, length, string_bytes, Some, false};
 ghost use Rattle.protox_io.specs.Count.{Rose};
-ghost use Rattle.protox_file.specs.Told.{Lookup};
 ghost use Rattle.serde_json.specs.View.{view};
 ghost use Rattle.serde_json.specs.Written.{has_float, compact_text};
-ghost use Rattle.protox.specs.Class.{limit, Judges, Done, json_of, AreRead, Gives};
+ghost use Rattle.protox.specs.Class.{limit, Judges, Done, json_of, Gives};
 ghost use Rattle.protox.specs.Parts.{IsJsonStop, IsInputStop, IsFileStop, IsStopOf};
 ghost use Rattle.protox.specs.Stops.{PlanStops, Caused};
 
@@ -123,8 +122,9 @@ fn paths_of(alloc: Global, file: &str) -> Result<Texts, NoMemory>
 
 /// Compiles the file in the folder `.` with all that it imports, and transcodes the tree as a message of the type.
 fn compile<D: Disk>(alloc: Global, type_name: &str, file: &str, disk: D, tree: &Value) -> Planned<D>
-    ensures done { IsTrue (D.tells disk) → (lookups : List ℕ → Lookup) → AreRead (D.holds disk) lookups → IfOk result.result (λ ready. Gives type_name.now file.now lookups (view tree.now) ready.wire (string_bytes ready.text)) }
-    ensures stop { IsTrue (D.tells disk) → (lookups : List ℕ → Lookup) → AreRead (D.holds disk) lookups → IfErr result.result (IsFileStop type_name.now file.now lookups (view tree.now)) }
+    ensures done { IsTrue (D.tells disk) →
+        IfOk result.result (λ ready. Gives type_name.now file.now (D.holds disk) (view tree.now) ready.wire (string_bytes ready.text)) }
+    ensures stop { IsTrue (D.tells disk) → IfErr result.result (IsFileStop type_name.now file.now (D.holds disk) (view tree.now)) }
     ensures cause { IfErr result.result (Caused (Rose (D.faults disk) (D.faults result.disk) (D.at_end result.disk)) ⊥ ⊥) }
     ensures later { D.faults disk ≤ D.faults result.disk }
     ensures keeps_tells { D.tells result.disk ≡ D.tells disk }
@@ -170,10 +170,15 @@ pub(crate) fn plan<D: Disk, S: Source>(
     disk: D,
     input: &mut S,
 ) -> Planned<D>
-    ensures done { IsTrue (D.tells disk) → IsTrue (S.tells input.old) → (lookups : List ℕ → Lookup) → AreRead (D.holds disk) lookups → IfOk result.result (λ done. Judges (record { type_name = type_name.now; path = path.now; file = file.now }) lookups (S.left input.old) (Done done.wire (string_bytes done.text))) }
-    ensures stop { IsTrue (D.tells disk) → IsTrue (S.tells input.old) → (lookups : List ℕ → Lookup) → AreRead (D.holds disk) lookups → IfErr result.result (PlanStops (record { type_name = type_name.now; path = path.now; file = file.now }) lookups (S.left input.old)) }
+    ensures done { IsTrue (D.tells disk) → IsTrue (S.tells input.old) →
+        IfOk result.result (λ done. Judges (record { type_name = type_name.now; path = path.now; file = file.now }) (D.holds disk) (S.left input.old)
+        (Done done.wire (string_bytes done.text))) }
+    ensures stop { IsTrue (D.tells disk) → IsTrue (S.tells input.old) →
+        IfErr result.result (PlanStops (record { type_name = type_name.now; path = path.now; file = file.now }) (D.holds disk) (S.left input.old)) }
     ensures end { IsTrue (S.tells input.old) → OnOk result.result (S.left input.new ≡ []) }
-    ensures cause { IfErr result.result (Caused (Rose (D.faults disk) (D.faults result.disk) (D.at_end result.disk)) (Rose (S.faults input.old) (S.faults input.new) (S.at_end input.new)) ⊥) }
+    ensures cause { IfErr result.result
+        (Caused (Rose (D.faults disk) (D.faults result.disk) (D.at_end result.disk))
+        (Rose (S.faults input.old) (S.faults input.new) (S.at_end input.new)) ⊥) }
     ensures later { D.faults disk ≤ D.faults result.disk }
     ensures keeps_tells { D.tells result.disk ≡ D.tells disk }
     ensures keeps_holds { IsTrue (D.tells disk) → D.holds result.disk ≡ D.holds disk }

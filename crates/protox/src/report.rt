@@ -11,13 +11,15 @@ use protox_io::{Sink, write_pieces};
 
 /// Writes the pieces in a row; a refused write ends it.
 fn say<E: Sink>(err: &mut E, pieces: &[&[u8]])
-    ensures { Says (E.tells err.old) (SinkRefuses (Rose (E.faults err.old) (E.faults err.new) (E.at_end err.new)) (E.short err.new)) (E.held err.old) (E.held err.new) (flat_map (λ p. p.now) pieces.now) }
+    ensures { Says (E.tells err.old) (SinkRefuses (Rose (E.faults err.old) (E.faults err.new) (E.at_end err.new)) (E.short err.new)) (E.held err.old)
+        (E.held err.new) (flat_map (λ p. p.now) pieces.now) }
 {
     let _ = write_pieces(err, pieces);
 }
 
 fn say_refusal<E: Sink>(err: &mut E, refusal: &Refusal)
-    ensures { Says (E.tells err.old) (SinkRefuses (Rose (E.faults err.old) (E.faults err.new) (E.at_end err.new)) (E.short err.new)) (E.held err.old) (E.held err.new) (error_line (refusal_line refusal.now)) }
+    ensures { Says (E.tells err.old) (SinkRefuses (Rose (E.faults err.old) (E.faults err.new) (E.at_end err.new)) (E.short err.new)) (E.held err.old)
+        (E.held err.new) (error_line (refusal_line refusal.now)) }
 {
     match refusal {
         Refusal::TooLong => say(err, &[b"error: input is longer than 1073741824 bytes\n"]),
@@ -27,7 +29,8 @@ fn say_refusal<E: Sink>(err: &mut E, refusal: &Refusal)
 }
 
 fn say_object<E: Sink>(err: &mut E, words: &Texts, object: &Object)
-    ensures { Says (E.tells err.old) (SinkRefuses (Rose (E.faults err.old) (E.faults err.new) (E.at_end err.new)) (E.short err.new)) (E.held err.old) (E.held err.new) (error_line (object_line words.now object.now)) }
+    ensures { Says (E.tells err.old) (SinkRefuses (Rose (E.faults err.old) (E.faults err.new) (E.at_end err.new)) (E.short err.new)) (E.held err.old)
+        (E.held err.new) (error_line (object_line words.now object.now)) }
 {
     match object {
         Object::Input => say(err, &[b"error: reading input failed\n"]),
@@ -45,7 +48,8 @@ fn say_object<E: Sink>(err: &mut E, words: &Texts, object: &Object)
 }
 
 fn say_stop<E: Sink>(err: &mut E, words: &Texts, stop: &Stop)
-    ensures { Says (E.tells err.old) (SinkRefuses (Rose (E.faults err.old) (E.faults err.new) (E.at_end err.new)) (E.short err.new)) (E.held err.old) (E.held err.new) (error_line (stop_line words.now stop.now)) }
+    ensures { Says (E.tells err.old) (SinkRefuses (Rose (E.faults err.old) (E.faults err.new) (E.at_end err.new)) (E.short err.new)) (E.held err.old)
+        (E.held err.new) (error_line (stop_line words.now stop.now)) }
 {
     match stop {
         Stop::Words => say(err, &[b"error: words not built yet\n"]),
@@ -69,7 +73,8 @@ fn status(stop: &Stop) -> u8
 /// Says on err why the run ended, and gives its status.
 pub(crate) fn report<E: Sink>(err: &mut E, words: &Texts, ended: &Result<(), Stop>) -> u8
     ensures status { result ≡ status_of ended.now }
-    ensures said { Says (E.tells err.old) (SinkRefuses (Rose (E.faults err.old) (E.faults err.new) (E.at_end err.new)) (E.short err.new)) (E.held err.old) (E.held err.new) (line_of words.now ended.now) }
+    ensures said { Says (E.tells err.old) (SinkRefuses (Rose (E.faults err.old) (E.faults err.new) (E.at_end err.new)) (E.short err.new))
+        (E.held err.old) (E.held err.new) (line_of words.now ended.now) }
 {
     match ended {
         Ok(()) => 0,

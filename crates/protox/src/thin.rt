@@ -4,7 +4,8 @@ ghost use Rattle.std.specs.Prelude.{◌≡◌};
 ghost use Rattle.std.specs.List.{list_all};
 ghost use Rattle.pbx_definitions.specs.Says.{is_repeated as is_repeated_of, is_proto3 as is_proto3_of};
 ghost use Rattle.pbx_described.specs.Descriptors.{fields_of_message};
-ghost use Rattle.protox.specs.Thin.{is_well_known as is_well_known_of, is_thin_kind as is_thin_kind_of, is_thin_kind_told, has_own_name as has_own_name_of, is_thin_field as is_thin_field_of, is_thin as is_thin_of};
+ghost use Rattle.protox.specs.Thin.{is_well_known as is_well_known_of, is_thin_kind as is_thin_kind_of, is_thin_kind_told};
+ghost use Rattle.protox.specs.Thin.{has_own_name as has_own_name_of, is_thin_field as is_thin_field_of, is_thin as is_thin_of};
 
 use pbx_link::{Cardinality, FieldDescriptor, Kind, MessageDescriptor, Syntax};
 

@@ -1,10 +1,8 @@
 ghost use Rattle.std.specs.Prelude.{◌≡◌, ◌≤◌, [], ◌⊎◌, OnOk, IfErr, IsTrue, None, List, ℕ};
 ghost use Rattle.protox_io.specs.Count.{Rose};
 ghost use Rattle.protox_io.specs.Sink.{Appends};
-ghost use Rattle.protox_file.specs.Told.{Lookup};
 ghost use Rattle.protox.specs.Outcome.{Outcome, error_line};
 ghost use Rattle.protox.specs.Words.{args_of};
-ghost use Rattle.protox.specs.Class.{AreRead};
 ghost use Rattle.protox.specs.Stops.{Works, Comes, Caused, EndsFor, SinkRefuses, Says, RoseOf, Reached, Leftover, object_line, memory_line};
 ghost use Rattle.protox.specs.declared.stop.Object.{Object as AnObject};
 
@@ -40,8 +38,14 @@ fn work<D: Disk, S: Source, K: Sink>(
     input: &mut S,
     out: &mut K,
 ) -> Worked<D>
-    ensures told { IsTrue (D.tells disk) → IsTrue (S.tells input.old) → IsTrue (K.tells out.old) → (lookups : List ℕ → Lookup) → AreRead (D.holds disk) lookups → Appends (K.held out.old) (K.held out.new) (Works (record { type_name = type_name.now; path = path.now; file = file.now }) lookups (D.holds disk) (S.left input.old) (D.holds result.disk) (Rose (D.faults disk) (D.faults result.disk) (D.at_end result.disk)) (SinkRefuses (Rose (K.faults out.old) (K.faults out.new) (K.at_end out.new)) (K.short out.new)) result.ended) }
-    ensures cause { IfErr result.ended (Caused (Rose (D.faults disk) (D.faults result.disk) (D.at_end result.disk)) (Rose (S.faults input.old) (S.faults input.new) (S.at_end input.new)) (Rose (K.faults out.old) (K.faults out.new) (K.at_end out.new))) }
+    ensures told { IsTrue (D.tells disk) → IsTrue (S.tells input.old) → IsTrue (K.tells out.old) →
+        Appends (K.held out.old) (K.held out.new)
+        (Works (record { type_name = type_name.now; path = path.now; file = file.now }) (D.holds disk) (S.left input.old) (D.holds result.disk)
+        (Rose (D.faults disk) (D.faults result.disk) (D.at_end result.disk))
+        (SinkRefuses (Rose (K.faults out.old) (K.faults out.new) (K.at_end out.new)) (K.short out.new)) result.ended) }
+    ensures cause { IfErr result.ended
+        (Caused (Rose (D.faults disk) (D.faults result.disk) (D.at_end result.disk))
+        (Rose (S.faults input.old) (S.faults input.new) (S.at_end input.new)) (Rose (K.faults out.old) (K.faults out.new) (K.at_end out.new))) }
     ensures end { IsTrue (S.tells input.old) → OnOk result.ended (S.left input.new ≡ []) }
 {
     let Planned { disk, result } = plan(alloc, type_name, path, file, disk, input);
@@ -65,8 +69,14 @@ fn obey<D: Disk, S: Source, K: Sink>(
     input: &mut S,
     out: &mut K,
 ) -> Worked<D>
-    ensures told { IsTrue (D.tells disk) → IsTrue (S.tells input.old) → IsTrue (K.tells out.old) → (lookups : List ℕ → Lookup) → AreRead (D.holds disk) lookups → Appends (K.held out.old) (K.held out.new) (Comes (args_of words.now) lookups (D.holds disk) (S.left input.old) (D.holds result.disk) (Rose (D.faults disk) (D.faults result.disk) (D.at_end result.disk)) (SinkRefuses (Rose (K.faults out.old) (K.faults out.new) (K.at_end out.new)) (K.short out.new)) result.ended) }
-    ensures cause { EndsFor (args_of words.now) (Rose (D.faults disk) (D.faults result.disk) (D.at_end result.disk)) (Rose (S.faults input.old) (S.faults input.new) (S.at_end input.new)) (Rose (K.faults out.old) (K.faults out.new) (K.at_end out.new)) result.ended }
+    ensures told { IsTrue (D.tells disk) → IsTrue (S.tells input.old) → IsTrue (K.tells out.old) →
+        Appends (K.held out.old) (K.held out.new)
+        (Comes (args_of words.now) (D.holds disk) (S.left input.old) (D.holds result.disk)
+        (Rose (D.faults disk) (D.faults result.disk) (D.at_end result.disk))
+        (SinkRefuses (Rose (K.faults out.old) (K.faults out.new) (K.at_end out.new)) (K.short out.new)) result.ended) }
+    ensures cause { EndsFor (args_of words.now) (Rose (D.faults disk) (D.faults result.disk) (D.at_end result.disk))
+        (Rose (S.faults input.old) (S.faults input.new) (S.at_end input.new)) (Rose (K.faults out.old) (K.faults out.new) (K.at_end out.new))
+        result.ended }
     ensures end { IsTrue (S.tells input.old) → OnOk result.ended (S.left input.new ≡ []) }
 {
     match read_args(alloc, words) {
@@ -99,28 +109,40 @@ pub fn run<D: Disk, S: Source, K: Sink, E: Sink>(
     ensures faulty { args_of words.now ≡ None → (result.status ≡ 2) ⊎ (result.status ≡ 4) }
 
     // A status of 0 to 2 is that of an outcome, whatever counts rose.
-    ensures outcome { IsTrue (D.tells disk) → IsTrue (S.tells input.old) → IsTrue (K.tells out.old) → (lookups : List ℕ → Lookup) → AreRead (D.holds disk) lookups → result.status ≤ 2 →
+    ensures outcome { IsTrue (D.tells disk) → IsTrue (S.tells input.old) → IsTrue (K.tells out.old) → result.status ≤ 2 →
         (line : List ℕ)
-        × Appends (K.held out.old) (K.held out.new) (λ printed. Outcome words.now lookups (D.holds disk) (S.left input.old) result.status printed (D.holds result.disk) line)
-        × Says (E.tells err.old) (SinkRefuses (Rose (E.faults err.old) (E.faults err.new) (E.at_end err.new)) (E.short err.new)) (E.held err.old) (E.held err.new) line }
+        × Appends (K.held out.old) (K.held out.new)
+        (λ printed. Outcome words.now (D.holds disk) (S.left input.old) result.status printed (D.holds result.disk) line)
+        × Says (E.tells err.old) (SinkRefuses (Rose (E.faults err.old) (E.faults err.new) (E.at_end err.new)) (E.short err.new)) (E.held err.old)
+        (E.held err.new) line }
 
     // Over what tells, with no count that rose and memory enough for err, it is an outcome or want of memory.
-    ensures quiet { IsTrue (D.tells disk) → IsTrue (S.tells input.old) → IsTrue (K.tells out.old) → IsTrue (E.tells err.old) → (lookups : List ℕ → Lookup) → AreRead (D.holds disk) lookups →
-        ¬ (Rose (D.faults disk) (D.faults result.disk) (D.at_end result.disk)) → ¬ (Rose (S.faults input.old) (S.faults input.new) (S.at_end input.new)) → ¬ (Rose (K.faults out.old) (K.faults out.new) (K.at_end out.new)) → ¬ (SinkRefuses (Rose (E.faults err.old) (E.faults err.new) (E.at_end err.new)) (E.short err.new)) →
-        (result.status ≡ 4) ⊎ (Appends (K.held out.old) (K.held out.new) (λ printed. Appends (E.held err.old) (E.held err.new) (λ line. Outcome words.now lookups (D.holds disk) (S.left input.old) result.status printed (D.holds result.disk) line))) }
+    ensures quiet { IsTrue (D.tells disk) → IsTrue (S.tells input.old) → IsTrue (K.tells out.old) → IsTrue (E.tells err.old) →
+        ¬ (Rose (D.faults disk) (D.faults result.disk) (D.at_end result.disk)) →
+        ¬ (Rose (S.faults input.old) (S.faults input.new) (S.at_end input.new)) →
+        ¬ (Rose (K.faults out.old) (K.faults out.new) (K.at_end out.new)) →
+        ¬ (SinkRefuses (Rose (E.faults err.old) (E.faults err.new) (E.at_end err.new)) (E.short err.new)) →
+        (result.status ≡ 4) ⊎ (Appends (K.held out.old) (K.held out.new)
+        (λ printed. Appends (E.held err.old) (E.held err.new)
+        (λ line. Outcome words.now (D.holds disk) (S.left input.old) result.status printed (D.holds result.disk) line))) }
 
     // Status 3 names an object whose count rose.
     ensures fault { result.status ≡ 3 →
         (object : AnObject)
-        × RoseOf (Rose (D.faults disk) (D.faults result.disk) (D.at_end result.disk)) (Rose (S.faults input.old) (S.faults input.new) (S.at_end input.new)) (Rose (K.faults out.old) (K.faults out.new) (K.at_end out.new)) object
-        × (IsTrue (D.tells disk) → IsTrue (S.tells input.old) → IsTrue (K.tells out.old) → (lookups : List ℕ → Lookup) → AreRead (D.holds disk) lookups → Reached (args_of words.now) lookups (S.left input.old) object)
-        × Says (E.tells err.old) (SinkRefuses (Rose (E.faults err.old) (E.faults err.new) (E.at_end err.new)) (E.short err.new)) (E.held err.old) (E.held err.new) (error_line (object_line words.now object)) }
+        × RoseOf (Rose (D.faults disk) (D.faults result.disk) (D.at_end result.disk))
+        (Rose (S.faults input.old) (S.faults input.new) (S.at_end input.new)) (Rose (K.faults out.old) (K.faults out.new) (K.at_end out.new))
+        object
+        × (IsTrue (D.tells disk) → IsTrue (S.tells input.old) → IsTrue (K.tells out.old) → Reached (args_of words.now) (D.holds disk) (S.left input.old) object)
+        × Says (E.tells err.old) (SinkRefuses (Rose (E.faults err.old) (E.faults err.new) (E.at_end err.new)) (E.short err.new)) (E.held err.old)
+        (E.held err.new) (error_line (object_line words.now object)) }
 
-    ensures memory { result.status ≡ 4 → Says (E.tells err.old) (SinkRefuses (Rose (E.faults err.old) (E.faults err.new) (E.at_end err.new)) (E.short err.new)) (E.held err.old) (E.held err.new) (error_line memory_line) }
+    ensures memory { result.status ≡ 4 →
+        Says (E.tells err.old) (SinkRefuses (Rose (E.faults err.old) (E.faults err.new) (E.at_end err.new)) (E.short err.new)) (E.held err.old)
+        (E.held err.new) (error_line memory_line) }
 
     // What a status of 3 or 4 leaves.
-    ensures stopped { IsTrue (D.tells disk) → IsTrue (S.tells input.old) → IsTrue (K.tells out.old) → (lookups : List ℕ → Lookup) → AreRead (D.holds disk) lookups → 3 ≤ result.status →
-        Appends (K.held out.old) (K.held out.new) (λ printed. Leftover (args_of words.now) lookups (D.holds disk) (S.left input.old) (D.holds result.disk) printed
+    ensures stopped { IsTrue (D.tells disk) → IsTrue (S.tells input.old) → IsTrue (K.tells out.old) → 3 ≤ result.status →
+        Appends (K.held out.old) (K.held out.new) (λ printed. Leftover (args_of words.now) (D.holds disk) (S.left input.old) (D.holds result.disk) printed
         (Rose (D.faults disk) (D.faults result.disk) (D.at_end result.disk) ⊎ (result.status ≡ 4))
         (SinkRefuses (Rose (K.faults out.old) (K.faults out.new) (K.at_end out.new)) (K.short out.new))) }
 

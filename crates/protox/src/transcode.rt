@@ -1,6 +1,6 @@
 //! From files, a type's name and a tree to the set of the files, the wire bytes and the canonical tree.
 
-ghost use Rattle.std.specs.Prelude.{◌≡◌, ◌≤◌, ◌⊎◌, [], map, IfOk, IfErr, OnOk, IsSome, IsTrue, List, ℕ};
+ghost use Rattle.std.specs.Prelude.{◌≡◌, ◌≤◌, ◌⊎◌, [], map, IfOk, IfErr, OnOk, IsSome, IsTrue, List};
 ghost use Rattle.std.specs.List.{list_all};
 ghost use Rattle.std.specs.Str.{bytes_eq};
 ghost use Rattle.serde_json.specs.View.{view};
@@ -12,11 +12,12 @@ ghost use Rattle.pbx_pool_laws.specs.Pool.{ArePooled};
 ghost use Rattle.pbx_described.specs.Descriptors.{message_of_name};
 ghost use Rattle.pbx_shapes.specs.Shapes.{shape_of as shape_of_files};
 ghost use Rattle.protox_io.specs.Count.{Rose};
-ghost use Rattle.protox_file.specs.Told.{Lookup, AreLookups};
 ghost use Rattle.protox_compile.specs.Walk.{Done, records};
 ghost use Rattle.protox_compile.specs.Compiled.{IsOrdered};
+ghost use Rattle.protox_compile.specs.State.{Keeps};
 ghost use Rattle.protox.specs.Parts.{IsBuilt, IsNotTold, IsNotWritten, IsWritten, IsThinAt, IsNotThin, IsNotShaped};
-ghost use Rattle.protox.specs.Top.{ForFiles, IsTranscoded, IsTypeTranscoded, IsRefused, Refuses, IsCaused, Transcodes, has_own_names as has_own_names_of, are_distinct};
+ghost use Rattle.protox.specs.Top.{ForFiles, IsTranscoded, IsTypeTranscoded, IsRefused, Refuses, IsCaused, Transcodes};
+ghost use Rattle.protox.specs.Top.{has_own_names as has_own_names_of, are_distinct};
 
 use crate::error::{TopError, file_error};
 use crate::set::set_of;
@@ -229,17 +230,17 @@ pub fn compile_and_transcode<R: FileResolver>(
     tree: &Value,
 ) -> Attempt<R>
     // Over a resolver that tells, the files are the closure of the paths.
-    ensures ok { IsTrue (R.tells resolver) → (lookups : List ℕ → Lookup) → AreLookups (R.files resolver) lookups → IfOk result.result (λ done. ForFiles lookups (R.resolves resolver) paths.now (λ files. IsTranscoded type_name.now (view tree.now) files done.set done.wire (view done.tree))) }
-    ensures err { IsTrue (R.tells resolver) → (lookups : List ℕ → Lookup) → AreLookups (R.files resolver) lookups → IfErr result.result (Refuses lookups (R.resolves resolver) paths.now type_name.now (view tree.now)) }
+    ensures ok { IsTrue (R.tells resolver) → IfOk result.result (λ done. ForFiles (R.files resolver) (R.resolves resolver) paths.now
+        (λ files. IsTranscoded type_name.now (view tree.now) files done.set done.wire (view done.tree))) }
+    ensures err { IsTrue (R.tells resolver) → IfErr result.result (Refuses (R.files resolver) (R.resolves resolver) paths.now type_name.now (view tree.now)) }
     ensures cause { IfErr result.result (IsCaused (Rose (R.faults resolver) (R.faults result.resolver) (R.at_end result.resolver))) }
 
     // Over every resolver, the files stand in order, each once and behind its imports, and each is linked among those before it.
-    ensures ordered { IfOk result.result (λ done. (files : List Done) × IsOrdered [] files × ArePooled [] (records files) × IsTranscoded type_name.now (view tree.now) (records files) done.set done.wire (view done.tree)) }
+    ensures ordered { IfOk result.result
+        (λ done. (files : List Done) × IsOrdered [] files × ArePooled [] (records files)
+        × IsTranscoded type_name.now (view tree.now) (records files) done.set done.wire (view done.tree)) }
     ensures later { R.faults resolver ≤ R.faults result.resolver }
-    ensures keeps_tells { R.tells result.resolver ≡ R.tells resolver }
-    ensures keeps_files { IsTrue (R.tells resolver) → R.files result.resolver ≡ R.files resolver }
-    ensures keeps_resolves { IsTrue (R.tells resolver) → R.resolves result.resolver ≡ R.resolves resolver }
-    ensures keeps_disk { IsTrue (R.tells resolver) → R.disk result.resolver ≡ R.disk resolver }
+    ensures keeps { Keeps R.tells R.files R.resolves R.disk resolver result.resolver }
 {
     let mut compiler = match Compiler::with_file_resolver(alloc, resolver) {
         Ok(compiler) => compiler,

@@ -1,5 +1,6 @@
 ghost use Rattle.std.specs.Prelude.{◌≡◌, MatchOption, IfOk, Some, None};
-ghost use Rattle.protox.specs.Words.{args_of, path_word as path_word_of, begins_with_dash as begins_with_dash_of, is_file_name as is_file_name_of, is_the_word as is_the_word_of, are_options as are_options_of};
+ghost use Rattle.protox.specs.Words.{args_of, path_word as path_word_of, begins_with_dash as begins_with_dash_of};
+ghost use Rattle.protox.specs.Words.{is_file_name as is_file_name_of, is_the_word as is_the_word_of, are_options as are_options_of};
 
 use pbx_wire::{NoMemory, Text, Texts};
 use protox_file::path_to_file_name;
@@ -47,7 +48,9 @@ pub(crate) fn read_args<'w>(
     alloc: Global,
     words: &'w Texts,
 ) -> Result<Option<(&'w str, &'w str, &'w str)>, NoMemory>
-    ensures { IfOk result (λ args. MatchOption args (args_of words.now ≡ None) (λ a. args_of words.now ≡ Some (record { type_name = a.0.now; path = a.1.now; file = a.2.now }))) }
+    ensures { IfOk result
+        (λ args. MatchOption args (args_of words.now ≡ None)
+        (λ a. args_of words.now ≡ Some (record { type_name = a.0.now; path = a.1.now; file = a.2.now }))) }
 {
     match words.as_slice() {
         [type_option, type_name, wire_option, path, file] => {

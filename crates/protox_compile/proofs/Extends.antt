@@ -7,7 +7,7 @@ use Rattle.std.specs.Str.{bytes_eq}
 use Rattle.pbx_rules.specs.Breaches.{keeps_rules}
 use Rattle.pbx_definitions.specs.Names.{among}
 use Rattle.protox_paths.specs.Paths.{path_equal}
-use Rattle.protox_file.specs.Told.{Entry, Lookup, NoFile, IsFile, TextFault}
+use Rattle.protox_file.specs.Told.{Entry, Lookup, NoFile, IsFile, TextFault, Unread}
 use Rattle.protox_compile.specs.Places.{place_of_import}
 use Rattle.protox_compile.specs.Walk.{Done, Fault, Limit, Mismatch, Shadowed, Duplicate, Circular, Unlinked, Visited, Finished, Missing, Faulted, Open, records, imports_of, declared_name, done_as, is_done, chain_text, after_visit, visit_imports, finish, unless_shadowed, visit_lookup, visit, visits}
 use Rattle.protox_compile.specs.Resume.{names_of, go_on, resume}
@@ -26,7 +26,7 @@ extends_cond : {B : Type 0} (b : Bool) (done : List Done) (x y : List Done × B)
 extends_cond true done x y p q = p
 extends_cond false done x y p q = q
 
-after_extends : (n : List ℕ) (i : ℕ) (place : Option (ℕ × ℕ)) (m : List ℕ) (done : List Done) (v : List Done × Visited) (rest : List Done → List Done × Option Fault) → Extends done v.0 → ((d : List Done) → Extends d (rest d).0) → Extends done (after_visit n i place m v rest).0
+pub after_extends : (n : List ℕ) (i : ℕ) (place : Option (ℕ × ℕ)) (m : List ℕ) (done : List Done) (v : List Done × Visited) (rest : List Done → List Done × Option Fault) → Extends done v.0 → ((d : List Done) → Extends d (rest d).0) → Extends done (after_visit n i place m v rest).0
 after_extends n i place m done (d, Finished) rest e k = extends_join e (k d)
 after_extends n i place m done (d, Missing) rest e k = e
 after_extends n i place m done (d, Faulted fault) rest e k = e
@@ -49,7 +49,8 @@ shadow_extends n None path done v e = e
 shadow_extends n (Some asked) None done v e = e
 shadow_extends n (Some asked) (Some path) done v e = extends_cond (path_equal path asked) done v (done, Faulted (Shadowed n asked path)) e (extends_same done)
 
-lookup_extends : (n : List ℕ) (asked : Option (List ℕ)) (lookup : Lookup) (done : List Done) (imports : Entry → List Done × Visited) → ((entry : Entry) → Extends done (imports entry).0) → Extends done (visit_lookup n asked lookup done imports).0
+pub lookup_extends : (n : List ℕ) (asked : Option (List ℕ)) (lookup : Lookup) (done : List Done) (imports : Entry → List Done × Visited) → ((entry : Entry) → Extends done (imports entry).0) → Extends done (visit_lookup n asked lookup done imports).0
+lookup_extends n asked Unread done imports k = extends_same done
 lookup_extends n asked NoFile done imports k = extends_same done
 lookup_extends n asked (TextFault kind) done imports k = extends_same done
 lookup_extends n asked (IsFile entry) done imports k = extends_cond (bytes_eq (declared_name entry) n) done (unless_shadowed n asked entry.path done (imports entry)) (done, Faulted (Mismatch n (declared_name entry))) (shadow_extends n asked entry.path done (imports entry) (k entry)) (extends_same done)

@@ -9,6 +9,9 @@ pub mod Right
 pub mod Steps
 pub mod Roots
 pub mod Openings
+pub mod More
+pub mod Joined
+pub mod Lookups
 pub mod Closures
 pub mod Recorded
 pub mod Arrows

@@ -2,20 +2,21 @@
 use Rattle.std.proofs.Common.{◌≡◌, ◌<◌, ◌≤◌, ◌∷◌, ◌++◌, ◌∙◌, arith, inl, inr, [], ℕ, suc, List, Bool, true, false, refl, sym, ap, subst, length, take, drop, get_or, drop-cons}
 use Rattle.std.proofs.Math.ListN.{set}
 use Rattle.std.proofs.lemmas.List.{set_split, append-nil, length-append}
-use Rattle.std.specs.Prelude.{if◌then◌else◌, Option, Some, None, Result, Ok, Err, IfErr, OnOk}
+use Rattle.std.specs.Prelude.{if◌then◌else◌, Option, Some, None, Result, Ok, Err, IfErr, OnOk, OnErr}
 use Rattle.std.specs.Str.{bytes_eq}
 use Rattle.pbx_parse.specs.declared.error.ParseError.TheVariants as parse
-use Rattle.protox_file.specs.Told.{Lookup}
+use Rattle.protox_file.specs.Told.{Told, Lookup, ByLookups}
 use Rattle.protox_file.specs.declared.error.ErrorKind.{ErrorKind}
 use Rattle.protox_file.specs.declared.error.ErrorKind.TheVariants.{Parse, Check, OpenFile, FileTooLarge, FileInvalidUtf8, FileNotFound, ImportNotFound, CircularImport, FileNotIncluded, FileShadowed, DuplicateImport, Custom, NameMismatch, FileLimit, Undecodable, NoMemory}
-use Rattle.protox_compile.specs.Walk.{Done, Finished, Missing, Shadowed, is_done, visits}
+use Rattle.protox_compile.specs.Walk.{Done, Visited, Finished, Missing, Faulted, Shadowed, NoImport, is_done, visits}
 use Rattle.protox_io.specs.Count.{Rose}
 use Rattle.protox_paths.specs.Paths.{name_of, path_equal}
-use Rattle.protox_compile.specs.State.{IsShadowedBy, IsLeftOut, IsRoot, Opens, is_settled}
-use Rattle.protox_compile.specs.Refusals.{Walk, Extends, Ends, OrNoMemory, IsToldBy, is_absent, RefusesWith, Grows, HasRootCause, HasOpeningCause}
-use Rattle.protox_compile.specs.Opening.{Accepted, Refused, mark, asked_path, path_in, open_done, open_root, open_name, root_of, opening, grown}
+use Rattle.protox_compile.specs.State.{IsShadowedBy, IsRoot, Opens, is_settled}
+use Rattle.protox_compile.specs.Refusals.{Walk, Extends, Ends, OrNoMemory, IsToldBy, is_absent, RefusesWith, RefusesOpening, IsLeftOut, EndsWithout, RefusedWithout, Grows, HasRootCause, HasOpeningCause}
+use Rattle.protox_compile.specs.Opening.{Opened, Accepted, NotIncluded, Refused, mark, asked_path, path_in, open_done, open_root, open_name, root_of, opening, grown}
 use Rattle.protox_compile.proofs.Extends.{extends_same, grows_same}
 use Rattle.protox_compile.proofs.Causes.{asked_is}
+use Rattle.protox_compile.proofs.Right.{nothing, right_nothing}
 use Rattle.protox_compile.proofs.Roots.{root_walk, root_extends}
 
 -- the first file of the name, marked in its place
@@ -30,15 +31,21 @@ grown_extends lookups limit (Some root) done = by_case (is_done done root.0)
     by_case true = extends_same done
     by_case false = root_extends limit root.1 root.0 done lookups
 
-missing : (path n : List ℕ) (walk : Walk) (lookups : List ℕ → Lookup) (later : List Done) (answer : ErrorKind) → walk lookups ≡ (later, Missing) → OrNoMemory answer (FileNotIncluded path) → RefusesWith path (λ ls. (walk ls).0) (open_root n (walk lookups)) lookups later answer
+missing : (path n : List ℕ) (walk : Walk) (lookups : List ℕ → Lookup) (later : List Done) (answer : ErrorKind) → walk lookups ≡ (later, Missing) → OrNoMemory answer (FileNotIncluded path) → RefusesWith path (λ ls. (walk ls).0) (λ ls. open_root n (walk ls)) lookups later answer
 missing path n walk lookups later answer e (inl memory) = rw (memory, e) (extends_same later)
 missing path n walk lookups later answer e (inr same) = rw (same, e) (refl, refl)
 
-other : (path n : List ℕ) (walk : Walk) (lookups : List ℕ → Lookup) (later : List Done) (error : ErrorKind) → is_absent error ≡ false → Ends error walk lookups later → RefusesWith path (λ ls. (walk ls).0) (open_root n (walk lookups)) lookups later error
+-- the root, or an import, has no file
+without_root : (n file : List ℕ) (end : Visited) (later : List Done) → EndsWithout file end → (o : Opened) × (open_root n (later, end) ≡ (later, o)) × RefusedWithout file o
+without_root n file Missing later h = (NotIncluded, refl, tt)
+without_root n file (Faulted (NoImport f i place m)) later h = (Refused (NoImport f i place m), refl, h)
+without_root n file _ later h = absurd h
+
+other : (path n : List ℕ) (walk : Walk) (lookups : List ℕ → Lookup) (later : List Done) (error : ErrorKind) → is_absent error ≡ false → Ends error walk lookups later → RefusesWith path (λ ls. (walk ls).0) (λ ls. open_root n (walk ls)) lookups later error
 other path n walk lookups later (Parse (parse.Syntax file line column expected found)) a h = rw h refl
 other path n walk lookups later (Parse parse.NoMemory) a h = h
 other path n walk lookups later (Check error) a h = record { file = h.file; opened_is = rw h.walk_is refl; refused = h.refused }
-other path n walk lookups later (OpenFile file p fault) a h = record { front = h.front; exact = h.exact }
+other path n walk lookups later (OpenFile file p fault) a h = let lacking = without_root n file h.end later h.lacking in record { front = h.front; end = lacking.0; exact = ap (open_root n) h.exact ∙ lacking.1; lacking = lacking.2 }
 other path n walk lookups later (FileTooLarge file) a h = rw h refl
 other path n walk lookups later (FileInvalidUtf8 file) a h = rw h refl
 other path n walk lookups later (FileNotFound file) a h = absurd (cc)
@@ -58,15 +65,15 @@ absent_ends walk lookups later (FileNotFound file) a h = h
 absent_ends walk lookups later _ a h = absurd (cc)
 
 -- what the visit of a root was refused with, as the opening of its path says it
-refuses_root : (path n : List ℕ) (walk : Walk) (lookups : List ℕ → Lookup) (later : List Done) (error answer : ErrorKind) → Ends error walk lookups later → IsToldBy (FileNotIncluded path) error answer → RefusesWith path (λ ls. (walk ls).0) (open_root n (walk lookups)) lookups later answer
+refuses_root : (path n : List ℕ) (walk : Walk) (lookups : List ℕ → Lookup) (later : List Done) (error answer : ErrorKind) → Ends error walk lookups later → IsToldBy (FileNotIncluded path) error answer → RefusesWith path (λ ls. (walk ls).0) (λ ls. open_root n (walk ls)) lookups later answer
 refuses_root path n walk lookups later error answer h k = by_case (is_absent error) refl
   where
-    by_case : (b : Bool) → is_absent error ≡ b → RefusesWith path (λ ls. (walk ls).0) (open_root n (walk lookups)) lookups later answer
+    by_case : (b : Bool) → is_absent error ≡ b → RefusesWith path (λ ls. (walk ls).0) (λ ls. open_root n (walk ls)) lookups later answer
     by_case true e = missing path n walk lookups later answer (absent_ends walk lookups later error e h) (k.absent e)
     by_case false e = rw (k.other e) (other path n walk lookups later error e h)
 
 pub refuses : (limit : ℕ) (path n : List ℕ) (asked : Option (List ℕ)) (root : Option (List ℕ × Option (List ℕ))) (done later : List Done) (lookups : List ℕ → Lookup) (error answer : ErrorKind) → root ≡ Some (n, asked) → is_done done n ≡ false
-    → Ends error (root_walk limit asked n done) lookups later → IsToldBy (FileNotIncluded path) error answer → RefusesWith path (λ ls. grown ls limit root done) (open_name lookups limit root done) lookups later answer
+    → Ends error (root_walk limit asked n done) lookups later → IsToldBy (FileNotIncluded path) error answer → RefusesWith path (λ ls. grown ls limit root done) (λ ls. open_name ls limit root done) lookups later answer
 refuses limit path n asked root done later lookups error answer e new h k = rw (e, new) (refuses_root path n (root_walk limit asked n done) lookups later error answer h k)
 
 -- ---- a name that is finished
@@ -78,7 +85,7 @@ shadowed_again : (n p s : List ℕ) (asked known : Option (List ℕ)) (done : Li
 shadowed_again n p s asked known done a k e = rw (a, k, e) refl
 
 pub refuses_again : (lookups : List ℕ → Lookup) (limit : ℕ) (path n : List ℕ) (asked : Option (List ℕ)) (done later : List Done) (error : ErrorKind) → is_done done n ≡ true → later ≡ done → IsShadowedBy n asked (path_in n done) error
-    → RefusesWith path (λ ls. grown ls limit (Some (n, asked)) done) (open_name lookups limit (Some (n, asked)) done) lookups later error
+    → RefusesWith path (λ ls. grown ls limit (Some (n, asked)) done) (λ ls. open_name ls limit (Some (n, asked)) done) lookups later error
 refuses_again lookups limit path n asked done later (FileShadowed m p s) there same h = rw (there, same, h.0) (shadowed_again n p s asked (path_in n done) done h.1 h.2 h.3)
 refuses_again lookups limit path n asked done later NoMemory there same h = rw (there, same) (extends_same done)
 refuses_again lookups limit path n asked done later _ there same h = absurd h
@@ -149,31 +156,68 @@ longer name old middle new fresh grows there marked same = at grows.more grows.i
     at [] e = let both : true ≡ false = sym there ∙ ap (λ ds. is_done ds name) (e ∙ append-nil old) ∙ fresh in cc
     at (d ∷ ds) e = omega (arith, same, ap length marked, length_mark name middle, ap length e, length-append old (d ∷ ds))
 
+-- ---- by look-ups
+
+-- what some look-ups give
+pub by_lookups : {P Q : (List ℕ → Lookup) → Type 0} (files : List ℕ → Told) → ((lookups : List ℕ → Lookup) → P lookups → Q lookups) → ByLookups files P → ByLookups files Q
+by_lookups files f h = (h.0, h.1, f h.0 h.2)
+
+module _ (files : List ℕ → Told) (limit : ℕ) (n : List ℕ) (asked : Option (List ℕ)) (done later : List Done) where
+  -- a name that is finished is not looked up
+  pub ok_again : {T E : Type 0} (result : Result T E) → is_done done n ≡ true → OnOk result (open_done n asked (path_in n done) done ≡ (later, Accepted)) → OnOk result (ByLookups files (λ ls. open_name ls limit (Some (n, asked)) done ≡ (later, Accepted)))
+  ok_again (Err e) there h = tt
+  ok_again (Ok x) there h = (nothing, right_nothing files, accepts_again nothing limit n asked done later there h)
+
+  pub err_again : {T : Type 0} (path : List ℕ) (result : Result T ErrorKind) → is_done done n ≡ true → OnErr result (later ≡ done) → IfErr result (IsShadowedBy n asked (path_in n done))
+      → IfErr result (λ e. ByLookups files (λ ls. RefusesWith path (λ l. grown l limit (Some (n, asked)) done) (λ l. open_name l limit (Some (n, asked)) done) ls later e))
+  err_again path (Ok x) there same h = tt
+  err_again path (Err error) there same h = (nothing, right_nothing files, refuses_again nothing limit path n asked done later error there same h)
+
+  pub ok_new : (middle : List Done) → is_done done n ≡ false → ByLookups files (λ ls. visits ls limit [] asked n done ≡ (middle, Finished)) → later ≡ mark n middle → ByLookups files (λ ls. open_name ls limit (Some (n, asked)) done ≡ (later, Accepted))
+  ok_new middle new h e = by_lookups files (λ ls k. accepts_new ls limit n asked done middle later new k e) h
+
+  pub err_new : (path : List ℕ) (error answer : ErrorKind) → is_done done n ≡ false → ByLookups files (λ ls. Ends error (root_walk limit asked n done) ls later) → IsToldBy (FileNotIncluded path) error answer
+      → ByLookups files (λ ls. RefusesWith path (λ l. grown l limit (Some (n, asked)) done) (λ l. open_name l limit (Some (n, asked)) done) ls later answer)
+  err_new path error answer new h k = by_lookups files (λ ls e. refuses limit path n asked (Some (n, asked)) done later ls error answer refl new e k) h
+
 -- ---- a path
-
--- a path that has no name
-pub path_unknown : (lookups : List ℕ → Lookup) (resolves : List ℕ → Option (List ℕ)) (limit : ℕ) (path : List ℕ) (done : List Done) (error : ErrorKind) → root_of resolves path ≡ None → OrNoMemory error (FileNotIncluded path)
-    → RefusesWith path (λ ls. grown ls limit (root_of resolves path) done) (opening lookups resolves limit path done) lookups done error
-path_unknown lookups resolves limit path done error e (inl memory) = rw memory (grown_extends lookups limit (root_of resolves path) done)
-path_unknown lookups resolves limit path done error e (inr same) = rw (same, e) (refl, refl)
-
-pub path_memory : (lookups : List ℕ → Lookup) (resolves : List ℕ → Option (List ℕ)) (limit : ℕ) (path : List ℕ) (done : List Done) → RefusesWith path (λ ls. grown ls limit (root_of resolves path) done) (opening lookups resolves limit path done) lookups done NoMemory
-path_memory lookups resolves limit path done = grown_extends lookups limit (root_of resolves path) done
 
 pub left_out_same : (root : Option (List ℕ × Option (List ℕ))) (done : List Done) → IsLeftOut root done done
 left_out_same None done = tt
 left_out_same (Some root) done = refl
 
-pub path_refuses_all : {T : Type 0} (lookups : List ℕ → Lookup) (resolves : List ℕ → Option (List ℕ)) (limit : ℕ) (path : List ℕ) (root : Option (List ℕ × Option (List ℕ))) (done later : List Done) (result : Result T ErrorKind) → root_of resolves path ≡ root
-    → IfErr result (RefusesWith path (λ ls. grown ls limit root done) (open_name lookups limit root done) lookups later) → IfErr result (RefusesWith path (λ ls. grown ls limit (root_of resolves path) done) (opening lookups resolves limit path done) lookups later)
-path_refuses_all lookups resolves limit path root done later result e h =
-    let P : Option (List ℕ × Option (List ℕ)) → Type 0 = λ r. IfErr result (RefusesWith path (λ ls. grown ls limit r done) (open_name lookups limit r done) lookups later) in subst P (sym e) h
+module _ (files : List ℕ → Told) (resolves : List ℕ → Option (List ℕ)) (limit : ℕ) (path : List ℕ) (done : List Done) where
+  -- a path that has no name
+  unknown : (error : ErrorKind) → root_of resolves path ≡ None → OrNoMemory error (FileNotIncluded path) → RefusesWith path (λ ls. grown ls limit (root_of resolves path) done) (λ ls. opening ls resolves limit path done) nothing done error
+  unknown error e (inl memory) = rw memory (grown_extends nothing limit (root_of resolves path) done)
+  unknown error e (inr same) = rw (same, e) (refl, refl)
+
+  pub path_unknown : (error : ErrorKind) → root_of resolves path ≡ None → OrNoMemory error (FileNotIncluded path) → ByLookups files (λ ls. RefusesOpening ls resolves limit path done done error)
+  path_unknown error e h = (nothing, right_nothing files, record { refused = unknown error e h; root = left_out_same (root_of resolves path) done })
+
+  pub path_memory : ByLookups files (λ ls. RefusesOpening ls resolves limit path done done NoMemory)
+  path_memory = (nothing, right_nothing files, record { refused = grown_extends nothing limit (root_of resolves path) done; root = left_out_same (root_of resolves path) done })
+
+  module _ (n : List ℕ) (asked : Option (List ℕ)) (root : root_of resolves path ≡ Some (n, asked)) (later : List Done) where
+    pub path_accepts : {T E : Type 0} (result : Result T E) → OnOk result (ByLookups files (λ ls. open_name ls limit (Some (n, asked)) done ≡ (later, Accepted))) → OnOk result (ByLookups files (λ ls. opening ls resolves limit path done ≡ (later, Accepted)))
+    path_accepts result h = let P : Option (List ℕ × Option (List ℕ)) → Type 0 = λ r. OnOk result (ByLookups files (λ ls. open_name ls limit r done ≡ (later, Accepted))) in subst P (sym root) h
+
+    pub path_refuses : {T : Type 0} (result : Result T ErrorKind) → IfErr result (λ e. ByLookups files (λ ls. RefusesWith path (λ l. grown l limit (Some (n, asked)) done) (λ l. open_name l limit (Some (n, asked)) done) ls later e))
+        → OnErr result (is_done later n ≡ is_done done n) → IfErr result (λ e. ByLookups files (λ ls. RefusesOpening ls resolves limit path done later e))
+    path_refuses (Ok x) h out = tt
+    path_refuses (Err error) h out =
+        let P : Option (List ℕ × Option (List ℕ)) → Type 0 = λ r. ByLookups files (λ ls. RefusesWith path (λ l. grown l limit r done) (λ l. open_name l limit r done) ls later error) in
+        let L : Option (List ℕ × Option (List ℕ)) → Type 0 = λ r. IsLeftOut r done later in
+        by_lookups files (λ ls k. record { refused = k; root = subst L (sym root) out }) (subst P (sym root) h)
 
 -- the root that was found
 pub root_found : (root : Option (List ℕ × Option (List ℕ))) (path name text : List ℕ) (resolved : Bool) (found : Option (List ℕ × Bool)) → IsRoot root path found → found ≡ Some (name, resolved) → text ≡ name → root ≡ Some (text, asked_path resolved path)
 root_found root path name text resolved found h e t =
     let P : Option (List ℕ × Bool) → Type 0 = λ f. IsRoot root path f in
     rw t (subst P e h)
+
+pub root_missing : (root : Option (List ℕ × Option (List ℕ))) (path : List ℕ) (found : Option (List ℕ × Bool)) → IsRoot root path found → found ≡ None → root ≡ None
+root_missing root path found h e = let P : Option (List ℕ × Bool) → Type 0 = λ f. IsRoot root path f in subst P e h
 
 -- its name is finished
 pub settled_found : (root : Option (List ℕ × Option (List ℕ))) (name : List ℕ) (asked : Option (List ℕ)) (done : List Done) → root ≡ Some (name, asked) → is_settled root done ≡ true → is_done done name ≡ true

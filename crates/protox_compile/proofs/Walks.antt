@@ -1,7 +1,7 @@
 -- The turns of a walk.
 use Rattle.std.proofs.Common.{◌≡◌, ◌∷◌, ◌∙◌, [], ℕ, List, false, length, subst, sym, OnOk, IfErr}
 use Rattle.std.specs.Prelude.{nat_lt, Result, Ok, Err}
-use Rattle.protox_file.specs.Told.{Told, Lookup, AreLookups}
+use Rattle.protox_file.specs.Told.{Told, ByLookups}
 use Rattle.protox_file.specs.declared.error.ErrorKind.{ErrorKind}
 use Rattle.protox_file.specs.declared.error.ErrorKind.TheVariants.{Check, OpenFile, Custom, NoMemory}
 use Rattle.protox_compile.specs.Walk.{Done, Open, Finished, records, imports_of}
@@ -12,8 +12,7 @@ use Rattle.protox_compile.specs.declared.step.Import.{Import}
 use Rattle.protox_compile.specs.declared.step.Import.TheVariants.{Finished as FinishedImport, Visit}
 use Rattle.protox_compile.proofs.Fresh.{Fresh, fresh_past}
 use Rattle.protox_compile.proofs.Measure.{all_finished}
-use Rattle.protox_compile.proofs.Right.{right_all}
-use Rattle.protox_compile.proofs.Steps.{finish_ends, ends_memory}
+use Rattle.protox_compile.proofs.Steps.{finish_ends, ends_memory, by_known}
 
 pub advance_leads : (f : Open) (fs : List Open) (done : List Done) (asks : Import) (files : List ℕ → Told) (limit : ℕ) → asks ≡ FinishedImport → AdvancesOrVisits f fs done asks → LeadsTo files limit (f ∷ fs) done (past f ∷ fs) done
 advance_leads f fs done asks files limit e h = let P : Import → Type 0 = λ i. AdvancesOrVisits f fs done i in subst P e h files limit
@@ -41,8 +40,10 @@ pub fresh_next : (root : List ℕ) (f next : Open) (fs : List Open) (done : List
 fresh_next root f next fs done e h = let P : Open → Type 0 = λ x. Fresh root (x ∷ fs) done in subst P (sym e) (fresh_past root f fs done h)
 
 -- the walk ends where no file is open
-pub ends_finished : (files : List ℕ → Told) (walk : Walk) (limit : ℕ) (fs : List Open) (done : List Done) (lookups : List ℕ → Lookup) → fs ≡ [] → Follows files walk limit fs done → AreLookups files lookups → walk lookups ≡ (done, Finished)
-ends_finished files walk limit fs done lookups e h all = same_stack files walk limit fs [] done e h lookups (right_all files lookups [] done all) ∙ all_finished lookups limit done
+pub ends_finished : (files : List ℕ → Told) (walk : Walk) (limit : ℕ) (fs : List Open) (done : List Done) → fs ≡ [] → Follows files walk limit fs done → ByLookups files (λ lookups. walk lookups ≡ (done, Finished))
+ends_finished files walk limit fs done e h =
+    let follows : Follows files walk limit [] done = same_stack files walk limit fs [] done e h in
+    (follows.known, follows.right, by_known files limit [] done walk follows ∙ all_finished follows.known limit done)
 
 -- the same resolver, later
 pub ends_later : (files now : List ℕ → Told) (limit : ℕ) (fs : List Open) (done later : List Done) (error : ErrorKind) → now ≡ files → EndsWalks now limit fs done error later → EndsWalks files limit fs done error later
@@ -52,14 +53,14 @@ pub leads_later : (files now : List ℕ → Told) (limit : ℕ) (fs gs : List Op
 leads_later files now limit fs gs done later e h = let P : (List ℕ → Told) → Type 0 = λ f. LeadsTo f limit fs done gs later in subst P e h
 
 -- what was said of the resolver later holds of it before
-pub later_files : {T E : Type 0} (files now : List ℕ → Told) (limit : ℕ) (fs : List Open) (done later : List Done) (result : Result T E) (walk : Walk) (lookups : List ℕ → Lookup) → now ≡ files
-    → ((w : Walk) → Follows now w limit fs done → (ls : List ℕ → Lookup) → AreLookups now ls → OnOk result (w ls ≡ (later, Finished)))
-    → Follows files walk limit fs done → AreLookups files lookups → OnOk result (walk lookups ≡ (later, Finished))
-later_files files now limit fs done later result walk lookups e said follows all =
-    let P : (List ℕ → Told) → Type 0 = λ f. (w : Walk) → Follows f w limit fs done → (ls : List ℕ → Lookup) → AreLookups f ls → OnOk result (w ls ≡ (later, Finished)) in
-    subst P e said walk follows lookups all
+pub later_files : {T E : Type 0} (files now : List ℕ → Told) (limit : ℕ) (fs : List Open) (done later : List Done) (result : Result T E) (walk : Walk) → now ≡ files
+    → ((w : Walk) → Follows now w limit fs done → OnOk result (ByLookups now (λ ls. w ls ≡ (later, Finished))))
+    → Follows files walk limit fs done → OnOk result (ByLookups files (λ ls. walk ls ≡ (later, Finished)))
+later_files files now limit fs done later result walk e said follows =
+    let P : (List ℕ → Told) → Type 0 = λ f. (w : Walk) → Follows f w limit fs done → OnOk result (ByLookups f (λ ls. w ls ≡ (later, Finished))) in
+    subst P e said walk follows
 
-pub later_ends : {T : Type 0} (files now : List ℕ → Told) (limit : ℕ) (fs : List Open) (done later : List Done) (result : Result T ErrorKind) (walk : Walk) (lookups : List ℕ → Lookup) → now ≡ files
-    → IfErr result (λ e. EndsWalks now limit fs done e later) → Follows files walk limit fs done → AreLookups files lookups → IfErr result (λ e. Ends e walk lookups later)
-later_ends files now limit fs done later (Ok x) walk lookups e said follows all = tt
-later_ends files now limit fs done later (Err error) walk lookups e said follows all = ends_later files now limit fs done later error e said walk follows lookups all
+pub later_ends : {T : Type 0} (files now : List ℕ → Told) (limit : ℕ) (fs : List Open) (done later : List Done) (result : Result T ErrorKind) (walk : Walk) → now ≡ files
+    → IfErr result (λ e. EndsWalks now limit fs done e later) → Follows files walk limit fs done → IfErr result (λ e. ByLookups files (λ ls. Ends e walk ls later))
+later_ends files now limit fs done later (Ok x) walk e said follows = tt
+later_ends files now limit fs done later (Err error) walk e said follows = ends_later files now limit fs done later error e said walk follows

@@ -3,18 +3,17 @@ use Rattle.std.specs.Prelude.{◌≡◌, ◌++◌, ◌∷◌, ℕ, List, Option}
 use Rattle.protox_file.specs.Told.{Lookup}
 use Rattle.protox_file.specs.declared.error.ErrorKind.{ErrorKind}
 use Rattle.protox_compile.specs.Walk.{Done}
-use Rattle.protox_compile.specs.Opening.{Accepted, root_of, opening, closure, grown}
-use Rattle.protox_compile.specs.Refusals.{RefusesWith, Grows}
-use Rattle.protox_compile.specs.State.{IsLeftOut}
+use Rattle.protox_compile.specs.Opening.{Accepted, closure}
+use Rattle.protox_compile.specs.Refusals.{RefusesOpening, Grows}
 
 -- which path was refused with the error, the paths before it being accepted: more files stand behind theirs as imports, without its own
-pub record StopsAt (lookups : List ℕ → Lookup) (resolves : List ℕ → Option (List ℕ)) (limit : ℕ) (paths : List (List ℕ)) (old new : List Done) (error : ErrorKind) : Type 0 where
+pub record StopsAt (lookups : List ℕ → Lookup) (resolves : List ℕ → Option (List ℕ)) (limit : ℕ) (paths : List (List ℕ)) (old new : List Done)
+    (error : ErrorKind) : Type 0 where
   pub before : List (List ℕ)
   pub path : List ℕ
   pub after : List (List ℕ)
   pub middle : List Done
   pub split : paths ≡ before ++ path ∷ after
   pub accepted : closure lookups resolves limit before old ≡ (middle, Accepted)
-  pub refused : RefusesWith path (λ ls. grown ls limit (root_of resolves path) middle) (opening lookups resolves limit path middle) lookups new error
+  pub refused : RefusesOpening lookups resolves limit path middle new error
   pub grows : Grows middle new
-  pub root : IsLeftOut (root_of resolves path) middle new

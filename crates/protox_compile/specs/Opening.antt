@@ -3,7 +3,7 @@ use Rattle.std.specs.Prelude.{◌∷◌, [], ℕ, List, Bool, true, false, if◌
 use Rattle.std.specs.Str.{bytes_eq}
 use Rattle.protox_paths.specs.Paths.{name_of, path_equal}
 use Rattle.protox_file.specs.Told.{Lookup}
-use Rattle.protox_compile.specs.Walk.{Done, Fault, Shadowed, Visited, Finished, Missing, Faulted, is_done, visits}
+use Rattle.protox_compile.specs.Walk.{Done, Fault, Shadowed, NotRead, Visited, Finished, Missing, Faulted, is_done, visits}
 
 -- the files, that of this name marked as opened
 abbrev pub mark : List ℕ → List Done → List Done
@@ -20,6 +20,11 @@ pub data Opened : Type 0 where
   Accepted : Opened
   NotIncluded : Opened
   Refused : Fault → Opened
+
+-- the look-ups decide how an opening ends: each name that it asks for was looked up
+abbrev pub IsDecided : Opened → Type 0
+IsDecided (Refused (NotRead name)) = ⊥
+IsDecided end = Unit {0}
 
 -- the name that a path asks for, and the path itself where the resolver knows it
 abbrev pub root_by : Option (List ℕ) → List ℕ → Option (List ℕ) → Option (List ℕ × Option (List ℕ))

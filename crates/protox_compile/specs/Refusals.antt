@@ -9,17 +9,24 @@ use Rattle.pbx_parse.specs.declared.error.ParseError.TheVariants as parse
 use Rattle.protox_paths.specs.Paths.{path_equal}
 use Rattle.protox_file.specs.Told.{Entry, Lookup, NoFile, IsFile, TextFault}
 use Rattle.protox_file.specs.declared.error.ErrorKind.{ErrorKind}
-use Rattle.protox_file.specs.declared.error.ErrorKind.TheVariants.{Parse, Check, OpenFile, FileTooLarge, FileInvalidUtf8, FileNotFound, ImportNotFound, CircularImport, FileNotIncluded, FileShadowed, DuplicateImport, Custom, NameMismatch, FileLimit, Undecodable, NoMemory}
-use Rattle.protox_compile.specs.Walk.{Open, Done, Limit, Text, Mismatch, Shadowed, Duplicate, Circular, NoImport, Unlinked, Visited, Missing, Faulted, records, declared_name}
-use Rattle.protox_compile.specs.Opening.{Opened, NotIncluded, Refused}
+use Rattle.protox_file.specs.declared.error.ErrorKind.TheVariants.{Parse, Check, OpenFile, FileTooLarge, FileInvalidUtf8, FileNotFound}
+use Rattle.protox_file.specs.declared.error.ErrorKind.TheVariants.{ImportNotFound, CircularImport, FileNotIncluded, FileShadowed}
+use Rattle.protox_file.specs.declared.error.ErrorKind.TheVariants.{DuplicateImport, Custom, NameMismatch, FileLimit, Undecodable, NoMemory}
+use Rattle.protox_compile.specs.Walk.{Open, Done, Limit, Text, Mismatch, Shadowed, Duplicate, Circular, NoImport, Unlinked, Visited}
+use Rattle.protox_compile.specs.Walk.{Missing, Faulted, records, declared_name, is_done}
+use Rattle.protox_compile.specs.Opening.{Opened, NotIncluded, Refused, root_of, opening, grown}
 
 -- a walk, by what looking names up comes to
 abbrev pub Walk : Type 0
 Walk = (List ℕ → Lookup) → List Done × Visited
 
+-- the same look-ups, with this one of a name
+abbrev pub with_lookup : List ℕ → Lookup → (List ℕ → Lookup) → List ℕ → Lookup
+with_lookup n lookup lookups m = if bytes_eq m n then lookup else lookups m
+
 -- the same look-ups, with one name that has no file
 abbrev pub without : List ℕ → (List ℕ → Lookup) → List ℕ → Lookup
-without n lookups m = if bytes_eq m n then NoFile else lookups m
+without n lookups = with_lookup n NoFile lookups
 
 -- a file that was only imported
 abbrev pub is_imported : Done → Bool
@@ -42,10 +49,18 @@ pub record StopsLinking (error : DescriptorError) (walk : List Done × Visited) 
   pub walk_is : walk ≡ (done, Faulted (Unlinked file))
   pub refused : IsRefused (records done) file error
 
+-- the walk ended since the name has no file, which is that of the root or of an import
+abbrev pub EndsWithout : List ℕ → Visited → Type 0
+EndsWithout n Missing = Unit {0}
+EndsWithout n (Faulted (NoImport file index place m)) = m ≡ n
+EndsWithout n end = ⊥
+
 -- reading the name failed: the files are those that the walk finishes where the name has no file, and begin those that it finishes
 pub record StopsAtName (n : List ℕ) (walk : Walk) (lookups : List ℕ → Lookup) (done : List Done) : Type 0 where
   pub front : Extends done (walk lookups).0
-  pub exact : (walk (without n lookups)).0 ≡ done
+  pub end : Visited
+  pub exact : walk (without n lookups) ≡ (done, end)
+  pub lacking : EndsWithout n end
 
 -- How a walk ended, by the error that was answered: a fault is the walk's own, with the files that it finished before it; after a fault
 -- of the resolver and want of memory there are some of them.
@@ -169,10 +184,19 @@ HasOpenCause asked rose (FileLimit limit) = ⊥
 HasOpenCause asked rose (Undecodable file) = ⊥
 HasOpenCause asked rose kind = Unit {0}
 
--- how an opening was refused: reading the name failed
-pub record FailsAtName (n : List ℕ) (files : (List ℕ → Lookup) → List Done) (lookups : List ℕ → Lookup) (later : List Done) : Type 0 where
+-- the opening was refused since the name has no file, which is that of the path or of an import
+abbrev pub RefusedWithout : List ℕ → Opened → Type 0
+RefusedWithout n NotIncluded = Unit {0}
+RefusedWithout n (Refused (NoImport file index place m)) = m ≡ n
+RefusedWithout n end = ⊥
+
+-- How an opening was refused: reading the name failed. The files are those that are finished where the name has no file.
+pub record FailsAtName (n : List ℕ) (files : (List ℕ → Lookup) → List Done) (opened : (List ℕ → Lookup) → List Done × Opened)
+    (lookups : List ℕ → Lookup) (later : List Done) : Type 0 where
   pub front : Extends later (files lookups)
-  pub exact : files (without n lookups) ≡ later
+  pub end : Opened
+  pub exact : opened (without n lookups) ≡ (later, end)
+  pub lacking : RefusedWithout n end
 
 -- the record is not linked among the finished files, for this reason
 pub record RefusesLinking (error : DescriptorError) (opened : List Done × Opened) (later : List Done) : Type 0 where
@@ -181,25 +205,37 @@ pub record RefusesLinking (error : DescriptorError) (opened : List Done × Opene
   pub refused : IsRefused (records later) file error
 
 -- The error that an opening of the path was refused with, and the files that it left: `files` are those that it would finish, `opened` is
--- what it comes to.
-abbrev pub RefusesWith : List ℕ → ((List ℕ → Lookup) → List Done) → List Done × Opened → (List ℕ → Lookup) → List Done → ErrorKind → Type 0
-RefusesWith path files opened lookups later (Parse (parse.Syntax file line column expected found)) = opened ≡ (later, Refused (Text file 1))
+-- what it comes to, each by what looking names up comes to.
+abbrev pub RefusesWith : List ℕ → ((List ℕ → Lookup) → List Done) → ((List ℕ → Lookup) → List Done × Opened) → (List ℕ → Lookup) → List Done
+    → ErrorKind → Type 0
+RefusesWith path files opened lookups later (Parse (parse.Syntax file line column expected found)) = opened lookups ≡ (later, Refused (Text file 1))
 RefusesWith path files opened lookups later (Parse parse.NoMemory) = ⊥
-RefusesWith path files opened lookups later (Check error) = RefusesLinking error opened later
-RefusesWith path files opened lookups later (OpenFile name p fault) = FailsAtName name files lookups later
-RefusesWith path files opened lookups later (FileTooLarge name) = opened ≡ (later, Refused (Text name 4))
-RefusesWith path files opened lookups later (FileInvalidUtf8 name) = opened ≡ (later, Refused (Text name 5))
+RefusesWith path files opened lookups later (Check error) = RefusesLinking error (opened lookups) later
+RefusesWith path files opened lookups later (OpenFile name p fault) = FailsAtName name files opened lookups later
+RefusesWith path files opened lookups later (FileTooLarge name) = opened lookups ≡ (later, Refused (Text name 4))
+RefusesWith path files opened lookups later (FileInvalidUtf8 name) = opened lookups ≡ (later, Refused (Text name 5))
 RefusesWith path files opened lookups later (FileNotFound name) = ⊥
-RefusesWith path files opened lookups later (ImportNotFound file index place name) = opened ≡ (later, Refused (NoImport file index place name))
-RefusesWith path files opened lookups later (CircularImport name cycle) = opened ≡ (later, Refused (Circular name cycle))
-RefusesWith path files opened lookups later (FileNotIncluded p) = (p ≡ path) × (opened ≡ (later, NotIncluded))
-RefusesWith path files opened lookups later (FileShadowed name asked shadow) = opened ≡ (later, Refused (Shadowed name asked shadow))
-RefusesWith path files opened lookups later (DuplicateImport file index place name) = opened ≡ (later, Refused (Duplicate file index place name))
+RefusesWith path files opened lookups later (ImportNotFound file index place name) = opened lookups ≡ (later, Refused (NoImport file index place name))
+RefusesWith path files opened lookups later (CircularImport name cycle) = opened lookups ≡ (later, Refused (Circular name cycle))
+RefusesWith path files opened lookups later (FileNotIncluded p) = (p ≡ path) × (opened lookups ≡ (later, NotIncluded))
+RefusesWith path files opened lookups later (FileShadowed name asked shadow) = opened lookups ≡ (later, Refused (Shadowed name asked shadow))
+RefusesWith path files opened lookups later (DuplicateImport file index place name) = opened lookups ≡ (later, Refused (Duplicate file index place name))
 RefusesWith path files opened lookups later (Custom text is_io) = Extends later (files lookups)
-RefusesWith path files opened lookups later (NameMismatch asked declared) = opened ≡ (later, Refused (Mismatch asked declared))
-RefusesWith path files opened lookups later (FileLimit limit) = opened ≡ (later, Refused (Limit limit))
+RefusesWith path files opened lookups later (NameMismatch asked declared) = opened lookups ≡ (later, Refused (Mismatch asked declared))
+RefusesWith path files opened lookups later (FileLimit limit) = opened lookups ≡ (later, Refused (Limit limit))
 RefusesWith path files opened lookups later (Undecodable file) = ⊥
 RefusesWith path files opened lookups later NoMemory = Extends later (files lookups)
+
+-- the name that was asked for is finished exactly if it was before
+abbrev pub IsLeftOut : Option (List ℕ × Option (List ℕ)) → List Done → List Done → Type 0
+IsLeftOut None old new = Unit {0}
+IsLeftOut (Some root) old new = is_done new root.0 ≡ is_done old root.0
+
+-- The opening of the path was refused with the error, and left these files. The name that it asks for is finished exactly if it was before.
+pub record RefusesOpening (lookups : List ℕ → Lookup) (resolves : List ℕ → Option (List ℕ)) (limit : ℕ) (path : List ℕ) (done later : List Done)
+    (error : ErrorKind) : Type 0 where
+  pub refused : RefusesWith path (λ ls. grown ls limit (root_of resolves path) done) (λ ls. opening ls resolves limit path done) lookups later error
+  pub root : IsLeftOut (root_of resolves path) done later
 
 -- What is known of the error of opening a path over every resolver: the rule is broken among the files that are left, a fault of the
 -- resolver has this cause, the path and the limit are these, and what was found has another path or another name. Some kinds never come.

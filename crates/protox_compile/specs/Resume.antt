@@ -1,7 +1,7 @@
 -- What is left of a walk whose open files stand on a stack, the innermost first.
-use Rattle.std.specs.Prelude.{◌≡◌, ◌+◌, ◌∷◌, [], ℕ, List, Bool, true, false, ◌||◌, map, take, drop, slice_index_or, Option, None}
+use Rattle.std.specs.Prelude.{◌≡◌, ◌⊎◌, ◌+◌, ◌∷◌, [], ℕ, List, Bool, false, ◌||◌, map, take, drop, slice_index_or, Option, None}
 use Rattle.pbx_definitions.specs.Names.{among}
-use Rattle.protox_file.specs.Told.{Told, Lookup, IsLookup, AreLookups}
+use Rattle.protox_file.specs.Told.{Told, Lookup, Unread, IsLookup, AreLookups, ByLookups}
 use Rattle.protox_compile.specs.Places.{place_of_import}
 use Rattle.protox_compile.specs.Walk.{Done, Fault, Visited, Finished, Missing, Faulted, Open, imports_of, is_done, visit_imports, finish, visits}
 use Rattle.protox_file.specs.declared.error.ErrorKind.{ErrorKind}
@@ -14,7 +14,8 @@ names_of fs = map (λ (f : Open). f.name) fs
 
 -- the imports that an open file has left
 abbrev pub imports_left : (List ℕ → Lookup) → ℕ → List (List ℕ) → Open → List Done → List Done × Option Fault
-imports_left lookups limit chain f done = visit_imports (λ d m. visits lookups limit (f.name ∷ chain) None m d) (f.name ∷ chain) f.name (place_of_import f.entry) (take f.next (imports_of f.entry)) (drop f.next (imports_of f.entry)) done
+imports_left lookups limit chain f done = visit_imports (λ d m. visits lookups limit (f.name ∷ chain) None m d) (f.name ∷ chain) f.name
+    (place_of_import f.entry) (take f.next (imports_of f.entry)) (drop f.next (imports_of f.entry)) done
 
 abbrev pub go_on : List Done × Visited → (List Done → List Done × Visited) → List Done × Visited
 go_on (done, Finished) rest = rest done
@@ -45,17 +46,25 @@ pub record IsVisit (f : Open) (fs : List Open) (done : List Done) (name : List �
 abbrev pub was_opened : List Open → List Done → List ℕ → Bool
 was_opened fs done name = among (names_of fs) name || is_done done name
 
--- the look-ups are right at each file that was opened
-abbrev pub AreRightAt : (List ℕ → Told) → (List ℕ → Lookup) → List Open → List Done → Type 0
-AreRightAt files lookups fs done = (name : List ℕ) → was_opened fs done name ≡ true → IsLookup name (files name) (lookups name)
+-- the look-up of a name is such, which is right where this stands under the name
+abbrev pub ByLookup : List ℕ → Told → (Lookup → Type 0) → Type 0
+ByLookup name told P = (lookup : Lookup) × IsLookup name told lookup × P lookup
 
--- what a walk comes to is what is left of it on the stack
-abbrev pub Follows : (List ℕ → Told) → Walk → ℕ → List Open → List Done → Type 0
-Follows files walk limit fs done = (lookups : List ℕ → Lookup) → AreRightAt files lookups fs done → walk lookups ≡ resume lookups limit fs done
+-- the others are the same at each name that these looked up
+abbrev pub IsMore : (List ℕ → Lookup) → (List ℕ → Lookup) → Type 0
+IsMore known lookups = (name : List ℕ) → (known name ≡ Unread) ⊎ (lookups name ≡ known name)
+
+-- What a walk comes to is what is left of it on the stack, where the look-ups begin with those that it has made. These are right, and of
+-- the files that were opened alone.
+pub record Follows (files : List ℕ → Told) (walk : Walk) (limit : ℕ) (fs : List Open) (done : List Done) : Type 0 where
+  pub known : List ℕ → Lookup
+  pub right : AreLookups files known
+  pub closed : (name : List ℕ) → was_opened fs done name ≡ false → known name ≡ Unread
+  pub is : (lookups : List ℕ → Lookup) → IsMore known lookups → walk lookups ≡ resume lookups limit fs done
 
 -- every walk that has this left on the stack ends so by the error
 abbrev pub EndsWalks : (List ℕ → Told) → ℕ → List Open → List Done → ErrorKind → List Done → Type 0
-EndsWalks files limit fs done error later = (walk : Walk) → Follows files walk limit fs done → (lookups : List ℕ → Lookup) → AreLookups files lookups → Ends error walk lookups later
+EndsWalks files limit fs done error later = (walk : Walk) → Follows files walk limit fs done → ByLookups files (λ lookups. Ends error walk lookups later)
 
 -- every walk that has the one left has the other left
 abbrev pub LeadsTo : (List ℕ → Told) → ℕ → List Open → List Done → List Open → List Done → Type 0

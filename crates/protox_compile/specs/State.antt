@@ -1,6 +1,9 @@
 -- The state of a compiler.
-use Rattle.std.specs.Prelude.{◌≡◌, ◌<◌, ℕ, zero, suc, List, Bool, true, false, Option, Some, None}
+use Rattle.std.specs.Prelude.{◌≡◌, ◌<◌, ℕ, zero, suc, List, Bool, true, false, Option, Some, None, IsTrue}
+use Rattle.protox_io.specs.Disk.{Held}
+use Rattle.protox_io.specs.Paths.{Component}
 use Rattle.protox_paths.specs.Paths.{name_of, path_equal}
+use Rattle.protox_file.specs.Told.{Told}
 use Rattle.protox_file.specs.declared.error.ErrorKind.{ErrorKind}
 use Rattle.protox_file.specs.declared.error.ErrorKind.TheVariants.{FileShadowed, NoMemory}
 use Rattle.protox_compile.specs.Walk.{Done, is_done}
@@ -13,6 +16,14 @@ pub record State (R : Type 0) : Type 0 where
   pub done : List Done
   pub limit : ℕ
 
+-- What a call keeps of a resolver, by what resolvers tell: whether it tells, and where it does its files, its names of paths and its disk.
+pub record Keeps {R : Type 0} (telling : R → Bool) (told : R → List ℕ → Told) (names : R → List ℕ → Option (List ℕ))
+    (held : R → List Component → Held) (old new : R) : Type 0 where
+  pub tells : telling new ≡ telling old
+  pub files : IsTrue (telling old) → told new ≡ told old
+  pub resolves : IsTrue (telling old) → names new ≡ names old
+  pub disk : IsTrue (telling old) → held new ≡ held old
+
 -- the name that a path asks for, and whether the path was resolved
 abbrev pub IsRoot : Option (List ℕ × Option (List ℕ)) → List ℕ → Option (List ℕ × Bool) → Type 0
 IsRoot root path None = root ≡ None
@@ -23,11 +34,6 @@ abbrev pub IsShadowedBy : List ℕ → Option (List ℕ) → Option (List ℕ) �
 IsShadowedBy name asked known (FileShadowed n path shadow) = (n ≡ name) × (asked ≡ Some path) × (known ≡ Some shadow) × (path_equal shadow path ≡ false)
 IsShadowedBy name asked known NoMemory = Unit {0}
 IsShadowedBy name asked known kind = ⊥
-
--- the name that was asked for is finished exactly if it was before
-abbrev pub IsLeftOut : Option (List ℕ × Option (List ℕ)) → List Done → List Done → Type 0
-IsLeftOut None old new = Unit {0}
-IsLeftOut (Some root) old new = is_done new root.0 ≡ is_done old root.0
 
 -- nothing is read for a name that is finished, nor where no name is asked for
 abbrev pub is_settled : Option (List ℕ × Option (List ℕ)) → List Done → Bool

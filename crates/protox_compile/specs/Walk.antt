@@ -8,7 +8,7 @@ use Rattle.pbx_definitions.specs.Names.{among, text_or_empty}
 use Rattle.pbx_linked.specs.Linked.{linked_record}
 use Rattle.pbx_rules.specs.Breaches.{keeps_rules}
 use Rattle.protox_paths.specs.Paths.{path_equal}
-use Rattle.protox_file.specs.Told.{Entry, Lookup, NoFile, IsFile, TextFault}
+use Rattle.protox_file.specs.Told.{Entry, Lookup, NoFile, IsFile, TextFault, Unread}
 use Rattle.protox_compile.specs.Places.{place_of_import}
 
 -- a finished file: its name, its linked record, the path that it was read from, and whether it was opened or only imported
@@ -40,7 +40,7 @@ imports_of entry = entry.file.dependency
 abbrev pub done_as : List Done → List ℕ → Entry → Done
 done_as done name entry = record { name = name; file = linked_record (records done) entry.file; path = entry.path; opened = false }
 
--- what ends a walk, but for a file that is absent
+-- what ends a walk, but for a file that is absent; a name that was not looked up ends it too
 pub data Fault : Type 0 where
   Limit : ℕ → Fault
   Text : List ℕ → ℕ → Fault
@@ -50,6 +50,7 @@ pub data Fault : Type 0 where
   Circular : List ℕ → List ℕ → Fault
   NoImport : List ℕ → ℕ → Option (ℕ × ℕ) → List ℕ → Fault
   Unlinked : FileDescriptorProto → Fault
+  NotRead : List ℕ → Fault
 
 -- how a visit ends
 pub data Visited : Type 0 where
@@ -79,7 +80,8 @@ after_visit n i place m (done, Faulted fault) rest = (done, Some fault)
 
 -- the imports of the file n in order: `chain` are the open names, the innermost first, `places` tells the places of its imports by their
 -- indices, `seen` are its imports before these
-abbrev pub visit_imports : (List Done → List ℕ → List Done × Visited) → List (List ℕ) → List ℕ → (ℕ → Option (ℕ × ℕ)) → List (List ℕ) → List (List ℕ) → List Done → List Done × Option Fault
+abbrev pub visit_imports : (List Done → List ℕ → List Done × Visited) → List (List ℕ) → List ℕ → (ℕ → Option (ℕ × ℕ)) → List (List ℕ)
+    → List (List ℕ) → List Done → List Done × Option Fault
 visit_imports visit chain n places seen [] done = (done, None)
 visit_imports visit chain n places seen (m ∷ ms) done =
     if among seen m then (done, Some (Duplicate n (length seen) (places (length seen)) m))
@@ -89,7 +91,8 @@ visit_imports visit chain n places seen (m ∷ ms) done =
 
 -- after the imports, the file is linked among the finished files and finished as an import, unless it breaks a rule among them
 abbrev pub finish : List ℕ → Entry → List Done × Option Fault → List Done × Visited
-finish n entry (done, None) = if keeps_rules (records done) entry.file then (done ++ done_as done n entry ∷ [], Finished) else (done, Faulted (Unlinked entry.file))
+finish n entry (done, None) =
+    if keeps_rules (records done) entry.file then (done ++ done_as done n entry ∷ [], Finished) else (done, Faulted (Unlinked entry.file))
 finish n entry (done, Some fault) = (done, Faulted fault)
 
 -- a root that was asked by a path has that path, or none
@@ -100,6 +103,7 @@ unless_shadowed n (Some asked) (Some path) done visited = if path_equal path ask
 
 -- the visit of a name that looks up to this, where the visit of an entry's imports ends so
 abbrev pub visit_lookup : List ℕ → Option (List ℕ) → Lookup → List Done → (Entry → List Done × Visited) → List Done × Visited
+visit_lookup n asked Unread done imports = (done, Faulted (NotRead n))
 visit_lookup n asked NoFile done imports = (done, Missing)
 visit_lookup n asked (TextFault kind) done imports = (done, Faulted (Text n kind))
 visit_lookup n asked (IsFile entry) done imports =

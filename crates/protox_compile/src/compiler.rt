@@ -1,14 +1,14 @@
 //! The compiler: files and all that they import.
 
-ghost use Rattle.std.specs.Prelude.{◌≡◌, ◌≤◌, [], IfOk, IfErr, OnOk, OnErr, IsTrue, List, ℕ, length, map, min, true};
+ghost use Rattle.std.specs.Prelude.{◌≡◌, ◌≤◌, [], IfOk, IfErr, OnOk, OnErr, IsTrue, length, map, min, true};
 ghost use Rattle.std.specs.Slice.Iter.{iter_rest};
 ghost use Rattle.protox_io.specs.Count.{Rose};
 ghost use Rattle.pbx_pool_laws.specs.Pool.{ArePooled};
-ghost use Rattle.protox_file.specs.Told.{Lookup, AreLookups};
+ghost use Rattle.protox_file.specs.Told.{ByLookups};
 ghost use Rattle.protox_compile.specs.Walk.{is_done, records};
-ghost use Rattle.protox_compile.specs.Opening.{opening, closure, root_of, grown, Accepted};
-ghost use Rattle.protox_compile.specs.Refusals.{RefusesWith, HasOpeningCause, HasOpeningsCause, Grows};
-ghost use Rattle.protox_compile.specs.State.{Opens, OpensTimes, GrowsWithin, IsLeftOut, is_settled};
+ghost use Rattle.protox_compile.specs.Opening.{opening, closure, root_of, Accepted};
+ghost use Rattle.protox_compile.specs.Refusals.{RefusesOpening, HasOpeningCause, HasOpeningsCause, Grows};
+ghost use Rattle.protox_compile.specs.State.{Opens, OpensTimes, GrowsWithin, Keeps, is_settled};
 ghost use Rattle.protox_compile.specs.Closures.{StopsAt};
 ghost use Rattle.protox_compile.specs.Compiled.{IsOrdered, metadata_of};
 
@@ -16,7 +16,7 @@ use crate::compiled::Compiled;
 use crate::root::open_path;
 use pbx_link::DescriptorPool;
 use pbx_wire::Texts;
-use protox_file::{Error, FileMetadata, FileResolver};
+use protox_file::{Error, FileMetadata, FileResolver, looked_up_once};
 use std::alloc::Global;
 use std::marker::Model;
 
@@ -77,27 +77,25 @@ impl<R: FileResolver> Compiler<R> {
     /// marked as opened, and nothing is read. A refused call leaves the files that were there with their marks, and adds
     /// the imports that were finished, as imports.
     pub fn open_file(&mut self, path: &str) -> Result<(), Error>
-        // Over a resolver that tells, it does what opening is.
-        ensures ok { IsTrue (R.tells self.old.resolver) → (lookups : List ℕ → Lookup) → AreLookups (R.files self.old.resolver) lookups → OnOk result (opening lookups (R.resolves self.old.resolver) self.old.limit path.now self.old.done ≡ (self.new.done, Accepted)) }
+        // Over a resolver that tells, it does what opening is, by look-ups of the names that it asked for.
+        ensures ok { IsTrue (R.tells self.old.resolver) → OnOk result (ByLookups (R.files self.old.resolver)
+            (λ lookups. opening lookups (R.resolves self.old.resolver) self.old.limit path.now self.old.done ≡ (self.new.done, Accepted))) }
 
         // It is refused with the fault of the opening, or for want of memory or a fault of the resolver.
-        ensures err { IsTrue (R.tells self.old.resolver) → (lookups : List ℕ → Lookup) → AreLookups (R.files self.old.resolver) lookups → IfErr result (RefusesWith path.now
-            (λ ls. grown ls self.old.limit (root_of (R.resolves self.old.resolver) path.now) self.old.done)
-            (opening lookups (R.resolves self.old.resolver) self.old.limit path.now self.old.done) lookups self.new.done) }
-        ensures root { IsTrue (R.tells self.old.resolver) → OnErr result (IsLeftOut (root_of (R.resolves self.old.resolver) path.now) self.old.done self.new.done) }
-        ensures again { IsTrue (R.tells self.old.resolver) → is_settled (root_of (R.resolves self.old.resolver) path.now) self.old.done ≡ true → self.new.resolver ≡ self.old.resolver }
+        ensures err { IsTrue (R.tells self.old.resolver) → IfErr result (λ error. ByLookups (R.files self.old.resolver)
+            (λ lookups. RefusesOpening lookups (R.resolves self.old.resolver) self.old.limit path.now self.old.done self.new.done error)) }
+        ensures again { IsTrue (R.tells self.old.resolver) → is_settled (root_of (R.resolves self.old.resolver) path.now) self.old.done ≡ true →
+            self.new.resolver ≡ self.old.resolver }
 
         // Over every resolver, files are added as imports, and then one of all is marked; where none is added, nothing is read.
         ensures opens { OnOk result (Opens self.old.done self.new.done) }
         ensures unread { OnOk result (length self.new.done ≡ length self.old.done → self.new.resolver ≡ self.old.resolver) }
         ensures grows { OnErr result (Grows self.old.done self.new.done) }
-        ensures cause { IfErr result (HasOpeningCause self.old.limit path.now self.new.done (Rose (R.faults self.old.resolver) (R.faults self.new.resolver) (R.at_end self.new.resolver))) }
+        ensures cause { IfErr result (HasOpeningCause self.old.limit path.now self.new.done
+            (Rose (R.faults self.old.resolver) (R.faults self.new.resolver) (R.at_end self.new.resolver))) }
         ensures later { R.faults self.old.resolver ≤ R.faults self.new.resolver }
         ensures limit { self.new.limit ≡ self.old.limit }
-        ensures keeps_tells { R.tells self.new.resolver ≡ R.tells self.old.resolver }
-        ensures keeps_files { IsTrue (R.tells self.old.resolver) → R.files self.new.resolver ≡ R.files self.old.resolver }
-        ensures keeps_resolves { IsTrue (R.tells self.old.resolver) → R.resolves self.new.resolver ≡ R.resolves self.old.resolver }
-        ensures keeps_disk { IsTrue (R.tells self.old.resolver) → R.disk self.new.resolver ≡ R.disk self.old.resolver }
+        ensures keeps { Keeps R.tells R.files R.resolves R.disk self.old.resolver self.new.resolver }
     {
         open_path(
             &mut self.resolver,
@@ -110,19 +108,21 @@ impl<R: FileResolver> Compiler<R> {
 
     /// Opens the files at paths in order, up to the first that is refused, as `open_file` does each.
     pub fn open_files(&mut self, paths: &Texts) -> Result<(), Error>
-        ensures ok { IsTrue (R.tells self.old.resolver) → (lookups : List ℕ → Lookup) → AreLookups (R.files self.old.resolver) lookups → OnOk result (closure lookups (R.resolves self.old.resolver) self.old.limit paths.now self.old.done ≡ (self.new.done, Accepted)) }
-        ensures err { IsTrue (R.tells self.old.resolver) → (lookups : List ℕ → Lookup) → AreLookups (R.files self.old.resolver) lookups → IfErr result (StopsAt lookups (R.resolves self.old.resolver) self.old.limit paths.now self.old.done self.new.done) }
+        ensures ok { IsTrue (R.tells self.old.resolver) → OnOk result (ByLookups (R.files self.old.resolver)
+            (λ lookups. closure lookups (R.resolves self.old.resolver) self.old.limit paths.now self.old.done ≡ (self.new.done, Accepted))) }
+        ensures err { IsTrue (R.tells self.old.resolver) → IfErr result (λ error. ByLookups (R.files self.old.resolver)
+            (λ lookups. StopsAt lookups (R.resolves self.old.resolver) self.old.limit paths.now self.old.done self.new.done error)) }
         // Over every resolver, each opened path adds files as imports and then marks one of all, and a refused one adds files as imports.
         ensures opens { OnOk result (OpensTimes (length paths.now) self.old.done self.new.done) }
         ensures grows { OnErr result (GrowsWithin (length paths.now) self.old.done self.new.done) }
-        ensures cause { IfErr result (HasOpeningsCause self.old.limit paths.now self.new.done (Rose (R.faults self.old.resolver) (R.faults self.new.resolver) (R.at_end self.new.resolver))) }
+        ensures cause { IfErr result (HasOpeningsCause self.old.limit paths.now self.new.done
+            (Rose (R.faults self.old.resolver) (R.faults self.new.resolver) (R.at_end self.new.resolver))) }
         ensures later { R.faults self.old.resolver ≤ R.faults self.new.resolver }
         ensures limit { self.new.limit ≡ self.old.limit }
-        ensures keeps_tells { R.tells self.new.resolver ≡ R.tells self.old.resolver }
-        ensures keeps_files { IsTrue (R.tells self.old.resolver) → R.files self.new.resolver ≡ R.files self.old.resolver }
-        ensures keeps_resolves { IsTrue (R.tells self.old.resolver) → R.resolves self.new.resolver ≡ R.resolves self.old.resolver }
-        ensures keeps_disk { IsTrue (R.tells self.old.resolver) → R.disk self.new.resolver ≡ R.disk self.old.resolver }
+        ensures keeps { Keeps R.tells R.files R.resolves R.disk self.old.resolver self.new.resolver }
     {
+        // So the look-ups of all paths agree.
+        looked_up_once();
         for path in paths.as_slice() {
             match self.open_file(path.as_str()) {
                 Ok(()) => {}

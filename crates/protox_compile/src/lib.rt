@@ -16,4 +16,4 @@ mod step;
 mod walk;
 
 pub use compiler::{Compiler, Files};
-pub use laws::opening_again_marks;
+pub use laws::{opening_again_marks, opens_by_all, opens_once};

@@ -3,15 +3,15 @@ ghost use Rattle.std.specs.Option.{option_copied};
 ghost use Rattle.std.specs.Str.{bytes_eq};
 ghost use Rattle.protox_io.specs.Count.{Rose};
 ghost use Rattle.protox_paths.specs.Paths.{path_equal};
-ghost use Rattle.protox_file.specs.Told.{Lookup, IsLookup};
 ghost use Rattle.protox_compile.specs.Walk.{imports_of, declared_name};
 ghost use Rattle.protox_compile.specs.Opening.{asked_path};
 ghost use Rattle.protox_compile.specs.Refusals.{IsOpenOf, IsUnshadowed, StopsOpening, HasOpenCause};
+ghost use Rattle.protox_compile.specs.Resume.{ByLookup};
 
 use crate::frame::Frame;
 use crate::refusal::{mismatch, shadowed};
 use pbx_wire::NoMemory;
-use protox_file::{Error, File, FileResolver, looked_up_once, path_eq};
+use protox_file::{Error, File, FileResolver, path_eq};
 use std::alloc::Global;
 use std::mem::drop;
 
@@ -46,10 +46,13 @@ pub(crate) fn open_frame<R: FileResolver>(
     resolved: bool,
     path: &str,
 ) -> Result<Frame, Error>
-    ensures opened { IsTrue (R.tells resolver.old) → (lookup : Lookup) → IsLookup name.now (R.files resolver.old name.now) lookup → IfOk result (IsOpenOf lookup name.now) }
+    ensures opened { IsTrue (R.tells resolver.old) →
+        IfOk result (λ f. ByLookup name.now (R.files resolver.old name.now) (λ lookup. IsOpenOf lookup name.now f)) }
     ensures unshadowed { IfOk result (λ f. IsUnshadowed (asked_path resolved path.now) f.entry.path) }
     ensures fresh { IfOk result (λ f. (f.name ≡ name.now) × (f.next ≡ 0) × (length (imports_of f.entry) < 2 ^ 64)) }
-    ensures stopped { IsTrue (R.tells resolver.old) → (lookup : Lookup) → IsLookup name.now (R.files resolver.old name.now) lookup → IfErr result (StopsOpening lookup name.now (asked_path resolved path.now)) }
+    ensures stopped { IsTrue (R.tells resolver.old) →
+        IfErr result (λ e. ByLookup name.now (R.files resolver.old name.now)
+        (λ lookup. StopsOpening lookup name.now (asked_path resolved path.now) e)) }
     ensures cause { IfErr result (HasOpenCause (asked_path resolved path.now) (Rose (R.faults resolver.old) (R.faults resolver.new) (R.at_end resolver.new))) }
     ensures later { R.faults resolver.old ≤ R.faults resolver.new }
     ensures keeps_tells { R.tells resolver.new ≡ R.tells resolver.old }
@@ -57,7 +60,6 @@ pub(crate) fn open_frame<R: FileResolver>(
     ensures keeps_resolves { IsTrue (R.tells resolver.old) → R.resolves resolver.new ≡ R.resolves resolver.old }
     ensures keeps_disk { IsTrue (R.tells resolver.old) → R.disk resolver.new ≡ R.disk resolver.old }
 {
-    looked_up_once();
     let file = match resolver.open_file(alloc, name) {
         Ok(file) => file,
         Err(error) => return Err(error),

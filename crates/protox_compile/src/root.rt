@@ -1,13 +1,13 @@
 //! The opening of a path.
 
-ghost use Rattle.std.specs.Prelude.{◌≡◌, ◌≤◌, [], IfOk, IfErr, OnOk, OnErr, IsTrue, List, ℕ, length, true, false, Some, IfSome};
+ghost use Rattle.std.specs.Prelude.{◌≡◌, ◌≤◌, [], IfOk, IfErr, OnOk, OnErr, IsTrue, length, true, false, Some, IfSome};
 ghost use Rattle.protox_io.specs.Count.{Rose};
 ghost use Rattle.protox_paths.specs.Paths.{name_of};
-ghost use Rattle.protox_file.specs.Told.{Lookup, AreLookups};
+ghost use Rattle.protox_file.specs.Told.{ByLookups};
 ghost use Rattle.protox_compile.specs.Walk.{is_done};
 ghost use Rattle.protox_compile.specs.Opening.{mark, opening, open_name as open_name_in, open_done, path_in, root_of, grown, Accepted, asked_path};
-ghost use Rattle.protox_compile.specs.Refusals.{RefusesWith, HasOpeningCause, Grows};
-ghost use Rattle.protox_compile.specs.State.{Opens, IsRoot, IsShadowedBy, IsLeftOut, is_settled};
+ghost use Rattle.protox_compile.specs.Refusals.{RefusesWith, RefusesOpening, HasOpeningCause, Grows};
+ghost use Rattle.protox_compile.specs.State.{Opens, IsRoot, IsShadowedBy, is_settled};
 
 use crate::compiled::Compiled;
 use crate::opening::shadow_of;
@@ -67,8 +67,13 @@ fn open_name<R: FileResolver>(
     path: &str,
 ) -> Result<(), Error>
     requires { name_of name.now ≡ Some name.now }
-    ensures ok { IsTrue (R.tells resolver.old) → (lookups : List ℕ → Lookup) → AreLookups (R.files resolver.old) lookups → OnOk result (open_name_in lookups limit (Some (name.now, asked_path resolved path.now)) done.old ≡ (done.new, Accepted)) }
-    ensures err { IsTrue (R.tells resolver.old) → (lookups : List ℕ → Lookup) → AreLookups (R.files resolver.old) lookups → IfErr result (RefusesWith path.now (λ ls. grown ls limit (Some (name.now, asked_path resolved path.now)) done.old) (open_name_in lookups limit (Some (name.now, asked_path resolved path.now)) done.old) lookups done.new) }
+    ensures ok { IsTrue (R.tells resolver.old) →
+        OnOk result (ByLookups (R.files resolver.old)
+        (λ lookups. open_name_in lookups limit (Some (name.now, asked_path resolved path.now)) done.old ≡ (done.new, Accepted))) }
+    ensures err { IsTrue (R.tells resolver.old) →
+        IfErr result (λ e. ByLookups (R.files resolver.old)
+        (λ lookups. RefusesWith path.now (λ ls. grown ls limit (Some (name.now, asked_path resolved path.now)) done.old)
+        (λ ls. open_name_in ls limit (Some (name.now, asked_path resolved path.now)) done.old) lookups done.new e)) }
     ensures opens { OnOk result (Opens done.old done.new) }
     ensures grows { OnErr result (Grows done.old done.new) }
     ensures root { OnErr result (is_done done.new name.now ≡ is_done done.old name.now) }
@@ -101,11 +106,14 @@ pub(crate) fn open_path<R: FileResolver>(
     done: &mut Compiled,
     path: &str,
 ) -> Result<(), Error>
-    ensures ok { IsTrue (R.tells resolver.old) → (lookups : List ℕ → Lookup) → AreLookups (R.files resolver.old) lookups → OnOk result (opening lookups (R.resolves resolver.old) limit path.now done.old ≡ (done.new, Accepted)) }
-    ensures err { IsTrue (R.tells resolver.old) → (lookups : List ℕ → Lookup) → AreLookups (R.files resolver.old) lookups → IfErr result (RefusesWith path.now (λ ls. grown ls limit (root_of (R.resolves resolver.old) path.now) done.old) (opening lookups (R.resolves resolver.old) limit path.now done.old) lookups done.new) }
+    ensures ok { IsTrue (R.tells resolver.old) →
+        OnOk result (ByLookups (R.files resolver.old)
+        (λ lookups. opening lookups (R.resolves resolver.old) limit path.now done.old ≡ (done.new, Accepted))) }
+    ensures err { IsTrue (R.tells resolver.old) →
+        IfErr result (λ e. ByLookups (R.files resolver.old)
+        (λ lookups. RefusesOpening lookups (R.resolves resolver.old) limit path.now done.old done.new e)) }
     ensures opens { OnOk result (Opens done.old done.new) }
     ensures grows { OnErr result (Grows done.old done.new) }
-    ensures root { IsTrue (R.tells resolver.old) → OnErr result (IsLeftOut (root_of (R.resolves resolver.old) path.now) done.old done.new) }
     ensures again { IsTrue (R.tells resolver.old) → is_settled (root_of (R.resolves resolver.old) path.now) done.old ≡ true → resolver.new ≡ resolver.old }
     ensures unread { OnOk result (length done.new ≡ length done.old → resolver.new ≡ resolver.old) }
     ensures cause { IfErr result (HasOpeningCause limit path.now done.new (Rose (R.faults resolver.old) (R.faults resolver.new) (R.at_end resolver.new))) }

@@ -77,7 +77,9 @@ pub(crate) fn open_import<R: FileResolver>(
     requires more { current.now.next < length (imports_of current.now.entry) }
     requires visit { IsVisit current.now parents.now done.now name.now }
     requires room { length done.now + length parents.now + 1 ≤ limit }
-    ensures child { IsTrue (R.tells resolver.old) → IfOk result (λ child. LeadsTo (R.files resolver.old) limit (current.now ∷ parents.now) done.now (child ∷ past current.now ∷ parents.now) done.now) }
+    ensures child { IsTrue (R.tells resolver.old) →
+        IfOk result (λ child. LeadsTo (R.files resolver.old) limit (current.now ∷ parents.now) done.now
+        (child ∷ past current.now ∷ parents.now) done.now) }
     ensures fresh { IfOk result (λ child. (child.name ≡ name.now) × (child.next ≡ 0) × (length (imports_of child.entry) < 2 ^ 64)) }
     ensures room { OnOk result (length done.now + length parents.now + 2 ≤ limit) }
     ensures err { IsTrue (R.tells resolver.old) → IfErr result (λ e. EndsWalks (R.files resolver.old) limit (current.now ∷ parents.now) done.now e done.now) }

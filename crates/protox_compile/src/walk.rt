@@ -1,6 +1,6 @@
-ghost use Rattle.std.specs.Prelude.{◌≡◌, ◌≤◌, ◌<◌, ◌^◌, ◌+◌, ◌∷◌, [], true, false, IfOk, IfErr, OnOk, OnErr, IsTrue, length, ◌++◌, List, ℕ};
+ghost use Rattle.std.specs.Prelude.{◌≡◌, ◌≤◌, ◌<◌, ◌^◌, ◌+◌, ◌∷◌, [], true, false, IfOk, IfErr, OnOk, OnErr, IsTrue, length, ◌++◌};
 ghost use Rattle.protox_io.specs.Count.{Rose};
-ghost use Rattle.protox_file.specs.Told.{Lookup, AreLookups};
+ghost use Rattle.protox_file.specs.Told.{ByLookups};
 ghost use Rattle.protox_compile.specs.Walk.{imports_of, visits, Finished, is_done};
 ghost use Rattle.protox_compile.specs.Opening.{asked_path};
 ghost use Rattle.protox_compile.specs.Refusals.{Walk, Ends, HasStepCause, HasRootCause, Grows};
@@ -42,7 +42,8 @@ fn finish_all<R: FileResolver>(
     ensures root { OnErr result (is_done done.new root.name ≡ false) }
     ensures there { OnOk result (is_done done.new root.name ≡ true) }
     ensures grows { Grows done.old done.new }
-    ensures ok { IsTrue (R.tells resolver.old) → (walk : Walk) → Follows (R.files resolver.old) walk limit (root ∷ []) done.old → (lookups : List ℕ → Lookup) → AreLookups (R.files resolver.old) lookups → OnOk result (walk lookups ≡ (done.new, Finished)) }
+    ensures ok { IsTrue (R.tells resolver.old) → (walk : Walk) → Follows (R.files resolver.old) walk limit (root ∷ []) done.old →
+        OnOk result (ByLookups (R.files resolver.old) (λ lookups. walk lookups ≡ (done.new, Finished))) }
     ensures err { IsTrue (R.tells resolver.old) → IfErr result (λ e. EndsWalks (R.files resolver.old) limit (root ∷ []) done.old e done.new) }
     ensures cause { IfErr result (HasStepCause limit done.new (Rose (R.faults resolver.old) (R.faults resolver.new) (R.at_end resolver.new))) }
     ensures later { R.faults resolver.old ≤ R.faults resolver.new }
@@ -108,9 +109,14 @@ pub(crate) fn visit_root<R: FileResolver>(
     ensures root { OnErr result (is_done done.new root.now ≡ false) }
     ensures there { OnOk result (is_done done.new root.now ≡ true) }
     ensures grows { Grows done.old done.new }
-    ensures ok { IsTrue (R.tells resolver.old) → (lookups : List ℕ → Lookup) → AreLookups (R.files resolver.old) lookups → OnOk result (visits lookups limit [] (asked_path resolved path.now) root.now done.old ≡ (done.new, Finished)) }
-    ensures err { IsTrue (R.tells resolver.old) → (lookups : List ℕ → Lookup) → AreLookups (R.files resolver.old) lookups → IfErr result (λ e. Ends e (λ ls. visits ls limit [] (asked_path resolved path.now) root.now done.old) lookups done.new) }
-    ensures cause { IfErr result (HasRootCause (asked_path resolved path.now) limit done.new (Rose (R.faults resolver.old) (R.faults resolver.new) (R.at_end resolver.new))) }
+    ensures ok { IsTrue (R.tells resolver.old) →
+        OnOk result (ByLookups (R.files resolver.old)
+        (λ lookups. visits lookups limit [] (asked_path resolved path.now) root.now done.old ≡ (done.new, Finished))) }
+    ensures err { IsTrue (R.tells resolver.old) →
+        IfErr result (λ e. ByLookups (R.files resolver.old)
+        (λ lookups. Ends e (λ ls. visits ls limit [] (asked_path resolved path.now) root.now done.old) lookups done.new)) }
+    ensures cause { IfErr result
+        (HasRootCause (asked_path resolved path.now) limit done.new (Rose (R.faults resolver.old) (R.faults resolver.new) (R.at_end resolver.new))) }
     ensures later { R.faults resolver.old ≤ R.faults resolver.new }
     ensures keeps_tells { R.tells resolver.new ≡ R.tells resolver.old }
     ensures keeps_files { IsTrue (R.tells resolver.old) → R.files resolver.new ≡ R.files resolver.old }

@@ -2,7 +2,7 @@
 use Rattle.std.proofs.Common.{◌≡◌, ℕ, List, Option, sym, ap, ◌∙◌}
 use Rattle.pbx_desc_records.specs.declared.file.FileDescriptorProto.{FileDescriptorProto as Record}
 use Rattle.pbx_parse.specs.Reads.{Reads}
-use Rattle.protox_file.specs.Told.{Entry, Told, Absent, Recorded, Source, TooLarge, NotText, Lookup, NoFile, IsFile, TextFault, IsReading, IsLookup}
+use Rattle.protox_file.specs.Told.{Entry, Told, Absent, Recorded, Source, TooLarge, NotText, Lookup, NoFile, IsFile, TextFault, Unread, IsReading, IsFound}
 
 abbrev pub entry_of : Record → Option (List ℕ) → Option (List ℕ) → Option (List ℕ) → Entry
 entry_of file path source encoded = record { file = file; path = path; source = source; encoded = encoded }
@@ -24,11 +24,14 @@ read_once once name source path (IsFile e) NoFile x y = absurd y
 read_once once name source path (IsFile e) (IsFile g) x y =
     ap IsFile (same_entry e g (once name source e.file g.file x.0 y.0) (x.1 ∙ sym y.1) (x.2 ∙ sym y.2) (x.3 ∙ sym y.3))
 read_once once name source path (IsFile e) (TextFault k) x y = absurd (y.1 e.file x.0)
+read_once once name source path (IsFile e) Unread x y = absurd y
 read_once once name source path (TextFault k) NoFile x y = absurd y
 read_once once name source path (TextFault k) (IsFile g) x y = absurd (x.1 g.file y.0)
 read_once once name source path (TextFault j) (TextFault k) x y = ap TextFault (x.0 ∙ sym y.0)
+read_once once name source path (TextFault k) Unread x y = absurd y
+read_once once name source path Unread b x y = absurd x
 
-pub looked_up : AtMostOne → (name : List ℕ) (told : Told) (a b : Lookup) → IsLookup name told a → IsLookup name told b → a ≡ b
+pub looked_up : AtMostOne → (name : List ℕ) (told : Told) (a b : Lookup) → IsFound name told a → IsFound name told b → a ≡ b
 looked_up once name Absent a b x y = x ∙ sym y
 looked_up once name (Recorded entry) a b x y = x ∙ sym y
 looked_up once name (Source source path) a b x y = read_once once name source path a b x y

@@ -2,8 +2,10 @@
 use Rattle.std.specs.Prelude.{◌≡◌, ℕ, List, Result, Ok, Err, Some}
 use Rattle.pbx_parse.specs.Errors.{error_file}
 use Rattle.protox_file.specs.declared.error.ErrorKind.{ErrorKind}
-use Rattle.protox_file.specs.declared.error.ErrorKind.TheVariants.{Parse, Check, OpenFile, FileTooLarge, FileInvalidUtf8, FileNotFound, ImportNotFound, CircularImport, FileNotIncluded, FileShadowed, DuplicateImport, Custom, NameMismatch, FileLimit, Undecodable, NoMemory}
-use Rattle.protox_file.specs.Told.{Entry, Told, NoFile, IsFile, TextFault, IsLookup}
+use Rattle.protox_file.specs.declared.error.ErrorKind.TheVariants.{Parse, Check, OpenFile, FileTooLarge, FileInvalidUtf8, FileNotFound}
+use Rattle.protox_file.specs.declared.error.ErrorKind.TheVariants.{ImportNotFound, CircularImport, FileNotIncluded, FileShadowed}
+use Rattle.protox_file.specs.declared.error.ErrorKind.TheVariants.{DuplicateImport, Custom, NameMismatch, FileLimit, Undecodable, NoMemory}
+use Rattle.protox_file.specs.Told.{Entry, Told, NoFile, IsFile, TextFault, IsFound}
 
 -- Why a resolver refused a name: only some kinds come, those that name a file name this one, and a fault of its own has this cause.
 abbrev pub HasCause : List ℕ → Type 0 → ErrorKind → Type 0
@@ -26,12 +28,12 @@ HasCause asked rose NoMemory = Unit {0}
 
 -- The refusal is told of the name. A fault, or want of memory, may come in place of what is told.
 abbrev pub IsToldRefusal : List ℕ → Told → ErrorKind → Type 0
-IsToldRefusal name told (Parse e) = IsLookup name told (TextFault 1)
+IsToldRefusal name told (Parse e) = IsFound name told (TextFault 1)
 IsToldRefusal name told (Check e) = ⊥
 IsToldRefusal name told (OpenFile n path fault) = Unit {0}
-IsToldRefusal name told (FileTooLarge n) = IsLookup name told (TextFault 4)
-IsToldRefusal name told (FileInvalidUtf8 n) = IsLookup name told (TextFault 5)
-IsToldRefusal name told (FileNotFound n) = IsLookup name told NoFile
+IsToldRefusal name told (FileTooLarge n) = IsFound name told (TextFault 4)
+IsToldRefusal name told (FileInvalidUtf8 n) = IsFound name told (TextFault 5)
+IsToldRefusal name told (FileNotFound n) = IsFound name told NoFile
 IsToldRefusal name told (ImportNotFound file index place n) = ⊥
 IsToldRefusal name told (CircularImport n cycle) = ⊥
 IsToldRefusal name told (FileNotIncluded path) = ⊥
@@ -45,7 +47,7 @@ IsToldRefusal name told NoMemory = Unit {0}
 
 -- the answer is what is told of the name
 abbrev pub IsTold : List ℕ → Told → Result Entry ErrorKind → Type 0
-IsTold name told (Ok entry) = IsLookup name told (IsFile entry)
+IsTold name told (Ok entry) = IsFound name told (IsFile entry)
 IsTold name told (Err kind) = IsToldRefusal name told kind
 
 -- The refusal is one of reading this path: a fault has the path, and nothing is refused in other words.

@@ -6,7 +6,9 @@ use Rattle.pbx_parse.specs.declared.error.ParseError.TheVariants as parse
 use Rattle.pbx_link.specs.declared.error.DescriptorError.{DescriptorError}
 use Rattle.pbx_link.specs.declared.error.DescriptorError.TheVariants as check
 use Rattle.protox_file.specs.declared.error.ErrorKind.{ErrorKind}
-use Rattle.protox_file.specs.declared.error.ErrorKind.TheVariants.{Parse, Check, OpenFile, FileTooLarge, FileInvalidUtf8, FileNotFound, ImportNotFound, CircularImport, FileNotIncluded, FileShadowed, DuplicateImport, Custom, NameMismatch, FileLimit, Undecodable, NoMemory}
+use Rattle.protox_file.specs.declared.error.ErrorKind.TheVariants.{Parse, Check, OpenFile, FileTooLarge, FileInvalidUtf8, FileNotFound}
+use Rattle.protox_file.specs.declared.error.ErrorKind.TheVariants.{ImportNotFound, CircularImport, FileNotIncluded, FileShadowed}
+use Rattle.protox_file.specs.declared.error.ErrorKind.TheVariants.{DuplicateImport, Custom, NameMismatch, FileLimit, Undecodable, NoMemory}
 
 abbrev pub Pieces : Type 0
 Pieces = List (List ℕ)

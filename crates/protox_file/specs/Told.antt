@@ -22,30 +22,45 @@ pub data Told : Type 0 where
   TooLarge : Told
   NotText : Told
 
--- what looking a name up comes to: no file, a file, or a text that is at fault, by the number of the error's kind: 1 its syntax, 4 its
--- size, 5 its encoding
+-- What looking a name up comes to: no file, a file, or a text that is at fault, by the number of the error's kind: 1 its syntax, 4 its
+-- size, 5 its encoding. Or it was not looked up.
 pub data Lookup : Type 0 where
   NoFile : Lookup
   IsFile : Entry → Lookup
   TextFault : ℕ → Lookup
+  Unread : Lookup
 
 -- a source under a name, which is read from this path, gives this
 abbrev pub IsReading : List ℕ → List ℕ → Option (List ℕ) → Lookup → Type 0
 IsReading name source path NoFile = ⊥
 IsReading name source path (IsFile entry) = Reads name source entry.file × (entry.path ≡ path) × (entry.source ≡ Some source) × (entry.encoded ≡ None)
 IsReading name source path (TextFault kind) = (kind ≡ 1) × ((file : FileDescriptorProto) → ¬ Reads name source file)
+IsReading name source path Unread = ⊥
 
 -- What looking a name up comes to, where this stands under it. There is at most one such, since a name and a source have at most one record.
-abbrev pub IsLookup : List ℕ → Told → Lookup → Type 0
-IsLookup name Absent lookup = lookup ≡ NoFile
-IsLookup name (Recorded entry) lookup = lookup ≡ IsFile entry
-IsLookup name (Source source path) lookup = IsReading name source path lookup
-IsLookup name TooLarge lookup = lookup ≡ TextFault 4
-IsLookup name NotText lookup = lookup ≡ TextFault 5
+abbrev pub IsFound : List ℕ → Told → Lookup → Type 0
+IsFound name Absent lookup = lookup ≡ NoFile
+IsFound name (Recorded entry) lookup = lookup ≡ IsFile entry
+IsFound name (Source source path) lookup = IsReading name source path lookup
+IsFound name TooLarge lookup = lookup ≡ TextFault 4
+IsFound name NotText lookup = lookup ≡ TextFault 5
 
--- what looking each name up comes to
+-- the look-up of a name is right, where this stands under it: that is what it came to, or it was not looked up
+abbrev pub IsLookup : List ℕ → Told → Lookup → Type 0
+IsLookup name told Unread = Unit {0}
+IsLookup name told lookup = IsFound name told lookup
+
+-- each name was looked up right, or was not
 abbrev pub AreLookups : (List ℕ → Told) → (List ℕ → Lookup) → Type 0
 AreLookups files lookups = (name : List ℕ) → IsLookup name (files name) (lookups name)
+
+-- some look-ups of these files are such
+abbrev pub ByLookups : (List ℕ → Told) → ((List ℕ → Lookup) → Type 0) → Type 0
+ByLookups files P = (lookups : List ℕ → Lookup) × AreLookups files lookups × P lookups
+
+-- no name is left that was not looked up
+abbrev pub AreComplete : (List ℕ → Lookup) → Type 0
+AreComplete lookups = (name : List ℕ) → ¬ (lookups name ≡ Unread)
 
 -- at most so many bytes are read as a source
 abbrev pub largest_source : ℕ

@@ -3,7 +3,8 @@
 ghost use Rattle.std.specs.Prelude.{◌≡◌, IfOk, true, false};
 ghost use Rattle.std.specs.List.{concat};
 ghost use Rattle.std.specs.Option.{option_copied};
-ghost use Rattle.protox_file.specs.Errors.{of_parse, of_descriptor, of_decode, descriptor_file, IsWhole, UnlessMemory, file_of, is_absence, is_text_fault, is_reading_fault};
+ghost use Rattle.protox_file.specs.Errors.{of_parse, of_descriptor, of_decode, descriptor_file, IsWhole, UnlessMemory, file_of, is_absence};
+ghost use Rattle.protox_file.specs.Errors.{is_text_fault, is_reading_fault};
 ghost use Rattle.protox_file.specs.Lines.{line_of, long_line_of};
 
 use crate::lines;

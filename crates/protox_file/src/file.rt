@@ -6,7 +6,7 @@ ghost use Rattle.protox_io.specs.Count.{Rose};
 ghost use Rattle.protox_io.specs.Disk.{Stored};
 ghost use Rattle.protox_io.specs.Paths.{disk_key};
 ghost use Rattle.protox_file.specs.Causes.{HasCause, IsTold, IsOfPath};
-ghost use Rattle.protox_file.specs.Told.{Told, Lookup, Source, IsLookup, told_source, told_held};
+ghost use Rattle.protox_file.specs.Told.{Told, Lookup, Source, IsFound, told_source, told_held};
 
 use crate::error::Error;
 use pbx_desc_records::FileDescriptorProto;
@@ -217,7 +217,7 @@ fn read(alloc: Global, name: &str, source: &str, path: Option<Text>) -> Result<F
 
 /// What looking a name up comes to is one thing at most.
 pub fn looked_up_once()
-    ensures { (name : List ℕ) (told : Told) (a b : Lookup) → IsLookup name told a → IsLookup name told b → a ≡ b }
+    ensures { (name : List ℕ) (told : Told) (a b : Lookup) → IsFound name told a → IsFound name told b → a ≡ b }
 {
     pbx_parse::at_most_one();
 }

@@ -3,7 +3,8 @@
 ghost use Rattle.std.specs.Prelude.{◌≡◌, ◌∷◌, [], IfOk, OnOk, decimal, codes, string_bytes, ◌++◌, if◌then◌else◌};
 ghost use Rattle.std.specs.Fmt.{signed_decimal};
 ghost use Rattle.std.specs.List.{concat};
-ghost use Rattle.protox_file.specs.Lines.{early_rule, late_rule, rule_text, dotted, parse_line, descriptor_line, line_of, at_file, at_place, at_import, before_parse, before_descriptor, before_line, behind_line, long_line_of};
+ghost use Rattle.protox_file.specs.Lines.{early_rule, late_rule, rule_text, dotted, parse_line, descriptor_line, line_of, at_file};
+ghost use Rattle.protox_file.specs.Lines.{at_place, at_import, before_parse, before_descriptor, before_line, behind_line, long_line_of};
 
 use crate::error::ErrorKind;
 use itoa::Buffer;

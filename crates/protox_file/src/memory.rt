@@ -1,4 +1,5 @@
-ghost use Rattle.std.specs.Prelude.{◌≡◌, ◌≤◌, ◌∷◌, ◌++◌, ◌==◌, ◌^◌, ◌-◌, [], ℕ, List, Some, None, All, OnOk, OnErr, IfOk, IfErr, IfSome, IsTrue, IsFalse, MatchOption, true, if◌then◌else◌};
+ghost use Rattle.std.specs.Prelude.{◌≡◌, ◌≤◌, ◌∷◌, ◌++◌, ◌==◌, ◌^◌, ◌-◌, [], ℕ, List, Some, None, All, OnOk, OnErr, IfOk, IfErr, IfSome};
+ghost use Rattle.std.specs.Prelude.{IsTrue, IsFalse, MatchOption, true, if◌then◌else◌};
 ghost use Rattle.std.specs.Option.{option_copied};
 ghost use Rattle.protox_io.specs.Count.{Rose, raised};
 ghost use Rattle.protox_io.specs.Disk.{Missing};

@@ -7,7 +7,7 @@ use Rattle.pbx_desc.specs.Content.{file_content}
 use Rattle.protox_io.specs.Disk.{Held}
 use Rattle.protox_io.specs.Paths.{Component, disk_key}
 use Rattle.protox_io.specs.Sink.{Begins}
-use Rattle.protox_file.specs.Told.{Entry, Told, IsFile, IsLookup, told_held}
+use Rattle.protox_file.specs.Told.{Entry, Told, IsFile, IsFound, told_held}
 use Rattle.protox_file.specs.Causes.{IsToldRefusal, HasCause}
 use Rattle.protox_file.specs.Lines.{long_line_of}
 use Rattle.protox_file.specs.Errors.{is_reading_fault}
@@ -23,12 +23,12 @@ told_of holds name = told_held (holds (disk_key name)) (Some name)
 -- These are the bytes of the file's record before linking, `google.protobuf.FileDescriptorProto`.
 abbrev pub HasRecord : (List Component → Held) → List ℕ → List ℕ → Type 0
 HasRecord holds name bytes =
-    (entry : Entry) × IsLookup name (told_of holds name) (IsFile entry) × (bytes ≡ encoded descriptor_shape 1 (file_content entry.file))
+    (entry : Entry) × IsFound name (told_of holds name) (IsFile entry) × (bytes ≡ encoded descriptor_shape 1 (file_content entry.file))
 
 -- the file has no record, for a reason of which this is the line
 abbrev pub HasNone : (List Component → Held) → List ℕ → List ℕ → Type 0
 HasNone holds name line =
-    ((entry : Entry) → ¬ IsLookup name (told_of holds name) (IsFile entry))
+    ((entry : Entry) → ¬ IsFound name (told_of holds name) (IsFile entry))
     × (error : ErrorKind) × IsToldRefusal name (told_of holds name) error × HasCause name ⊥ error × (line ≡ concat (long_line_of error))
 
 -- Why the run ends at a file of this error: no memory, a fault of reading, or a refusal, with the error's line.

@@ -4,13 +4,13 @@ use Rattle.protox.proofs.Transcoding.{ok_then, err_then}
 use Rattle.protox.proofs.plan.plan.Goals as goal
 
 pub returns-in-Ok-clause-done : goal.returns-in-Ok-clause-done
-returns-in-Ok-clause-done g c disk input lookups are =
+returns-in-Ok-clause-done g c disk input =
     let read = c.in-Ok.ensures.ok input in
-    ok_then c.compile.result.result (λ done h. (read.0, (view c.in-Ok.tree, read.1, h))) (c.compile.ensures.done disk lookups are)
+    ok_then c.compile.result.result (λ done h. (read.0, (view c.in-Ok.tree, read.1, h))) (c.compile.ensures.done disk)
 
 pub returns-in-Ok-clause-stop : goal.returns-in-Ok-clause-stop
-returns-in-Ok-clause-stop g c disk input lookups are =
+returns-in-Ok-clause-stop g c disk input =
     let read = c.in-Ok.ensures.ok input in
     err_then c.compile.result.result
-    (λ stop h. file_judged (record { type_name = c.args.type_name.now; path = c.args.path.now; file = c.args.file.now }) lookups (g.S.Source.left c.args.input.now) (view c.in-Ok.tree) stop read.0 read.1 h)
-    (c.compile.ensures.stop disk lookups are)
+    (λ stop h. file_judged (record { type_name = c.args.type_name.now; path = c.args.path.now; file = c.args.file.now }) (g.D.Disk.holds c.args.disk) (g.S.Source.left c.args.input.now) (view c.in-Ok.tree) stop read.0 read.1 h)
+    (c.compile.ensures.stop disk)

@@ -1,6 +1,6 @@
 use Rattle.serde_json.specs.View.{view}
 use Rattle.protox_io.specs.Count.{Rose}
-use Rattle.protox.proofs.Judged.{stopped, accepted, all_refused, all_given, all_pooled, of_disk, walk_caused, pool_caused}
+use Rattle.protox.proofs.Judged.{stopped, accepted, all_refused, all_given, all_pooled, of_disk, resolver_kept, resolver_same, walk_caused, pool_caused}
 use Rattle.protox.proofs.Transcoding.{ok_then, err_then}
 use Rattle.std.proofs.Common.{ap, subst, sym}
 use Rattle.protox.specs.Top.{IsCaused, Refuses, of_error}
@@ -8,25 +8,40 @@ use Rattle.protox.specs.declared.error.TopError.{TopError}
 use Rattle.protox.proofs.transcode.compile_and_transcode.Goals as goal
 
 pub returns-in-Err-open_files-clause-err : goal.returns-in-Err-open_files-clause-err
-returns-in-Err-open_files-clause-err g c tells lookups are =
-    let P : TopError → Type 0 = λ e. Refuses lookups (g.R.FileResolver.resolves c.args.resolver) c.args.paths.now c.args.type_name.now (view c.args.tree.now) e in
+returns-in-Err-open_files-clause-err g c tells =
+    let P : TopError → Type 0 = λ e. Refuses (g.R.FileResolver.files c.args.resolver) (g.R.FileResolver.resolves c.args.resolver) c.args.paths.now c.args.type_name.now (view c.args.tree.now) e in
     subst P (sym c.file_error.ensures)
     (stopped g.R.FileResolver.tells g.R.FileResolver.files g.R.FileResolver.resolves c.args.resolver c.in-Ok.compiler c.args.paths.now c.open_files.new.self.done c.args.type_name.now (view c.args.tree.now) c.in-Err-open_files.error
-    c.in-Ok.ensures.ok c.in-Err-open_files.ensures.err tells lookups are)
+    c.in-Ok.ensures.ok c.in-Err-open_files.ensures.err tells)
 
 pub returns-clause-ok : goal.returns-clause-ok
-returns-clause-ok g c tells lookups are =
+returns-clause-ok g c tells =
     ok_then c.transcode_in-result.result
-    (λ done h. all_given lookups (g.R.FileResolver.resolves c.args.resolver) c.args.paths.now c.args.type_name.now (view c.args.tree.now) c.open_files.new.self.done c.descriptor_pool-pool.result done.set done.wire (view done.tree) c.descriptor_pool-pool.ensures.pool
-    (accepted g.R.FileResolver.tells g.R.FileResolver.files g.R.FileResolver.resolves c.args.resolver c.in-Ok.compiler c.args.paths.now c.open_files.new.self.done c.in-Ok.ensures.ok c.in-Ok-open_files.ensures.ok tells lookups are) h)
+    (λ done h. all_given (g.R.FileResolver.files c.args.resolver) (g.R.FileResolver.resolves c.args.resolver) c.args.paths.now c.open_files.new.self.done
+    (accepted g.R.FileResolver.tells g.R.FileResolver.files g.R.FileResolver.resolves c.args.resolver c.in-Ok.compiler c.args.paths.now c.open_files.new.self.done c.in-Ok.ensures.ok c.in-Ok-open_files.ensures.ok tells)
+    c.descriptor_pool-pool.result c.descriptor_pool-pool.ensures.pool c.args.type_name.now (view c.args.tree.now) done.set done.wire (view done.tree) h)
     c.transcode_in-result.ensures.ok
 
 pub returns-clause-err : goal.returns-clause-err
-returns-clause-err g c tells lookups are =
+returns-clause-err g c tells =
     err_then c.transcode_in-result.result
-    (λ error h. all_refused lookups (g.R.FileResolver.resolves c.args.resolver) c.args.paths.now c.args.type_name.now (view c.args.tree.now) c.open_files.new.self.done c.descriptor_pool-pool.result error c.descriptor_pool-pool.ensures.pool
-    (accepted g.R.FileResolver.tells g.R.FileResolver.files g.R.FileResolver.resolves c.args.resolver c.in-Ok.compiler c.args.paths.now c.open_files.new.self.done c.in-Ok.ensures.ok c.in-Ok-open_files.ensures.ok tells lookups are) h)
+    (λ error h. all_refused (g.R.FileResolver.files c.args.resolver) (g.R.FileResolver.resolves c.args.resolver) c.args.paths.now c.open_files.new.self.done
+    (accepted g.R.FileResolver.tells g.R.FileResolver.files g.R.FileResolver.resolves c.args.resolver c.in-Ok.compiler c.args.paths.now c.open_files.new.self.done c.in-Ok.ensures.ok c.in-Ok-open_files.ensures.ok tells)
+    c.descriptor_pool-pool.result c.descriptor_pool-pool.ensures.pool c.args.type_name.now (view c.args.tree.now) error h)
     c.transcode_in-result.ensures.err
+
+pub returns-in-Err-clause-keeps : goal.returns-in-Err-clause-keeps
+returns-in-Err-clause-keeps g c = resolver_same g.R.FileResolver.tells g.R.FileResolver.files g.R.FileResolver.resolves g.R.FileResolver.disk c.args.resolver c.in-Err.resolver c.in-Err.ensures.err
+
+pub returns-in-Err-open_files-clause-keeps : goal.returns-in-Err-open_files-clause-keeps
+returns-in-Err-open_files-clause-keeps g c =
+    resolver_kept g.R.FileResolver.tells g.R.FileResolver.files g.R.FileResolver.resolves g.R.FileResolver.disk c.args.resolver c.into_resolver.result c.in-Ok.compiler.resolver c.open_files.new.self.resolver
+    (ap (λ s. s.resolver) c.in-Ok.ensures.ok) c.into_resolver.ensures c.open_files.ensures.keeps
+
+pub returns-clause-keeps : goal.returns-clause-keeps
+returns-clause-keeps g c =
+    resolver_kept g.R.FileResolver.tells g.R.FileResolver.files g.R.FileResolver.resolves g.R.FileResolver.disk c.args.resolver c.into_resolver-2.result c.in-Ok.compiler.resolver c.open_files.new.self.resolver
+    (ap (λ s. s.resolver) c.in-Ok.ensures.ok) c.into_resolver-2.ensures c.open_files.ensures.keeps
 
 pub returns-in-Err-open_files-clause-cause : goal.returns-in-Err-open_files-clause-cause
 returns-in-Err-open_files-clause-cause g c =

@@ -1,15 +1,24 @@
-use Rattle.std.proofs.Common.{◌≡◌, ◌∙◌, false, refl, sym, rules}
-use Rattle.std.specs.Prelude.{Some}
-use Rattle.protox_compile.specs.Walk.{is_done}
+use Rattle.std.proofs.Common.{◌∙◌, sym}
 use Rattle.protox_compile.specs.Opening.{asked_path}
-use Rattle.protox_compile.proofs.Openings.{refuses, opening_cause, opens_again, opens_new, longer}
+use Rattle.protox_compile.proofs.Openings.{ok_again, err_again, ok_new, err_new, opening_cause, opens_again, opens_new, longer}
 use Rattle.protox_compile.proofs.Causes.{shadowed_cause}
 use Rattle.protox_compile.proofs.root.open_name.Goals as goal
 
+pub returns-then-contains-clause-ok : goal.returns-then-contains-clause-ok
+returns-then-contains-clause-ok g c tells =
+    ok_again (g.R.FileResolver.files c.args.resolver.now) c.args.limit c.args.name.now (asked_path c.args.resolved c.args.path.now) c.args.done.now _ c.open_again.result (sym c.contains.ensures ∙ c.if-contains.true) c.open_again.ensures.ok
+
+pub returns-then-contains-clause-err : goal.returns-then-contains-clause-err
+returns-then-contains-clause-err g c tells =
+    err_again (g.R.FileResolver.files c.args.resolver.now) c.args.limit c.args.name.now (asked_path c.args.resolved c.args.path.now) c.args.done.now _ c.args.path.now c.open_again.result (sym c.contains.ensures ∙ c.if-contains.true) c.open_again.ensures.err c.open_again.ensures.refused
+
+pub returns-in-Ok-clause-ok : goal.returns-in-Ok-clause-ok
+returns-in-Ok-clause-ok g c tells =
+    ok_new (g.R.FileResolver.files c.args.resolver.now) c.args.limit c.args.name.now (asked_path c.args.resolved c.args.path.now) c.args.done.now _ c.visit_root.new.done (sym c.contains.ensures ∙ c.if-contains.false) (c.in-Ok.ensures.ok tells) c.mark.ensures
+
 pub returns-in-Err-clause-err : goal.returns-in-Err-clause-err
-returns-in-Err-clause-err g c tells lookups all =
-    let new : is_done c.args.done.now c.args.name.now ≡ false = search rules in
-    refuses c.args.limit c.args.path.now c.args.name.now (asked_path c.args.resolved c.args.path.now) (Some (c.args.name.now, asked_path c.args.resolved c.args.path.now)) c.args.done.now _ lookups c.in-Err.error _ refl new (c.in-Err.ensures.err tells lookups all) c.root_error.ensures
+returns-in-Err-clause-err g c tells =
+    err_new (g.R.FileResolver.files c.args.resolver.now) c.args.limit c.args.name.now (asked_path c.args.resolved c.args.path.now) c.args.done.now _ c.args.path.now c.in-Err.error _ (sym c.contains.ensures ∙ c.if-contains.false) (c.in-Err.ensures.err tells) c.root_error.ensures
 
 pub returns-in-Err-clause-cause : goal.returns-in-Err-clause-cause
 returns-in-Err-clause-cause g c = opening_cause c.args.limit c.args.path.now c.args.resolved _ _ c.in-Err.error _ c.in-Err.ensures.cause c.root_error.ensures

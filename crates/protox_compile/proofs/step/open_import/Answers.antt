@@ -10,7 +10,9 @@ pub returns-in-Ok-clause-child : goal.returns-in-Ok-clause-child
 returns-in-Ok-clause-child g c tells = visit_leads (g.R.FileResolver.files c.args.resolver.now) c.args.limit c.args.current.now c.args.parents.now c.args.done.now c.args.name.now c.requires.more c.requires.visit.name_is c.requires.visit (omega arith) c.in-Ok.child c.in-Ok.ensures.fresh.0 (c.in-Ok.ensures.opened tells)
 
 pub returns-in-Err-clause-err : goal.returns-in-Err-clause-err
-returns-in-Err-clause-err g c tells walk follows lookups all = ends_import (g.R.FileResolver.files c.args.resolver.now) c.args.limit c.args.current.now c.args.parents.now c.args.done.now c.args.name.now c.requires.more c.requires.visit.name_is c.requires.visit (omega arith) walk follows lookups all c.in-Err.error c.import_error.result c.import_error.ensures (c.in-Err.ensures.stopped tells (lookups c.args.name.now) (all c.args.name.now))
+returns-in-Err-clause-err g c tells =
+    ends_import (g.R.FileResolver.files c.args.resolver.now) c.args.limit c.args.current.now c.args.parents.now c.args.done.now c.args.name.now c.requires.more c.requires.visit.name_is c.requires.visit (omega arith)
+    c.in-Err.error c.import_error.result c.import_error.ensures (c.in-Err.ensures.stopped tells)
 
 pub returns-in-Err-clause-cause : goal.returns-in-Err-clause-cause
 returns-in-Err-clause-cause g c = import_cause c.args.limit c.args.done.now _ _ _ _ _ c.in-Err.error c.import_error.result c.in-Err.ensures.cause c.import_error.ensures

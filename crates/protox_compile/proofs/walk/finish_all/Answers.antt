@@ -106,8 +106,8 @@ pub returns-in-None-clause-there : goal.returns-in-None-clause-there
 returns-in-None-clause-there g c = root_done c.args.root.name c.walk.current c.walk.parents c.walk.done c.finish.new.self c.in-None.ensures.0 c.in_ok-finish.ensures.ok c.walk.invariant.fresh
 
 pub returns-in-None-clause-ok : goal.returns-in-None-clause-ok
-returns-in-None-clause-ok g c tells walk follows lookups all =
+returns-in-None-clause-ok g c tells walk follows =
     let grown : c.finish.new.self ≡ c.walk.done ++ done_as c.walk.done c.walk.current.name c.walk.current.entry ∷ [] = c.in_ok-finish.ensures.ok in
     let e : c.walk.parents ≡ [] = c.in-None.ensures.0 in
-    ends_finished (g.R.FileResolver.files c.args.resolver.now) walk c.args.limit c.walk.parents c.finish.new.self lookups e
-    (finish_leads (g.R.FileResolver.files c.args.resolver.now) c.args.limit c.walk.current c.walk.parents c.walk.done c.finish.new.self (sym c.has_next.ensures ∙ c.if-has_next.false) c.in_ok-finish.ensures.linked grown walk (c.walk.invariant.leads tells walk follows)) all
+    ends_finished (g.R.FileResolver.files c.args.resolver.now) walk c.args.limit c.walk.parents c.finish.new.self e
+    (finish_leads (g.R.FileResolver.files c.args.resolver.now) c.args.limit c.walk.current c.walk.parents c.walk.done c.finish.new.self (sym c.has_next.ensures ∙ c.if-has_next.false) c.in_ok-finish.ensures.linked grown walk (c.walk.invariant.leads tells walk follows))

@@ -8,28 +8,28 @@ use Rattle.protox_compile.proofs.Openings.{rose_since}
 use Rattle.protox_compile.proofs.walk.visit_root.Goals as goal
 
 pub returns-then-len-limit-clause-err : goal.returns-then-len-limit-clause-err
-returns-then-len-limit-clause-err g c tells lookups all = rw c.too_many.ensures (root_limit c.args.limit (asked_path c.args.resolved c.args.path.now) c.args.root.now c.args.done.now lookups (search rules))
+returns-then-len-limit-clause-err g c tells = rw c.too_many.ensures (root_limit c.args.limit (asked_path c.args.resolved c.args.path.now) c.args.root.now c.args.done.now (g.R.FileResolver.files c.args.resolver.now) (search rules))
 
 pub returns-in-Ok-clause-ok : goal.returns-in-Ok-clause-ok
-returns-in-Ok-clause-ok g c tells lookups all =
+returns-in-Ok-clause-ok g c tells =
     let room : length c.args.done.now + 1 ≤ c.args.limit = search rules in
     let told : IsTrue (g.R.FileResolver.tells c.open_frame.new.resolver) = rw c.open_frame.ensures.keeps_tells tells in
     let follows : Follows (g.R.FileResolver.files c.args.resolver.now) (root_walk c.args.limit (asked_path c.args.resolved c.args.path.now) c.args.root.now c.args.done.now) c.args.limit (c.in-Ok.frame ∷ []) c.args.done.now
     = root_follows c.args.limit (asked_path c.args.resolved c.args.path.now) c.args.root.now c.args.done.now room (g.R.FileResolver.files c.args.resolver.now) c.in-Ok.frame c.in-Ok.ensures.fresh.0 (c.in-Ok.ensures.opened tells) c.in-Ok.ensures.unshadowed in
-    later_files (g.R.FileResolver.files c.args.resolver.now) (g.R.FileResolver.files c.open_frame.new.resolver) _ _ _ _ _ _ lookups (c.open_frame.ensures.keeps_files tells) (c.finish_all.ensures.ok told) follows all
+    later_files (g.R.FileResolver.files c.args.resolver.now) (g.R.FileResolver.files c.open_frame.new.resolver) _ _ _ _ _ _ (c.open_frame.ensures.keeps_files tells) (c.finish_all.ensures.ok told) follows
 
 pub returns-in-Ok-clause-err : goal.returns-in-Ok-clause-err
-returns-in-Ok-clause-err g c tells lookups all =
+returns-in-Ok-clause-err g c tells =
     let room : length c.args.done.now + 1 ≤ c.args.limit = search rules in
     let told : IsTrue (g.R.FileResolver.tells c.open_frame.new.resolver) = rw c.open_frame.ensures.keeps_tells tells in
     let follows : Follows (g.R.FileResolver.files c.args.resolver.now) (root_walk c.args.limit (asked_path c.args.resolved c.args.path.now) c.args.root.now c.args.done.now) c.args.limit (c.in-Ok.frame ∷ []) c.args.done.now
     = root_follows c.args.limit (asked_path c.args.resolved c.args.path.now) c.args.root.now c.args.done.now room (g.R.FileResolver.files c.args.resolver.now) c.in-Ok.frame c.in-Ok.ensures.fresh.0 (c.in-Ok.ensures.opened tells) c.in-Ok.ensures.unshadowed in
-    later_ends (g.R.FileResolver.files c.args.resolver.now) (g.R.FileResolver.files c.open_frame.new.resolver) c.args.limit _ _ _ c.finish_all.result _ lookups (c.open_frame.ensures.keeps_files tells) (c.finish_all.ensures.err told) follows all
+    later_ends (g.R.FileResolver.files c.args.resolver.now) (g.R.FileResolver.files c.open_frame.new.resolver) c.args.limit _ _ _ c.finish_all.result _ (c.open_frame.ensures.keeps_files tells) (c.finish_all.ensures.err told) follows
 
 pub returns-in-Err-clause-err : goal.returns-in-Err-clause-err
-returns-in-Err-clause-err g c tells lookups all =
+returns-in-Err-clause-err g c tells =
     let room : length c.args.done.now + 1 ≤ c.args.limit = search rules in
-    root_stops c.args.limit (asked_path c.args.resolved c.args.path.now) c.args.root.now c.args.done.now room lookups c.in-Err.error (c.in-Err.ensures.stopped tells (lookups c.args.root.now) (all c.args.root.now))
+    root_stops c.args.limit (asked_path c.args.resolved c.args.path.now) c.args.root.now c.args.done.now room (g.R.FileResolver.files c.args.resolver.now) c.in-Err.error (c.in-Err.ensures.stopped tells)
 
 pub returns-in-Ok-clause-cause : goal.returns-in-Ok-clause-cause
 returns-in-Ok-clause-cause g c = root_step_cause _ c.args.limit _ _ _ c.finish_all.result (rose_since _ _ _ _ c.open_frame.ensures.later) c.finish_all.ensures.cause

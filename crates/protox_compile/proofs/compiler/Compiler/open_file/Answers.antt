@@ -1,22 +1,19 @@
 use Rattle.std.proofs.Common.{◌≡◌, ap, IsTrue, true}
-use Rattle.protox_file.specs.Told.{AreLookups}
 use Rattle.protox_compile.specs.Opening.{root_of}
 use Rattle.protox_compile.specs.State.{is_settled}
 use Rattle.protox_compile.proofs.compiler.Compiler.open_file.Goals as goal
 
 pub returns-clause-ok : goal.returns-clause-ok
-returns-clause-ok g c tells lookups all =
+returns-clause-ok g c tells =
     let same : c.self.inside.resolver ≡ c.args.self.now.resolver = ap (λ s. s.resolver) c.self.view_is in
     let told : IsTrue (g.R.FileResolver.tells c.self.inside.resolver) = rw same tells in
-    let looked : AreLookups (g.R.FileResolver.files c.self.inside.resolver) lookups = rw same all in
-    rw (← c.self.view_is) (c.open_path.ensures.ok told lookups looked)
+    rw (← c.self.view_is) (c.open_path.ensures.ok told)
 
 pub returns-clause-err : goal.returns-clause-err
-returns-clause-err g c tells lookups all =
+returns-clause-err g c tells =
     let same : c.self.inside.resolver ≡ c.args.self.now.resolver = ap (λ s. s.resolver) c.self.view_is in
     let told : IsTrue (g.R.FileResolver.tells c.self.inside.resolver) = rw same tells in
-    let looked : AreLookups (g.R.FileResolver.files c.self.inside.resolver) lookups = rw same all in
-    rw (← c.self.view_is) (c.open_path.ensures.err told lookups looked)
+    rw (← c.self.view_is) (c.open_path.ensures.err told)
 
 pub returns-clause-again : goal.returns-clause-again
 returns-clause-again g c tells settled =
@@ -28,3 +25,6 @@ returns-clause-again g c tells settled =
 
 pub returns-clause-unread : goal.returns-clause-unread
 returns-clause-unread g c = rw (← c.self.view_is) c.open_path.ensures.unread
+
+pub returns-clause-keeps : goal.returns-clause-keeps
+returns-clause-keeps g c = rw (← c.self.view_is) (record { tells = c.open_path.ensures.keeps_tells; files = c.open_path.ensures.keeps_files; resolves = c.open_path.ensures.keeps_resolves; disk = c.open_path.ensures.keeps_disk })
