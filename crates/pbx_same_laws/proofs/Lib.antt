@@ -1,0 +1,5 @@
+pub mod Values
+pub mod Contents
+pub mod Told
+pub mod Alike
+pub mod AlikeLinked
