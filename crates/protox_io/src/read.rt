@@ -5,7 +5,7 @@ ghost use Rattle.protox_io.specs.declared.read.ReadFault.TheVariants.{NoMemory a
 
 use crate::{Failed, Source};
 use pbx_wire::{Blob, NoMemory};
-use std::alloc::{AllocError, Global};
+use std::alloc::Global;
 
 /// Why a source was not read to its end.
 #[derive(Clone, Copy, Debug, PartialEq, Eq)]
@@ -26,16 +26,8 @@ impl From<NoMemory> for ReadFault {
     }
 }
 
-impl From<AllocError> for ReadFault {
-    ghost from_gives = { λ _ e. e ≡ OutOfMemory };
-
-    fn from(_refused: AllocError) -> ReadFault {
-        ReadFault::NoMemory
-    }
-}
-
-// A block of 64 KiB, on the heap: one call of the system for many bytes.
-const BLOCK: usize = 65536;
+// A block of 16 KiB, on the stack: one call of the system for many bytes, and no memory for each of very many short files.
+const BLOCK: usize = 16384;
 
 /// Moves at most a block of bytes from the source behind those that were read.
 fn read_block<S: Source>(
@@ -61,7 +53,7 @@ fn read_block<S: Source>(
     }
 }
 
-/// Reads a source to its end, in blocks of 64 KiB. More bytes than the limit are refused; by then up to a block past the
+/// Reads a source to its end, in blocks of 16 KiB. More bytes than the limit are refused; by then up to a block past the
 /// limit has been read. The limit is in bytes.
 pub fn read_to_end<S: Source>(
     alloc: Global,
@@ -76,8 +68,8 @@ pub fn read_to_end<S: Source>(
     ensures keeps_tells { S.tells source.new ≡ S.tells source.old }
 {
     let mut bytes = Blob::new(alloc);
-    let mut blocks = vec![in alloc; 0u8; BLOCK]?;
-    let block = blocks.as_mut_slice();
+    let mut blocks = [0u8; BLOCK];
+    let block = &mut blocks[..];
     'reading: loop {
         if bytes.as_slice().len() > limit {
             return Err(ReadFault::TooLong);

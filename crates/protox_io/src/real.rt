@@ -82,7 +82,7 @@ impl<R> Model for RealSource<R> {
 }
 
 impl<R: Read> RealSource<R> {
-    /// Give the stream itself, and none with a buffer of its own: `read_to_end` asks for 64 KiB at a time.
+    /// Give the stream itself, and none with a buffer of its own: `read_to_end` asks for 16 KiB at a time.
     pub fn new(stream: R) -> Self
         ensures { result ≡ 0 }
     {
