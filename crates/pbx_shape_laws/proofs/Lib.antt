@@ -1,1 +1,13 @@
+pub mod PoolParts
 pub mod ValidNumbers
+pub mod Lists
+pub mod Types
+pub mod Entries
+pub mod Keyed
+pub mod Numbers
+pub mod OwnNumbers
+pub mod Extending
+pub mod ExtendedOnce
+pub mod Ranged
+pub mod DistinctNumbers
+pub mod Proper

@@ -27,15 +27,11 @@ use Rattle.pbx_described.specs.Descriptors.{Described, described, all_extensions
 use Rattle.pbx_shapes.specs.Shapes.{field_shape, extension_shape, message_shape}
 use Rattle.pbx_shape_laws.specs.Laws.{NumbersAreValid}
 use Rattle.pbx_shapes.proofs.Lists.{File, parts_back}
+use Rattle.pbx_shape_laws.proofs.Lists.{any_weaker, both_true}
 
 -- no number of a field
-abbrev is_bad : Part FieldDescriptorProto → Bool
+abbrev pub is_bad : Part FieldDescriptorProto → Bool
 is_bad p = not (is_field_number p.item.number)
-
-any_weaker : {X : Type 0} (P R : X → Bool) → ((x : X) → P x ≡ false → R x ≡ false) → (xs : List X) → list_any P xs ≡ false → list_any R xs ≡ false
-any_weaker P R weaker [] h = refl
-any_weaker P R weaker (x ∷ xs) h =
-    let both = neither (P x) (list_any P xs) h in no_other (R x) (list_any R xs) (weaker x both.0) (any_weaker P R weaker xs both.1)
 
 -- ---- a record that keeps the rules
 
@@ -86,7 +82,7 @@ pool_fields_fit before (g ∷ gs) h =
     list_any-append is_bad (fields g) (flat_map fields gs)
     ∙ no_other _ _ (ap (λ (k : File). list_any is_bad (fields k)) h.0.1.is ∙ linked_fields_fit before h.0.0 h.0.1.keeps) (pool_fields_fit (before ++ g ∷ []) gs h.1)
 
-pool_extensions_fit : (before gs : List File) → ArePooled before gs → list_any is_bad (flat_map extensions gs) ≡ false
+pub pool_extensions_fit : (before gs : List File) → ArePooled before gs → list_any is_bad (flat_map extensions gs) ≡ false
 unfolding ArePooled
 pool_extensions_fit before [] h = refl
 pool_extensions_fit before (g ∷ gs) h =
@@ -108,11 +104,6 @@ record_number (Some (pos n)) h = at (nat_lt 0 n) (nat_lt n 536870912) (not (nat_
 
 abbrev is_good : FieldShape → Bool
 is_good s = is_record_number s.number
-
-both_true : (a b : Bool) → a ≡ true → b ≡ true → (a && b) ≡ true
-both_true true true p q = refl
-both_true true false p q = absurd (cc)
-both_true false b p q = absurd (cc)
 
 module _ (pool : List File) where
   own_good : (f : File) (ps : List (Part FieldDescriptorProto)) → list_any is_bad ps ≡ false → list_all is_good (map field_shape (map (described pool f) ps)) ≡ true

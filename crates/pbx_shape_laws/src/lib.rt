@@ -3,4 +3,4 @@
 
 mod laws;
 
-pub use laws::numbers_are_valid;
+pub use laws::{keys_are_valid, numbers_are_distinct, numbers_are_valid, shape_is_proper};
