@@ -47,6 +47,11 @@ class Pool:
             return False
         return record.options.packed if record.options.HasField("packed") else field.file.syntax == "proto3"
 
+    def with_default(self, field, told):
+        """The words, and behind them the default that the field declares."""
+        record = self.fields[field.full_name]
+        return " ".join(told + [f"default={record.default_value}"] * record.HasField("default_value"))
+
     def words(self, field):
         """Its kind, its label, and what else holds of a field or an extension, the oneof of a field among it."""
         told = [self.kind(field), LABELS[field.label]]
@@ -58,10 +63,7 @@ class Pool:
             told.append("presence")
         if field.containing_oneof:
             told.append(f"in {field.containing_oneof.name}")
-        record = self.fields[field.full_name]
-        if record.HasField("default_value"):
-            told.append(f"default={record.default_value}")
-        return " ".join(told)
+        return self.with_default(field, told)
 
     def field(self, field):
         return f"({field.number} {field.full_name} {field.json_name} {self.words(field)})"
@@ -150,10 +152,7 @@ class Pool:
         told += ["extension"] * field.is_extension + ["presence"] * field.has_presence + ["packed"] * self.is_packed(field)
         if field.containing_oneof:
             told.append(f"oneof{field.containing_oneof.index}")
-        record = self.fields[field.full_name]
-        if record.HasField("default_value"):
-            told.append(f"default={record.default_value}")
-        return " ".join(told)
+        return self.with_default(field, told)
 
     def shape(self, name):
         """The place of a message, its fields and extensions, and all enums."""
