@@ -35,7 +35,7 @@ fn copy_fields(
         let held = copy_held(&field.1, alloc, room)?;
         copies.add((field.0, held))?;
     }
-    Ok(NumberMap::from_ascending(copies.into_vec()))
+    NumberMap::from_entries(alloc, copies.into_vec())
 }
 
 /// An equal value.

@@ -35,14 +35,6 @@ impl<T> NumberMap<T> {
         }
     }
 
-    /// The map of these pairs, whose numbers ascend; takes no memory.
-    pub fn from_ascending(entries: Vec<(u32, T)>) -> NumberMap<T>
-        requires { IsAscending entries.items }
-        ensures { result ≡ entries.items }
-    {
-        NumberMap { entries }
-    }
-
     /// How many pairs there are.
     pub fn len(&self) -> usize
         ensures { result ≡ length self.now }
