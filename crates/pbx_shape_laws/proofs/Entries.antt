@@ -33,8 +33,8 @@ use Rattle.pbx_pool_laws.proofs.Lists.{neither, no_other, or_cases, left_nil, ri
 use Rattle.pbx_shape_laws.proofs.PoolParts.{linked_layer_is}
 use Rattle.pbx_pool_laws.proofs.Types.{not_at}
 use Rattle.pbx_described.specs.Descriptors.{Described, described, fields_of_message, with_number}
-use Rattle.pbx_shapes.specs.Shapes.{kind_by, part_kind}
-use Rattle.pbx_shapes.proofs.Lists.{File}
+use Rattle.pbx_described.specs.Shapes.{kind_by, part_kind}
+use Rattle.pbx_described.proofs.Lists.{File}
 use Rattle.pbx_shape_laws.proofs.Lists.{both_parts, equal_is, none_inside}
 use Rattle.pbx_shape_laws.proofs.Types.{each_message}
 

@@ -21,7 +21,7 @@ use Rattle.pbx_rules.proofs.First.{rule_6, rule_7}
 use Rattle.pbx_rules.proofs.Kept.{keeps_each}
 use Rattle.pbx_pool_laws.proofs.Lists.{left_nil, right_nil, map_nil, none_where}
 use Rattle.pbx_pool_laws.proofs.LinkedParts.{changed_in, extension_linked}
-use Rattle.pbx_shapes.proofs.Lists.{File}
+use Rattle.pbx_described.proofs.Lists.{File}
 use Rattle.pbx_shape_laws.proofs.Lists.{both_parts, both_true}
 use Rattle.pbx_shape_laws.proofs.Numbers.{equal_numbers}
 

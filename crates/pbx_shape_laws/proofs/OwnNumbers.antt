@@ -25,7 +25,7 @@ use Rattle.pbx_pool_laws.proofs.Counted.{count, count_map}
 use Rattle.pbx_pool_laws.proofs.Lists.{neither, left_nil, right_nil, map_nil, none_where, any_mapped}
 use Rattle.pbx_pool_laws.proofs.LinkedParts.{changed_in, field_linked}
 use Rattle.pbx_shape_laws.proofs.PoolParts.{map_twice, linked_layer_is, fields_in_linked}
-use Rattle.pbx_shapes.proofs.Lists.{File}
+use Rattle.pbx_described.proofs.Lists.{File}
 use Rattle.pbx_shape_laws.proofs.Lists.{any_weaker, nil_inside, once}
 use Rattle.pbx_shape_laws.proofs.Numbers.{equal_numbers}
 use Rattle.pbx_shape_laws.proofs.Types.{each_message}

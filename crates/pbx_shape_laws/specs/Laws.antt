@@ -8,7 +8,7 @@ use Rattle.pbx_meaning.specs.Shape.{declared_of, first_number}
 use Rattle.pbx_meaning.specs.Sound.{has_good_keys, AreProper, IsProper}
 use Rattle.pbx_desc_records.specs.declared.file.FileDescriptorProto.{FileDescriptorProto}
 use Rattle.pbx_pool_laws.specs.Pool.{ArePooled}
-use Rattle.pbx_shapes.specs.Shapes.{shape_of}
+use Rattle.pbx_described.specs.Shapes.{shape_of}
 
 -- The numbers of the fields and extensions of each message are numbers that records may have.
 abbrev pub NumbersAreValid : Type 0

@@ -19,10 +19,11 @@ use Rattle.pbx_described.specs.Descriptors.{Described, described, all_messages, 
 use Rattle.pbx_pool_laws.specs.Pool.{ArePooled}
 use Rattle.pbx_pool_laws.proofs.Counted.{count, count_map, message_once}
 use Rattle.pbx_pool_laws.proofs.Distinct.{pooled_are_distinct}
-use Rattle.pbx_shapes.specs.Shapes.{field_shape, extension_shape, message_place}
+use Rattle.pbx_described.specs.Shapes.{field_shape, extension_shape, message_place}
 use Rattle.pbx_shapes.specs.Items.{part_shape, with_field}
 use Rattle.pbx_shapes.specs.Extending.{extending, shape_with, shapes_with, changed_at, field_added, AddExtensions}
-use Rattle.pbx_shapes.proofs.Lists.{File, first_at, position_is, parts_back}
+use Rattle.pbx_described.proofs.Lists.{File, parts_back}
+use Rattle.pbx_shapes.proofs.Lists.{first_at, position_is}
 use Rattle.pbx_shapes.proofs.FieldKinds.{extension_same}
 
 -- ---- names

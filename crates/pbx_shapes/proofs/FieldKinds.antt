@@ -15,9 +15,10 @@ use Rattle.pbx_pooled.specs.Pooled.{by_file}
 use Rattle.pbx_pool.specs.Places.{place_with_file}
 use Rattle.pbx_pool.proofs.Found.{told_from, stands_at, no_place}
 use Rattle.pbx_described.specs.Descriptors.{Described, described, all_parts, message_of_name, message_referred, referred, is_entry_described, fields_of_message, with_number}
-use Rattle.pbx_shapes.specs.Shapes.{kind_of, part_kind, entry_kind, value_kind, cardinality_of, field_shape, extension_shape, value_shape, enum_shape}
+use Rattle.pbx_described.specs.Shapes.{kind_of, part_kind, entry_kind, value_kind, cardinality_of, field_shape, extension_shape, value_shape, enum_shape}
 use Rattle.pbx_shapes.specs.Items.{message_item, item_at, item_kind, if_entry, entry_of, item_kind_if, item_numbered, item_entry_kind, value_kind_by, cardinality_by, item_kinds, item_shape, part_shape, item_value, part_enum}
-use Rattle.pbx_shapes.proofs.Lists.{File, find_mapped, items_of_parts, mapped_items, parts_back, has_pool}
+use Rattle.pbx_described.proofs.Lists.{File, parts_back}
+use Rattle.pbx_shapes.proofs.Lists.{find_mapped, items_of_parts, mapped_items, has_pool}
 
 -- ---- the message that a reference names
 

@@ -6,12 +6,9 @@ use Rattle.std.specs.Option.{option_or}
 use Rattle.std.proofs.lemmas.Bool.Decides.{nat_tests}
 use Rattle.std.proofs.lemmas.List.{map-append}
 use Rattle.std.proofs.lemmas.List.Folds.{find-append}
-use Rattle.pbx_desc_records.specs.declared.file.FileDescriptorProto.{FileDescriptorProto}
 use Rattle.pbx_definitions.specs.Definitions.{Part, Place, part, parts}
 use Rattle.pbx_described.specs.Descriptors.{Described, described}
-
-abbrev pub File : Type 0
-File = FileDescriptorProto
+use Rattle.pbx_described.proofs.Lists.{File, described_parts}
 
 -- ---- options
 
@@ -122,10 +119,6 @@ items_of_parts scope place n xs = items_from scope place n 0 xs
 -- ---- parts beside their pool
 
 module _ {X : Type 0} (pool : List File) where
-  pub parts_of_described : (f : File) (ps : List (Part X)) → map (λ (d : Described X). d.part) (map (described pool f) ps) ≡ ps
-  parts_of_described f [] = refl
-  parts_of_described f (p ∷ ps) = ap (λ (qs : List (Part X)). p ∷ qs) (parts_of_described f ps)
-
   pub mapped_items : {Y : Type 0} (f : File) (F : Described X → Y) (G : X → Y) → ((p : Part X) → F (described pool f p) ≡ G p.item) → (ps : List (Part X))
       → map F (map (described pool f) ps) ≡ map G (map (λ (p : Part X). p.item) ps)
   mapped_items f F G same [] = refl
@@ -137,36 +130,25 @@ module _ {X : Type 0} (pool : List File) where
   mapped_own f F G same [] = refl
   mapped_own {Y} f F G same (p ∷ ps) = ap (λ (y : Y). y ∷ map F (map (described pool f) ps)) (same p) ∙ ap (λ (ys : List Y). G p ∷ ys) (mapped_own f F G same ps)
 
-  abbrev pub described_parts : (File → List (Part X)) → List File → List (Described X)
-  described_parts tell files = flat_map (λ f. map (described pool f) (tell f)) files
-
   pub mapped_parts : {Y : Type 0} (tell : File → List (Part X)) (F : Described X → Y) (G : File → Part X → Y)
       → ((f : File) (p : Part X) → F (described pool f p) ≡ G f p) → (files : List File)
-      → map F (described_parts tell files) ≡ flat_map (λ f. map (G f) (tell f)) files
+      → map F (described_parts pool tell files) ≡ flat_map (λ f. map (G f) (tell f)) files
   mapped_parts tell F G same [] = refl
   mapped_parts {Y} tell F G same (f ∷ fs) =
-      map-append F (map (described pool f) (tell f)) (described_parts tell fs)
-      ∙ ap (λ (ys : List Y). ys ++ map F (described_parts tell fs)) (mapped_own f F (G f) (same f) (tell f))
+      map-append F (map (described pool f) (tell f)) (described_parts pool tell fs)
+      ∙ ap (λ (ys : List Y). ys ++ map F (described_parts pool tell fs)) (mapped_own f F (G f) (same f) (tell f))
       ∙ ap (λ (ys : List Y). map (G f) (tell f) ++ ys) (mapped_parts tell F G same fs)
-
-  -- the parts themselves
-  pub parts_back : (tell : File → List (Part X)) (files : List File) → map (λ (d : Described X). d.part) (described_parts tell files) ≡ flat_map tell files
-  parts_back tell [] = refl
-  parts_back tell (f ∷ fs) =
-      map-append (λ (d : Described X). d.part) (map (described pool f) (tell f)) (described_parts tell fs)
-      ∙ ap (λ (ps : List (Part X)). ps ++ map (λ (d : Described X). d.part) (described_parts tell fs)) (parts_of_described f (tell f))
-      ∙ ap (λ (ps : List (Part X)). tell f ++ ps) (parts_back tell fs)
 
   -- what is found has the pool
   pub has_pool : (tell : File → List (Part X)) (test : Described X → Bool) (files : List File) (d : Described X)
-      → find test (described_parts tell files) ≡ Some d → d.pool ≡ pool
+      → find test (described_parts pool tell files) ≡ Some d → d.pool ≡ pool
   has_pool tell test [] d h = absurd (cc)
   has_pool tell test (f ∷ fs) d h =
       by_own (find (λ p. test (described pool f p)) (tell f))
-      (sym (ap (λ (o : Option (Described X)). option_or o (find test (described_parts tell fs))) (find_mapped test (described pool f) (tell f)))
-      ∙ sym (find-append test (map (described pool f) (tell f)) (described_parts tell fs)) ∙ h) (has_pool tell test fs d)
+      (sym (ap (λ (o : Option (Described X)). option_or o (find test (described_parts pool tell fs))) (find_mapped test (described pool f) (tell f)))
+      ∙ sym (find-append test (map (described pool f) (tell f)) (described_parts pool tell fs)) ∙ h) (has_pool tell test fs d)
     where
-      by_own : (o : Option (Part X)) → option_or (option_map (described pool f) o) (find test (described_parts tell fs)) ≡ Some d
-          → (find test (described_parts tell fs) ≡ Some d → d.pool ≡ pool) → d.pool ≡ pool
+      by_own : (o : Option (Part X)) → option_or (option_map (described pool f) o) (find test (described_parts pool tell fs)) ≡ Some d
+          → (find test (described_parts pool tell fs) ≡ Some d → d.pool ≡ pool) → d.pool ≡ pool
       by_own None e ih = ih e
       by_own (Some p) e ih = let same : described pool f p ≡ d = cc in sym (ap (λ (x : Described X). x.pool) same)

@@ -12,10 +12,11 @@ use Rattle.pbx_desc_records.specs.declared.message.DescriptorProto.{DescriptorPr
 use Rattle.pbx_definitions.specs.Definitions.{Part, messages, enums, message_name, fields_in}
 use Rattle.pbx_definitions.specs.Says.{is_proto3, own_fields}
 use Rattle.pbx_described.specs.Descriptors.{described, all_messages, all_enums, all_extensions, fields_of_message}
-use Rattle.pbx_shapes.specs.Shapes.{field_shape, message_shape, enum_shape}
+use Rattle.pbx_described.specs.Shapes.{field_shape, message_shape, enum_shape}
 use Rattle.pbx_shapes.specs.Items.{item_shape, own_shape, part_enum}
 use Rattle.pbx_shapes.specs.Extending.{shape_with, shapes_with}
-use Rattle.pbx_shapes.proofs.Lists.{File, items_of_parts, mapped_items, mapped_parts}
+use Rattle.pbx_described.proofs.Lists.{File}
+use Rattle.pbx_shapes.proofs.Lists.{items_of_parts, mapped_items, mapped_parts}
 use Rattle.pbx_shapes.proofs.FieldKinds.{field_same, enum_same}
 
 -- ---- loops over files and their parts

@@ -9,7 +9,7 @@ use Rattle.pbx_definitions.specs.Names.{is_named, dotted}
 use Rattle.pbx_definitions.specs.Definitions.{message_name}
 use Rattle.pbx_described.specs.Descriptors.{Described, all_messages, fields_of_message}
 use Rattle.pbx_pool_laws.specs.Pool.{ArePooled}
-use Rattle.pbx_shapes.specs.Shapes.{field_shape, extension_shape}
+use Rattle.pbx_described.specs.Shapes.{field_shape, extension_shape}
 use Rattle.pbx_shapes.specs.Items.{with_field}
 
 -- those of the extensions that extend the message

@@ -17,7 +17,7 @@ use Rattle.pbx_definitions.specs.Names.{text_or_empty}
 use Rattle.pbx_definitions.specs.Definitions.{Part, messages, message_name, enum_name, field_name}
 use Rattle.pbx_definitions.specs.Says.{number_or_zero, signed_or_zero, is_number, is_repeated, is_entry, own_fields, option_bool}
 use Rattle.pbx_described.specs.Descriptors.{Described, message_referred, is_packable, packed_by}
-use Rattle.pbx_shapes.specs.Shapes.{index_if, kind_by}
+use Rattle.pbx_described.specs.Shapes.{index_if, kind_by}
 
 -- ---- kinds
 

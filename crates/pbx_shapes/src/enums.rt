@@ -1,8 +1,11 @@
 // The shapes of enums.
-ghost use Rattle.std.specs.Prelude.{◌≡◌, ◌++◌, IfOk, OnOk, map};
+ghost use Rattle.std.specs.Prelude.{◌≡◌, ◌++◌, ℕ, IfOk, OnOk, map};
+ghost use Rattle.std.specs.Int.{w32};
+ghost use Rattle.std.specs.Int.RustNames.{FitsSigned};
+ghost use Rattle.pbx_meaning.specs.Shape.{first_of, enum_values_at};
 ghost use Rattle.pbx_definitions.specs.Definitions.{enums as enums_of};
 ghost use Rattle.pbx_described.specs.Descriptors.{all_enums};
-ghost use Rattle.pbx_shapes.specs.Shapes.{enum_shape as enum_shape_of};
+ghost use Rattle.pbx_described.specs.Shapes.{enum_shape as enum_shape_of};
 ghost use Rattle.pbx_shapes.specs.Items.{item_value, part_enum};
 
 use crate::records::{signed_or_zero, text_copy};
@@ -65,4 +68,24 @@ pub(crate) fn enum_shapes(alloc: Global, pool: &Pool) -> Result<List<EnumShape>,
         add_enums(alloc, table.as_ref(), &mut shapes)?;
     }
     Ok(shapes)
+}
+
+/// The enum's default.
+fn default_of(shape: &EnumShape) -> i32
+    ensures is { result ≡ first_of shape.now.values }
+    ensures fits { FitsSigned w32 result }
+{
+    match shape.values.as_slice().first() {
+        Some(value) => value.number,
+        None => 0,
+    }
+}
+
+/// Each enum's default is a number of 32 bits. That is so by its type alone; the walk only says it of all.
+pub(crate) fn enums_fit(enums: &[EnumShape])
+    ensures { (e : ℕ) → FitsSigned w32 (first_of (enum_values_at enums.now e)) }
+{
+    for shape in enums {
+        let _default = default_of(shape);
+    }
 }

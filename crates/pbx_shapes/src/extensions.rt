@@ -3,7 +3,7 @@ ghost use Rattle.std.specs.Prelude.{◌≡◌, [], OnOk, map, option_and_then};
 ghost use Rattle.pbx_definitions.specs.Definitions.{extensions as extensions_of};
 ghost use Rattle.pbx_definitions.specs.Says.{is_proto3 as is_proto3_of};
 ghost use Rattle.pbx_described.specs.Descriptors.{described, referred as referred_of};
-ghost use Rattle.pbx_shapes.specs.Shapes.{message_place as message_place_of, shape_of as shape_of_files};
+ghost use Rattle.pbx_described.specs.Shapes.{message_place as message_place_of, shape_of as shape_of_files};
 ghost use Rattle.pbx_shapes.specs.Items.{with_field, part_shape};
 ghost use Rattle.pbx_shapes.specs.Extending.{shapes_with, field_added, AddExtensions};
 

@@ -1,7 +1,7 @@
 // The kinds of fields.
 ghost use Rattle.std.specs.Prelude.{◌≡◌, option_copied};
 ghost use Rattle.pbx_definitions.specs.Says.{own_fields};
-ghost use Rattle.pbx_shapes.specs.Shapes.{scalar_kind as scalar_kind_of, kind_by as kind_by_of};
+ghost use Rattle.pbx_described.specs.Shapes.{scalar_kind as scalar_kind_of, kind_by as kind_by_of};
 ghost use Rattle.pbx_shapes.specs.Items.{item_kind, entry_of as entry_of_item, item_numbered, item_entry_kind, item_kinds};
 
 use crate::records::{is_entry, is_number, is_repeated};

@@ -2,15 +2,15 @@
 #![tactic(auto)]
 
 mod enums;
-mod error;
 mod extensions;
 mod fields;
 mod kinds;
 mod messages;
 mod records;
+mod shaped;
 mod shapes;
 mod starts;
 mod types;
 
-pub use error::ShapeError;
+pub use shaped::ShapedPool;
 pub use shapes::{message_place, shape_of};

@@ -4,7 +4,7 @@ ghost use Rattle.pbx_definitions.specs.Names.{text_or_empty as text_or_empty_of}
 ghost use Rattle.pbx_definitions.specs.Says.{is_repeated as is_repeated_of, is_number as is_number_of, is_entry as is_entry_of};
 ghost use Rattle.pbx_definitions.specs.Says.{is_proto3 as is_proto3_of, option_bool as option_bool_of, signed_or_zero as signed_or_zero_of};
 ghost use Rattle.pbx_described.specs.Descriptors.{is_packable as is_packable_of, behind_dot as behind_dot_of, referred as referred_of};
-ghost use Rattle.pbx_shapes.specs.Shapes.{index_if as index_if_of};
+ghost use Rattle.pbx_described.specs.Shapes.{index_if as index_if_of};
 ghost use Rattle.pbx_shapes.specs.Items.{item_packed, item_presence};
 
 use pbx_definitions::{is_named, text_or_empty};

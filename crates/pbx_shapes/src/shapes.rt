@@ -1,15 +1,15 @@
 // The shape of the types of a pool.
-ghost use Rattle.std.specs.Prelude.{◌≡◌, IfOk, IfErr};
-ghost use Rattle.pbx_shapes.specs.Shapes.{shape_of as shape_of_files, message_named};
-ghost use Rattle.pbx_shapes.specs.Refused.{IsRefused};
+ghost use Rattle.std.specs.Prelude.{◌≡◌, IfOk};
+ghost use Rattle.pbx_meaning.specs.Sound.{IsProper};
+ghost use Rattle.pbx_described.specs.Shapes.{shape_of as shape_of_files, message_named};
 
-use crate::enums::enum_shapes;
-use crate::error::ShapeError;
+use crate::enums::{enum_shapes, enums_fit};
 use crate::extensions::add_extensions;
 use crate::messages::message_shapes;
 use crate::types::Types;
 use pbx_meaning::{MessageShape, Schema, SchemaError, Shape};
 use pbx_pool::Pool;
+use pbx_shape_laws::shape_is_proper;
 use pbx_wire::{List, NoMemory};
 use std::alloc::Global;
 
@@ -34,8 +34,8 @@ fn all_messages(alloc: Global, types: &Types<'_>) -> Result<List<MessageShape>, 
     Ok(list)
 }
 
-/// The shape, proper or not. The only error is want of memory.
-fn any_shape(alloc: Global, pool: &Pool) -> Result<Shape, NoMemory>
+/// The shape as it is told. The only error is want of memory.
+fn told_shape(alloc: Global, pool: &Pool) -> Result<Shape, NoMemory>
     ensures { IfOk result (λ shape. shape ≡ shape_of_files pool.now) }
 {
     let types = Types::new(alloc, pool)?;
@@ -44,18 +44,26 @@ fn any_shape(alloc: Global, pool: &Pool) -> Result<Shape, NoMemory>
     Ok(Shape { messages, enums })
 }
 
-/// The shape of the types of a pool: its messages and its enums, file by file. It is refused where it is not proper, or where memory runs out.
-pub fn shape_of(alloc: Global, pool: &Pool) -> Result<Schema, ShapeError>
-    ensures shape { IfOk result (λ schema. schema ≡ shape_of_files pool.now) }
-    ensures refused { IfErr result (IsRefused pool.now) }
+/// The shape is proper, by the rules of linking and by the type of the numbers of enums' values.
+fn shape_fits(pool: &Pool, shape: &Shape)
+    requires { shape.now ≡ shape_of_files pool.now }
+    ensures { IsProper shape.now }
 {
-    let Ok(shape) = any_shape(alloc, pool) else {
-        return Err(ShapeError::NoMemory);
-    };
+    let _ = pool.tables();
+    enums_fit(shape.enums.as_slice());
+    shape_is_proper();
+}
+
+/// The shape of the types of a pool: its messages and its enums, file by file. It is always proper. The only error is want of memory.
+pub fn shape_of(alloc: Global, pool: &Pool) -> Result<Schema, NoMemory>
+    ensures { IfOk result (λ schema. schema ≡ shape_of_files pool.now) }
+{
+    let shape = told_shape(alloc, pool)?;
+    shape_fits(pool, &shape);
     match Schema::new(alloc, shape) {
         Ok(schema) => Ok(schema),
-        Err(SchemaError::Improper(_)) => Err(ShapeError::Improper),
-        Err(SchemaError::NoMemory(_)) => Err(ShapeError::NoMemory),
+        Err(SchemaError::Improper(_)) => unreachable!(),
+        Err(SchemaError::NoMemory(_)) => Err(NoMemory),
     }
 }
 

@@ -1,7 +1,7 @@
 // The messages and enums of a pool by their places in the shape.
 ghost use Rattle.std.specs.Prelude.{◌≡◌, IfOk, option_copied, slice_get};
-ghost use Rattle.pbx_shapes.specs.Shapes.{message_place as message_place_of, enum_place as enum_place_of};
-ghost use Rattle.pbx_shapes.specs.Shapes.{place_of_message as place_of_message_of, place_of_enum as place_of_enum_of};
+ghost use Rattle.pbx_described.specs.Shapes.{message_place as message_place_of, enum_place as enum_place_of};
+ghost use Rattle.pbx_described.specs.Shapes.{place_of_message as place_of_message_of, place_of_enum as place_of_enum_of};
 ghost use Rattle.pbx_shapes.specs.Items.{message_item as message_item_of, item_at};
 
 use crate::records::referred;

@@ -3,7 +3,7 @@ use Rattle.std.specs.Prelude.{option_and_then}
 use Rattle.pbx_definitions.specs.Definitions.{extensions}
 use Rattle.pbx_definitions.specs.Says.{is_proto3}
 use Rattle.pbx_described.specs.Descriptors.{referred}
-use Rattle.pbx_shapes.specs.Shapes.{message_place}
+use Rattle.pbx_described.specs.Shapes.{message_place}
 use Rattle.pbx_shapes.specs.Items.{part_shape}
 use Rattle.pbx_shapes.specs.Extending.{field_added}
 use Rattle.pbx_shapes.proofs.Extended.{none_added, extensions_more}

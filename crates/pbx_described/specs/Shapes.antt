@@ -33,6 +33,10 @@ index_if (Some z) = Some (number_or_zero (Some z))
 abbrev pub message_place : List FileDescriptorProto → List ℕ → Option ℕ
 message_place pool name = position (λ d. bytes_eq (message_name d.part) name) (all_messages pool)
 
+-- the place of a message of the pool among them; one of its full name is there, so that the 0 never comes
+abbrev pub place_of : Described DescriptorProto → ℕ
+place_of d = unwrap_or (message_place d.pool (message_name d.part)) 0
+
 -- the place of the enum of exactly this full name among the enums of the pool
 abbrev pub enum_place : List FileDescriptorProto → List ℕ → Option ℕ
 enum_place pool name = position (λ d. bytes_eq (enum_name d.part) name) (all_enums pool)

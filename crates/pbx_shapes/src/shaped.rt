@@ -1,0 +1,94 @@
+// A pool with the shape of its types.
+ghost use Rattle.std.specs.Prelude.{◌≡◌, IfOk, IsTrue};
+ghost use Rattle.pbx_definitions.specs.Definitions.{messages as messages_of};
+ghost use Rattle.pbx_described.specs.Shapes.{shape_of as shape_of_files, message_place as message_place_of};
+ghost use Rattle.pbx_shapes.specs.Starts.{AreStarts, counts};
+
+use crate::shapes::shape_of;
+use crate::starts::Starts;
+use pbx_meaning::Schema;
+use pbx_pool::Pool;
+use pbx_shared::Shared;
+use pbx_wire::NoMemory;
+use std::alloc::Global;
+use std::marker::Model;
+
+/// A pool with the shape of its types, and with the places of its messages in it. Contracts see the records of the pool.
+#[derive(Drop)]
+pub struct ShapedPool {
+    pool: Shared<Pool>,
+    schema: Shared<Schema>,
+    messages: Starts,
+}
+
+impl Model for ShapedPool {
+    ghost use Rattle.std.specs.Prelude.{◌≡◌, List};
+    ghost use Rattle.std.specs.Coded.{coded_list};
+    ghost use Rattle.pbx_desc_records.specs.contracts.file.FileDescriptorProto as proto;
+    ghost use Rattle.pbx_desc_records.specs.declared.file.FileDescriptorProto.{FileDescriptorProto};
+    ghost use Rattle.pbx_definitions.specs.Definitions.{messages as messages_of};
+    ghost use Rattle.pbx_described.specs.Shapes.{shape_of as shape_of_files};
+    ghost use Rattle.pbx_shapes.specs.Starts.{AreStarts, counts};
+
+    ghost Value = { List FileDescriptorProto };
+
+    ghost coded = { coded_list proto.the_row.coded };
+
+    ghost view = { λ p. p.pool };
+
+    ghost invariant = { λ p. (p.schema ≡ shape_of_files p.pool) × AreStarts (counts messages_of p.pool) p.messages };
+}
+
+/// Where the messages of each file begin among those of all files. The only error is want of memory.
+fn message_starts(alloc: Global, pool: &Pool) -> Result<Starts, NoMemory>
+    ensures { IfOk result (λ starts. AreStarts (counts messages_of pool.now) starts) }
+{
+    let mut starts = Starts::new(alloc);
+    let tables = pool.tables();
+    for table in tables {
+        starts.add(table.as_ref().message_count())?;
+    }
+    Ok(starts)
+}
+
+impl ShapedPool {
+    /// The pool with the shape of its types. The only error is want of memory.
+    pub fn new(alloc: Global, pool: Shared<Pool>) -> Result<ShapedPool, NoMemory>
+        ensures { IfOk result (λ shaped. shaped ≡ pool) }
+    {
+        let messages = message_starts(alloc, pool.as_ref())?;
+        let shape = shape_of(alloc, pool.as_ref())?;
+        match Shared::new(alloc, shape) {
+            Ok(schema) => Ok(ShapedPool {
+                pool,
+                schema,
+                messages,
+            }),
+            Err(_) => Err(NoMemory),
+        }
+    }
+
+    /// Whether it was made of this handle's pool. It compares no files: a no says nothing of whether they are the same.
+    pub fn is_of(&self, pool: &Shared<Pool>) -> bool
+        ensures { IsTrue result → self.now ≡ pool.now }
+    {
+        self.pool.ptr_eq(pool)
+    }
+
+    /// The shape of the types of the pool. It takes no memory.
+    pub fn schema(&self) -> Shared<Schema>
+        ensures { result ≡ shape_of_files self.now }
+    {
+        self.schema.copy()
+    }
+
+    /// The place in the shape of the message of exactly this full name, by the logarithm of the count of names.
+    pub fn message_place(&self, name: &str) -> Option<usize>
+        ensures { result ≡ message_place_of self.now name.now }
+    {
+        match self.pool.as_ref().message_place(name) {
+            Some((file, index)) => self.messages.place(file, index),
+            None => None,
+        }
+    }
+}
