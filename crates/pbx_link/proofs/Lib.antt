@@ -12,3 +12,5 @@ pub mod Only
 pub mod ExtensionsOnce
 pub mod Extended
 pub mod Members
+pub mod Placed
+pub mod Added

@@ -1,3 +1,4 @@
 pub mod Tables
 pub mod Kinds
 pub mod Pool
+pub mod Bytes

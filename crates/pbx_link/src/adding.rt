@@ -1,5 +1,5 @@
 // Adding a file to a pool.
-ghost use Rattle.std.specs.Prelude.{◌≡◌, true, List as ListOf, IfOk, IfErr, OnOk, OnErr};
+ghost use Rattle.std.specs.Prelude.{◌≡◌, [], true, List as ListOf, IfOk, IfErr, OnOk, OnErr};
 ghost use Rattle.pbx_desc_records.specs.declared.file.FileDescriptorProto.{FileDescriptorProto as FileRecord};
 ghost use Rattle.pbx_definitions.specs.Names.{text_or_empty as text_or_empty_of};
 ghost use Rattle.pbx_rules.specs.Breaches.{keeps_rules};
@@ -9,13 +9,14 @@ ghost use Rattle.pbx_link.specs.Pool.{IsRefused};
 ghost use Rattle.pbx_link.specs.Tables.{held};
 
 use crate::error::DescriptorError;
+use crate::held::HeldPool;
 use crate::pool::DescriptorPool;
 use pbx_definitions::text_or_empty;
 use pbx_desc_records::FileDescriptorProto;
 use pbx_pool::{Pool, Refusal};
 use pbx_rules::Breach;
 use pbx_shared::{Shared, Unique};
-use pbx_wire::Text;
+use pbx_wire::{NoMemory, Text};
 use std::alloc::Global;
 
 /// The refusal of the file of this name.
@@ -103,12 +104,49 @@ fn added_shared(
     }
 }
 
+/// Adds the file to the pool, and lets go the shape that is kept. It goes first: what is kept has a handle of the pool.
+fn added_held(
+    alloc: Global,
+    held: HeldPool,
+    file: FileDescriptorProto,
+) -> (HeldPool, Result<(), Refusal>)
+    ensures added { OnOk result.1 (result.0 ≡ with_file held file) }
+    ensures accepted { OnOk result.1 (keeps_rules held file ≡ true) }
+    ensures refused { IfErr result.1 (IsRefusedByPool held file) }
+    ensures unchanged { OnErr result.1 (result.0 ≡ held) }
+{
+    let HeldPool { pool, shape } = held;
+    match shape.emptied(alloc) {
+        Ok(shape) => {
+            let (pool, done) = added_shared(alloc, pool, file);
+            (HeldPool { pool, shape }, done)
+        }
+        Err(shape) => {
+            drop(file);
+            (HeldPool { pool, shape }, Err(Refusal::NoMemory))
+        }
+    }
+}
+
+/// The first file of a pool.
+fn first_held(alloc: Global, file: FileDescriptorProto) -> Result<HeldPool, Refusal>
+    ensures added { IfOk result (λ first. first ≡ with_file [] file) }
+    ensures accepted { OnOk result (keeps_rules [] file ≡ true) }
+    ensures refused { IfErr result (IsRefusedByPool [] file) }
+{
+    let pool = shared_with(alloc, Pool::new(alloc), file)?;
+    match HeldPool::new(alloc, pool) {
+        Ok(held) => Ok(held),
+        Err(NoMemory) => Err(Refusal::NoMemory),
+    }
+}
+
 /// Adds the file to the pool, or to one without files where there is none.
 fn added(
     alloc: Global,
-    pool: Option<Shared<Pool>>,
+    pool: Option<HeldPool>,
     file: FileDescriptorProto,
-) -> (Option<Shared<Pool>>, Result<(), Refusal>)
+) -> (Option<HeldPool>, Result<(), Refusal>)
     ensures added { OnOk result.1 (held result.0 ≡ with_file (held pool) file) }
     ensures accepted { OnOk result.1 (keeps_rules (held pool) file ≡ true) }
     ensures refused { IfErr result.1 (IsRefusedByPool (held pool) file) }
@@ -116,10 +154,10 @@ fn added(
 {
     match pool {
         Some(pool) => {
-            let (pool, done) = added_shared(alloc, pool, file);
+            let (pool, done) = added_held(alloc, pool, file);
             (Some(pool), done)
         }
-        None => match shared_with(alloc, Pool::new(alloc), file) {
+        None => match first_held(alloc, file) {
             Ok(first) => (Some(first), Ok(())),
             Err(refusal) => (None, Err(refusal)),
         },

@@ -3,6 +3,7 @@
 
 mod adding;
 mod by_name;
+mod bytes;
 mod encoding;
 mod enumeration;
 mod error;
@@ -10,6 +11,8 @@ mod extension;
 mod field;
 mod field_record;
 mod file;
+mod held;
+mod kept;
 mod kind;
 mod kinds;
 mod message;
@@ -20,8 +23,8 @@ mod pool;
 mod pool_extensions;
 mod pool_messages;
 mod same;
+mod schema;
 mod service;
-mod shapes;
 
 pub use encoding::file_set;
 pub use enumeration::{EnumDescriptor, EnumValueDescriptor, EnumValues};
@@ -36,4 +39,3 @@ pub use oneof::OneofFields;
 pub use pool::DescriptorPool;
 pub use pool_messages::PoolMessages;
 pub use service::{MethodDescriptor, ServiceDescriptor, ServiceMethods};
-pub use shapes::shape_of;

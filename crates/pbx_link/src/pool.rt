@@ -5,6 +5,7 @@ ghost use Rattle.pbx_link.specs.Tables.{held};
 ghost use Rattle.pbx_described.specs.Descriptors.{all_files, all_messages};
 
 use crate::file::PoolFiles;
+use crate::held::HeldPool;
 use crate::pool_messages::PoolMessages;
 use pbx_pool::Pool;
 use pbx_shared::Shared;
@@ -18,7 +19,7 @@ use std::marker::Model;
 /// A copy stays as it is when the pool that it was made of grows, and so do descriptors.
 #[derive(Drop)]
 pub struct DescriptorPool {
-    pub(crate) pool: Option<Shared<Pool>>,
+    pub(crate) pool: Option<HeldPool>,
     pub(crate) alloc: Global,
 }
 

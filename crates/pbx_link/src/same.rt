@@ -37,7 +37,7 @@ impl DescriptorPool {
     {
         match &self.pool {
             Some(pool) => match &other.pool {
-                Some(other) => pool.ptr_eq(other),
+                Some(other) => pool.is_copy_of(other),
                 None => false,
             },
             None => false,
