@@ -75,7 +75,7 @@ pub(crate) fn pool_behind(alloc: Global, row: &Row, first: usize) -> Result<Desc
 }
 
 /// What came of adding a file.
-fn add_said(text: &mut String, added: &Result<(), DescriptorError>) -> Done {
+pub(crate) fn add_said(text: &mut String, added: &Result<(), DescriptorError>) -> Done {
     match added {
         Ok(()) => write!(text, "added; ")?,
         Err(DescriptorError::Rule { file, place, rule }) => {
@@ -88,15 +88,27 @@ fn add_said(text: &mut String, added: &Result<(), DescriptorError>) -> Done {
     Ok(())
 }
 
+/// Adds the files of the row's fields from one on, those that are not refused, and tells what came of each.
+pub(crate) fn added_from(
+    alloc: Global,
+    text: &mut String,
+    pool: &mut DescriptorPool,
+    row: &Row,
+    first: usize,
+) -> Done {
+    for index in first..row.len() {
+        let file = record_of(alloc, row.text(index))?;
+        let added = pool.add_file_descriptor_proto(file);
+        add_said(text, &added)?;
+    }
+    Ok(())
+}
+
 /// What came of adding each file, and how many files there are.
 pub(crate) fn added(alloc: Global, row: &Row) -> Result<String, Stop> {
     let mut text = String::new(alloc);
     let mut pool = DescriptorPool::new(alloc)?;
-    for index in 0..row.len() {
-        let file = record_of(alloc, row.text(index))?;
-        let added = pool.add_file_descriptor_proto(file);
-        add_said(&mut text, &added)?;
-    }
+    added_from(alloc, &mut text, &mut pool, row, 0)?;
     write!(text, "{} files", pool.files().len())?;
     Ok(text)
 }

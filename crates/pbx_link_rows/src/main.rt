@@ -2,7 +2,8 @@
 //!
 //! A row has a word, what the word asks for, and then the bytes of `FileDescriptorProto`s in hexadecimal digits, which are added to a pool one
 //! after another. Where a file is refused, the answer is its index, the number of the first rule that it breaks, and the place, its numbers with
-//! points between them; but the word `added` tells what came of each file.
+//! points between them; but the word `added` tells what came of each file, and `set`, `add-set` and `add-file` what came of reading the bytes of
+//! their first field, a set or a file.
 //!
 //! What is wanted is made by checks/link-rows.
 #![tactic(auto)]
@@ -11,6 +12,8 @@ mod adding;
 mod enums;
 mod fields;
 mod files;
+mod from_bytes;
+mod grown;
 mod messages;
 mod same;
 mod services;
@@ -21,6 +24,8 @@ use adding::{added, kept, pool_behind};
 use enums::enumeration;
 use fields::extension;
 use files::{file, files, linked};
+use from_bytes::{read_back, read_more, set};
+use grown::{alone, grown, late};
 use messages::{message, messages};
 use same::same;
 use services::service;
@@ -63,6 +68,12 @@ fn answer(alloc: Global, row: &Row) -> Result<String, Stop> {
         "added" => added(alloc, row),
         "copy" | "clone" => kept(alloc, row),
         "same" | "same-grown" => same(alloc, row),
+        "shape-alone" => alone(alloc, row),
+        "shape-late" => late(alloc, row),
+        "shape-grown" => grown(alloc, row),
+        "set" => set(alloc, row),
+        "read-back" => read_back(alloc, row),
+        "add-set" | "add-file" => read_more(alloc, row),
         "link" | "linked" | "files" | "messages" => of_pool(alloc, row),
         _ => of_name(alloc, row),
     }

@@ -1,9 +1,9 @@
 //! The shape of the types of a pool.
 
 use crate::stop::{Done, Stop};
-use pbx_link::{DescriptorPool, shape_of};
+use pbx_link::DescriptorPool;
 use pbx_meaning::{Cardinality, EnumShape, FieldShape, Kind, MessageShape, Schema};
-use pbx_shapes::{ShapeError, message_place};
+use pbx_shapes::message_place;
 use pbx_wire::Text;
 use std::alloc::Global;
 
@@ -117,10 +117,9 @@ fn add_named(text: &mut String, schema: &Schema, name: &str) -> Done {
 /// Of a full name: the place in the pool's shape of the message of this name, its fields, and all enums.
 pub(crate) fn shape(alloc: Global, pool: &DescriptorPool, name: &str) -> Result<String, Stop> {
     let mut text = String::new(alloc);
-    match shape_of(alloc, pool) {
-        Ok(schema) => add_named(&mut text, &schema, name)?,
-        Err(ShapeError::Improper) => text.push_str("improper")?,
-        Err(ShapeError::NoMemory) => return Err(Stop::NoMemory),
-    }
+    let Ok(schema) = pool.schema() else {
+        return Err(Stop::NoMemory);
+    };
+    add_named(&mut text, schema.as_ref(), name)?;
     Ok(text)
 }
