@@ -11,7 +11,7 @@ use Rattle.pbx_desc_records.specs.declared.message.DescriptorProto.{DescriptorPr
 use Rattle.pbx_described.specs.Descriptors.{Described, message_of_name}
 use Rattle.pbx_json.specs.Canonical.{canonical}
 use Rattle.pbx_json.specs.Stands.{Stands}
-use Rattle.pbx_shapes.specs.Shapes.{shape_of, message_named}
+use Rattle.pbx_described.specs.Shapes.{shape_of, message_named}
 use Rattle.pbx_parse.specs.declared.error.ParseError.TheVariants as parse
 use Rattle.protox_paths.specs.Paths.{resolved}
 use Rattle.protox_io.specs.Disk.{Held}
@@ -44,24 +44,24 @@ IsStopped (done, Refused fault) = Unit {0}
 stopped_by : (o p : List Done × Opened) → o ≡ p → IsStopped p → IsStopped o
 stopped_by o p e h = let P : List Done × Opened → Type 0 = λ x. IsStopped x in subst P (sym e) h
 
-stopped : (path : List ℕ) (files : (List ℕ → Lookup) → List Done) (o : (List ℕ → Lookup) → List Done × Opened) (lookups : List ℕ → Lookup) (later : List Done) (error : ErrorKind) → is_fault error ≡ false → RefusesWith path files o lookups later error → IsStopped (o lookups)
-stopped path files o lookups later (kinds.Parse (parse.Syntax file line column expected found)) f h = stopped_by (o lookups) _ h tt
-stopped path files o lookups later (kinds.Parse parse.NoMemory) f h = absurd h
-stopped path files o lookups later (kinds.Check e) f h = stopped_by (o lookups) _ h.opened_is tt
-stopped path files o lookups later (kinds.OpenFile name p fault) f h = absurd (cc)
-stopped path files o lookups later (kinds.FileTooLarge name) f h = stopped_by (o lookups) _ h tt
-stopped path files o lookups later (kinds.FileInvalidUtf8 name) f h = stopped_by (o lookups) _ h tt
-stopped path files o lookups later (kinds.FileNotFound name) f h = absurd h
-stopped path files o lookups later (kinds.ImportNotFound file index place name) f h = stopped_by (o lookups) _ h tt
-stopped path files o lookups later (kinds.CircularImport name cycle) f h = stopped_by (o lookups) _ h tt
-stopped path files o lookups later (kinds.FileNotIncluded p) f h = stopped_by (o lookups) _ h.1 tt
-stopped path files o lookups later (kinds.FileShadowed name asked shadow) f h = stopped_by (o lookups) _ h tt
-stopped path files o lookups later (kinds.DuplicateImport file index place name) f h = stopped_by (o lookups) _ h tt
-stopped path files o lookups later (kinds.Custom text is_io) f h = absurd (cc)
-stopped path files o lookups later (kinds.NameMismatch asked declared) f h = stopped_by (o lookups) _ h tt
-stopped path files o lookups later (kinds.FileLimit n) f h = stopped_by (o lookups) _ h tt
-stopped path files o lookups later (kinds.Undecodable file) f h = absurd h
-stopped path files o lookups later kinds.NoMemory f h = absurd (cc)
+stopped : (path : List ℕ) (root : Option (List ℕ × Option (List ℕ))) (files : (List ℕ → Lookup) → List Done) (o : (List ℕ → Lookup) → List Done × Opened) (lookups : List ℕ → Lookup) (later : List Done) (error : ErrorKind) → is_fault error ≡ false → RefusesWith path root files o lookups later error → IsStopped (o lookups)
+stopped path root files o lookups later (kinds.Parse (parse.Syntax file line column expected found)) f h = stopped_by (o lookups) _ h tt
+stopped path root files o lookups later (kinds.Parse parse.NoMemory) f h = absurd h
+stopped path root files o lookups later (kinds.Check e) f h = stopped_by (o lookups) _ h.opened_is tt
+stopped path root files o lookups later (kinds.OpenFile name p fault) f h = absurd (cc)
+stopped path root files o lookups later (kinds.FileTooLarge name) f h = stopped_by (o lookups) _ h tt
+stopped path root files o lookups later (kinds.FileInvalidUtf8 name) f h = stopped_by (o lookups) _ h tt
+stopped path root files o lookups later (kinds.FileNotFound name) f h = absurd h
+stopped path root files o lookups later (kinds.ImportNotFound file index place name) f h = stopped_by (o lookups) _ h tt
+stopped path root files o lookups later (kinds.CircularImport name cycle) f h = stopped_by (o lookups) _ h tt
+stopped path root files o lookups later (kinds.FileNotIncluded p) f h = stopped_by (o lookups) _ h.1 tt
+stopped path root files o lookups later (kinds.FileShadowed name asked shadow) f h = stopped_by (o lookups) _ h tt
+stopped path root files o lookups later (kinds.DuplicateImport file index place name) f h = stopped_by (o lookups) _ h tt
+stopped path root files o lookups later (kinds.Custom text is_io) f h = absurd (cc)
+stopped path root files o lookups later (kinds.NameMismatch asked declared) f h = stopped_by (o lookups) _ h tt
+stopped path root files o lookups later (kinds.FileLimit n) f h = stopped_by (o lookups) _ h tt
+stopped path root files o lookups later (kinds.Undecodable file) f h = absurd h
+stopped path root files o lookups later kinds.NoMemory f h = absurd (cc)
 
 stays : (o : List Done × Opened) (rest : List Done → List Done × Opened) → IsStopped o → after_opening o rest ≡ o
 stays (done, Accepted) rest s = absurd s
@@ -87,7 +87,7 @@ module _ (lookups : List ℕ → Lookup) (resolves : List ℕ → Option (List �
   -- the paths come to what the refused one comes to
   stopped_all : (paths : List (List ℕ)) (later : List Done) (error : ErrorKind) → is_fault error ≡ false → StopsAt lookups resolves n paths [] later error → IsStopped (closure lookups resolves n paths [])
   stopped_all paths later error f s =
-      let o : IsStopped (opening lookups resolves n s.path s.middle) = stopped s.path (λ ls. grown ls n (root_of resolves s.path) s.middle) (λ ls. opening ls resolves n s.path s.middle) lookups later error f s.refused.refused in
+      let o : IsStopped (opening lookups resolves n s.path s.middle) = stopped s.path (root_of resolves s.path) (λ ls. grown ls n (root_of resolves s.path) s.middle) (λ ls. opening ls resolves n s.path s.middle) lookups later error f s.refused.refused in
       let whole : closure lookups resolves n paths [] ≡ opening lookups resolves n s.path s.middle =
       ap (λ ps. closure lookups resolves n ps []) s.split ∙ closure_of_both s.before (s.path ∷ s.after) [] ∙ ap (λ x. after_opening x (closure lookups resolves n (s.path ∷ s.after))) s.accepted
       ∙ stays (opening lookups resolves n s.path s.middle) (closure lookups resolves n s.after) o in
@@ -146,8 +146,7 @@ decodable files (kinds.Undecodable file) fit h = nothing_there h.0 (sym fit ∙ 
 decodable files kinds.NoMemory fit h = absurd h
 
 type_built : (shape : Shape) (name : List ℕ) (tree : Data) (wire : List ℕ) (written : Data) → IsTypeTranscoded shape name tree wire written → IsUnbuilt shape name tree → ⊥
-type_built shape name tree wire written h (inl improper) = improper h.proper
-type_built shape name tree wire written h (inr u) =
+type_built shape name tree wire written h u =
     let same : u.0 ≡ h.place = same_place u.0 h.place (message_named name shape) u.1 h.placed in
     let P : ℕ → Type 0 = λ t. (has_own_names (declared_of shape t) ≡ false) ⊎ ((c : Content) → ¬ Stands shape t false tree c) in
     elim (subst P same u.2) [ inl other ↦ not_both (has_own_names (declared_of shape h.place)) h.own_names other | inr none ↦ none h.transcodes.0 h.transcodes.1 ]

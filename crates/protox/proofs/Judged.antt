@@ -5,7 +5,7 @@ use Rattle.serde_json.specs.Written.{has_float, compact_text}
 use Rattle.pbx_desc_records.specs.declared.file.FileDescriptorProto.{FileDescriptorProto}
 use Rattle.pbx_json.specs.Laws.{CanonicalIsPlain}
 use Rattle.pbx_pool_laws.specs.Pool.{ArePooled}
-use Rattle.pbx_shapes.specs.Shapes.{shape_of}
+use Rattle.pbx_described.specs.Shapes.{shape_of}
 use Rattle.protox_io.specs.Count.{Rose}
 use Rattle.protox_io.specs.Disk.{Held}
 use Rattle.protox_io.specs.Paths.{Component}

@@ -17,7 +17,7 @@ use Rattle.pbx_described.specs.Descriptors.{Described, all_messages, message_of_
 use Rattle.pbx_json.specs.Canonical.{canonical}
 use Rattle.pbx_json.specs.Laws.{CanonicalStands}
 use Rattle.pbx_json.specs.Stands.{Stands}
-use Rattle.pbx_shapes.specs.Shapes.{shape_of, message_named, message_shape}
+use Rattle.pbx_described.specs.Shapes.{shape_of, message_named, message_shape}
 use Rattle.protox.specs.Parts.{IsBuilt, IsNoSet, IsNotShaped, IsNotThin, IsNotTold, IsNotWritten, IsThinAt, IsWritten}
 use Rattle.protox.proofs.Found.{has_place}
 use Rattle.protox.specs.Top.{AreWithinLevels, IsRefused, IsTypeTranscoded, IsUnbuilt, Transcodes, has_own_names}
@@ -74,14 +74,14 @@ not_shaped shape files name tree t TooDeep same placed h = absurd h
 not_shaped shape files name tree t NoMemory same placed h = tt
 not_shaped shape files name tree t NotBuilt same placed h =
     let P : Shape → Type 0 = λ s. IsUnbuilt s name tree in
-    subst P same (inr (t, placed, inr h))
+    subst P same (t, placed, inr h)
 
 -- a type that has other names in JSON than its fields' own
 pub not_own : (shape files : Shape) (name : List ℕ) (tree : Data) (t : ℕ) → shape ≡ files → message_named name shape ≡ Some t
     → has_own_names (declared_of shape t) ≡ false → IsUnbuilt files name tree
 not_own shape files name tree t same placed h =
     let P : Shape → Type 0 = λ s. IsUnbuilt s name tree in
-    subst P same (inr (t, placed, inl h))
+    subst P same (t, placed, inl h)
 
 -- a type that is there has its place in the shape
 pub is_placed : (files : List FileDescriptorProto) (shape : Shape) (name : List ℕ) → shape ≡ shape_of files → IsSome (message_of_name files name)

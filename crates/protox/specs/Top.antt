@@ -19,7 +19,7 @@ use Rattle.pbx_json.specs.Stands.{Stands}
 use Rattle.pbx_json.specs.Canonical.{canonical}
 use Rattle.pbx_definitions.specs.Names.{text_or_empty}
 use Rattle.pbx_described.specs.Descriptors.{Described, message_of_name}
-use Rattle.pbx_shapes.specs.Shapes.{shape_of, message_named}
+use Rattle.pbx_described.specs.Shapes.{shape_of, message_named}
 use Rattle.protox_file.specs.Lines.{long_line_of}
 use Rattle.protox_file.specs.Told.{Told, ByLookups}
 use Rattle.protox_file.specs.declared.error.ErrorKind.{ErrorKind}
@@ -83,12 +83,10 @@ abbrev pub IsUndecodable : List FileDescriptorProto → ErrorKind → Type 0
 IsUndecodable files (kinds.Undecodable file) = (g : FileDescriptorProto) × (find is_deep_file files ≡ Some g) × (file ≡ text_or_empty g.name)
 IsUndecodable files error = ⊥
 
--- what is not built yet at a shape: one that is not proper, a type that has other JSON names than its fields' own, and a tree that no
--- content stands for
+-- what is not built yet at a shape: a type that has other JSON names than its fields' own, and a tree that no content stands for
 abbrev pub IsUnbuilt : Shape → List ℕ → Data → Type 0
 IsUnbuilt shape name tree =
-    ¬ (IsProper shape)
-    ⊎ ((t : ℕ) × (message_named name shape ≡ Some t) × ((has_own_names (declared_of shape t) ≡ false) ⊎ ((c : Content) → ¬ Stands shape t false tree c)))
+    (t : ℕ) × (message_named name shape ≡ Some t) × ((has_own_names (declared_of shape t) ≡ false) ⊎ ((c : Content) → ¬ Stands shape t false tree c))
 
 -- what is not built yet: a type that is not thin, and what is not built at the shape of the files
 abbrev pub IsNotBuilt : List ℕ → Data → List FileDescriptorProto → Type 0

@@ -10,7 +10,7 @@ ghost use Rattle.pbx_codec.specs.View.{content_of};
 ghost use Rattle.pbx_json.specs.Canonical.{canonical};
 ghost use Rattle.pbx_pool_laws.specs.Pool.{ArePooled};
 ghost use Rattle.pbx_described.specs.Descriptors.{message_of_name};
-ghost use Rattle.pbx_shapes.specs.Shapes.{shape_of as shape_of_files};
+ghost use Rattle.pbx_described.specs.Shapes.{shape_of as shape_of_files};
 ghost use Rattle.protox_io.specs.Count.{Rose};
 ghost use Rattle.protox_compile.specs.Walk.{Done, records};
 ghost use Rattle.protox_compile.specs.Compiled.{IsOrdered};
@@ -24,9 +24,9 @@ use crate::set::set_of;
 use crate::thin::is_thin;
 use pbx_codec::{Contents, encode};
 use pbx_json::{TreeError, canonical_stands, read_contents, stands_flat, write_contents};
-use pbx_link::{DescriptorPool, shape_of};
+use pbx_link::DescriptorPool;
 use pbx_meaning::{FieldShape, Schema, encoding_decodes};
-use pbx_shapes::{ShapeError, message_place};
+use pbx_shapes::message_place;
 use pbx_wire::{Blob, NoMemory, Text, Texts};
 use protox_compile::Compiler;
 use protox_file::FileResolver;
@@ -161,16 +161,16 @@ fn transcode_type(
     ensures ok { IfOk result (λ done. IsTypeTranscoded (shape_of_files pool.now) type_name.now (view tree.now) done.0 (view done.1)) }
     ensures err { IsSome (message_of_name pool.now type_name.now) → IfErr result (IsNotShaped (shape_of_files pool.now) type_name.now (view tree.now)) }
 {
-    let schema = match shape_of(alloc, pool) {
-        Ok(schema) => schema,
-        Err(ShapeError::Improper) => return Err(TopError::NotBuilt),
-        Err(ShapeError::NoMemory) => return Err(TopError::NoMemory),
+    let shared = match pool.schema() {
+        Ok(shared) => shared,
+        Err(NoMemory) => return Err(TopError::NoMemory),
     };
-    let Some(type_at) = message_place(&schema, type_name) else {
+    let schema = shared.as_ref();
+    let Some(type_at) = message_place(schema, type_name) else {
         return Err(TopError::NotBuilt);
     };
-    match have_own_names(alloc, declared_fields(&schema, type_at)) {
-        Ok(true) => transcode_as(alloc, &schema, type_at, tree),
+    match have_own_names(alloc, declared_fields(schema, type_at)) {
+        Ok(true) => transcode_as(alloc, schema, type_at, tree),
         Ok(false) => Err(TopError::NotBuilt),
         Err(NoMemory) => Err(TopError::NoMemory),
     }

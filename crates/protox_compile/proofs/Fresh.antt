@@ -34,6 +34,11 @@ pub fresh_root : (root : List ℕ) (f : Open) (fs : List Open) (done : List Done
 fresh_root root f [] done h = rw (← h.1) h.0
 fresh_root root f (g ∷ fs) done h = fresh_root root g fs done h.2
 
+-- the innermost open file is not finished
+pub fresh_top : (root : List ℕ) (f : Open) (fs : List Open) (done : List Done) → Fresh root (f ∷ fs) done → is_done done f.name ≡ false
+fresh_top root f [] done h = h.0
+fresh_top root f (g ∷ fs) done h = h.0
+
 pub fresh_push : (root : List ℕ) (fs : List Open) (done : List Done) (d : Done) → Fresh root fs done → among (names_of fs) d.name ≡ false → Fresh root fs (done ++ d ∷ [])
 fresh_push root [] done d h e = tt
 fresh_push root (f ∷ []) done d h e = (is_done_push done d f.name h.0 (apart f.name d.name (or_left (bytes_eq f.name d.name) false e)), h.1)

@@ -78,10 +78,10 @@ more_all once files some all p q c name = or_all (some name) (all name) (agree o
 
 -- ---- what is known of openings stays by more look-ups
 
-lacking_decided : (n : List ℕ) (end : Opened) → RefusedWithout n end → IsDecided end
-lacking_decided n NotIncluded h = tt
-lacking_decided n (Refused (NoImport file index place m)) h = tt
-lacking_decided n _ h = absurd h
+lacking_decided : (root : Option (List ℕ × Option (List ℕ))) (n : List ℕ) (end : Opened) → RefusedWithout root n end → IsDecided end
+lacking_decided root n NotIncluded h = tt
+lacking_decided root n (Refused (NoImport file index place m)) h = tt
+lacking_decided root n _ h = absurd h
 
 decided_as : (o p : List Done × Opened) → o ≡ p → IsDecided p.1 → IsDecided o.1
 decided_as o p e d = let P : List Done × Opened → Type 0 = λ x. IsDecided x.1 in subst P (sym e) d
@@ -95,14 +95,14 @@ module _ (some others : List ℕ → Lookup) (more : IsMore some others) (resolv
   closes_more paths done later end d e = closure_decided some others more resolves limit paths done (decided_as (closure some resolves limit paths done) (later, end) e d) ∙ e
 
   module _ (path : List ℕ) (done later : List Done) where
-    refuses_with : (error : ErrorKind) → RefusesWith path (λ ls. grown ls limit (root_of resolves path) done) (λ ls. opening ls resolves limit path done) some later error → RefusesWith path (λ ls. grown ls limit (root_of resolves path) done) (λ ls. opening ls resolves limit path done) others later error
+    refuses_with : (error : ErrorKind) → RefusesWith path (root_of resolves path) (λ ls. grown ls limit (root_of resolves path) done) (λ ls. opening ls resolves limit path done) some later error → RefusesWith path (root_of resolves path) (λ ls. grown ls limit (root_of resolves path) done) (λ ls. opening ls resolves limit path done) others later error
     refuses_with (Parse (parse.Syntax file line column expected found)) h = opens_more path done later _ tt h
     refuses_with (Parse parse.NoMemory) h = h
     refuses_with (Check error) h = record { file = h.file; opened_is = opens_more path done later _ tt h.opened_is; refused = h.refused }
     refuses_with (OpenFile name p fault) h = record {
       front = extends_join h.front (grown_further some others more limit (root_of resolves path) done);
       end = h.end;
-      exact = opening_decided (without name some) (without name others) (more_without some others name more) resolves limit path done (decided_as (opening (without name some) resolves limit path done) (later, h.end) h.exact (lacking_decided name h.end h.lacking)) ∙ h.exact;
+      exact = opening_decided (without name some) (without name others) (more_without some others name more) resolves limit path done (decided_as (opening (without name some) resolves limit path done) (later, h.end) h.exact (lacking_decided (root_of resolves path) name h.end h.lacking)) ∙ h.exact;
       lacking = h.lacking;
     }
     refuses_with (FileTooLarge name) h = opens_more path done later _ tt h

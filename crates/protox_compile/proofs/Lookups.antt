@@ -47,7 +47,7 @@ module _ (name : List ℕ) (told : Told) where
     stops_refused rose (OpenFile n path fault) t h = (Unread, tt, h.0)
     stops_refused rose (FileTooLarge n) t h = (TextFault 4, t, (h, refl))
     stops_refused rose (FileInvalidUtf8 n) t h = (TextFault 5, t, (h, refl))
-    stops_refused rose (FileNotFound n) t h = (NoFile, t, refl)
+    stops_refused rose (FileNotFound n) t h = (NoFile, t, (h, refl))
     stops_refused rose (ImportNotFound file index place n) t h = absurd h
     stops_refused rose (CircularImport n cycle) t h = absurd h
     stops_refused rose (FileNotIncluded path) t h = absurd h

@@ -31,50 +31,50 @@ grown_extends lookups limit (Some root) done = by_case (is_done done root.0)
     by_case true = extends_same done
     by_case false = root_extends limit root.1 root.0 done lookups
 
-missing : (path n : List ℕ) (walk : Walk) (lookups : List ℕ → Lookup) (later : List Done) (answer : ErrorKind) → walk lookups ≡ (later, Missing) → OrNoMemory answer (FileNotIncluded path) → RefusesWith path (λ ls. (walk ls).0) (λ ls. open_root n (walk ls)) lookups later answer
-missing path n walk lookups later answer e (inl memory) = rw (memory, e) (extends_same later)
-missing path n walk lookups later answer e (inr same) = rw (same, e) (refl, refl)
+missing : (path n : List ℕ) (asked : Option (List ℕ)) (walk : Walk) (lookups : List ℕ → Lookup) (later : List Done) (answer : ErrorKind) → walk lookups ≡ (later, Missing) → OrNoMemory answer (FileNotIncluded path) → RefusesWith path (Some (n, asked)) (λ ls. (walk ls).0) (λ ls. open_root n (walk ls)) lookups later answer
+missing path n asked walk lookups later answer e (inl memory) = rw (memory, e) (extends_same later)
+missing path n asked walk lookups later answer e (inr same) = rw (same, e) (refl, refl)
 
 -- the root, or an import, has no file
-without_root : (n file : List ℕ) (end : Visited) (later : List Done) → EndsWithout file end → (o : Opened) × (open_root n (later, end) ≡ (later, o)) × RefusedWithout file o
-without_root n file Missing later h = (NotIncluded, refl, tt)
-without_root n file (Faulted (NoImport f i place m)) later h = (Refused (NoImport f i place m), refl, h)
-without_root n file _ later h = absurd h
+without_root : (n file : List ℕ) (asked : Option (List ℕ)) (end : Visited) (later : List Done) → EndsWithout n file end → (o : Opened) × (open_root n (later, end) ≡ (later, o)) × RefusedWithout (Some (n, asked)) file o
+without_root n file asked Missing later h = (NotIncluded, refl, (asked, rw h refl))
+without_root n file asked (Faulted (NoImport f i place m)) later h = (Refused (NoImport f i place m), refl, h)
+without_root n file asked _ later h = absurd h
 
-other : (path n : List ℕ) (walk : Walk) (lookups : List ℕ → Lookup) (later : List Done) (error : ErrorKind) → is_absent error ≡ false → Ends error walk lookups later → RefusesWith path (λ ls. (walk ls).0) (λ ls. open_root n (walk ls)) lookups later error
-other path n walk lookups later (Parse (parse.Syntax file line column expected found)) a h = rw h refl
-other path n walk lookups later (Parse parse.NoMemory) a h = h
-other path n walk lookups later (Check error) a h = record { file = h.file; opened_is = rw h.walk_is refl; refused = h.refused }
-other path n walk lookups later (OpenFile file p fault) a h = let lacking = without_root n file h.end later h.lacking in record { front = h.front; end = lacking.0; exact = ap (open_root n) h.exact ∙ lacking.1; lacking = lacking.2 }
-other path n walk lookups later (FileTooLarge file) a h = rw h refl
-other path n walk lookups later (FileInvalidUtf8 file) a h = rw h refl
-other path n walk lookups later (FileNotFound file) a h = absurd (cc)
-other path n walk lookups later (ImportNotFound x i p y) a h = rw h refl
-other path n walk lookups later (CircularImport y cycle) a h = rw h refl
-other path n walk lookups later (FileNotIncluded p) a h = absurd h
-other path n walk lookups later (FileShadowed y asked shadow) a h = rw h refl
-other path n walk lookups later (DuplicateImport x i p y) a h = rw h refl
-other path n walk lookups later (Custom text is_io) a h = h
-other path n walk lookups later (NameMismatch asked declared) a h = rw h refl
-other path n walk lookups later (FileLimit l) a h = rw h refl
-other path n walk lookups later (Undecodable file) a h = absurd h
-other path n walk lookups later NoMemory a h = h
+other : (path n : List ℕ) (asked : Option (List ℕ)) (walk : Walk) (lookups : List ℕ → Lookup) (later : List Done) (error : ErrorKind) → is_absent error ≡ false → Ends n error walk lookups later → RefusesWith path (Some (n, asked)) (λ ls. (walk ls).0) (λ ls. open_root n (walk ls)) lookups later error
+other path n asked walk lookups later (Parse (parse.Syntax file line column expected found)) a h = rw h refl
+other path n asked walk lookups later (Parse parse.NoMemory) a h = h
+other path n asked walk lookups later (Check error) a h = record { file = h.file; opened_is = rw h.walk_is refl; refused = h.refused }
+other path n asked walk lookups later (OpenFile file p fault) a h = let lacking = without_root n file asked h.end later h.lacking in record { front = h.front; end = lacking.0; exact = ap (open_root n) h.exact ∙ lacking.1; lacking = lacking.2 }
+other path n asked walk lookups later (FileTooLarge file) a h = rw h refl
+other path n asked walk lookups later (FileInvalidUtf8 file) a h = rw h refl
+other path n asked walk lookups later (FileNotFound file) a h = absurd (cc)
+other path n asked walk lookups later (ImportNotFound x i p y) a h = rw h refl
+other path n asked walk lookups later (CircularImport y cycle) a h = rw h refl
+other path n asked walk lookups later (FileNotIncluded p) a h = absurd h
+other path n asked walk lookups later (FileShadowed y p shadow) a h = rw h refl
+other path n asked walk lookups later (DuplicateImport x i p y) a h = rw h refl
+other path n asked walk lookups later (Custom text is_io) a h = h
+other path n asked walk lookups later (NameMismatch y declared) a h = rw h refl
+other path n asked walk lookups later (FileLimit l) a h = rw h refl
+other path n asked walk lookups later (Undecodable file) a h = absurd h
+other path n asked walk lookups later NoMemory a h = h
 
-absent_ends : (walk : Walk) (lookups : List ℕ → Lookup) (later : List Done) (error : ErrorKind) → is_absent error ≡ true → Ends error walk lookups later → walk lookups ≡ (later, Missing)
-absent_ends walk lookups later (FileNotFound file) a h = h
-absent_ends walk lookups later _ a h = absurd (cc)
+absent_ends : (n : List ℕ) (walk : Walk) (lookups : List ℕ → Lookup) (later : List Done) (error : ErrorKind) → is_absent error ≡ true → Ends n error walk lookups later → walk lookups ≡ (later, Missing)
+absent_ends n walk lookups later (FileNotFound file) a h = h.1
+absent_ends n walk lookups later _ a h = absurd (cc)
 
 -- what the visit of a root was refused with, as the opening of its path says it
-refuses_root : (path n : List ℕ) (walk : Walk) (lookups : List ℕ → Lookup) (later : List Done) (error answer : ErrorKind) → Ends error walk lookups later → IsToldBy (FileNotIncluded path) error answer → RefusesWith path (λ ls. (walk ls).0) (λ ls. open_root n (walk ls)) lookups later answer
-refuses_root path n walk lookups later error answer h k = by_case (is_absent error) refl
+refuses_root : (path n : List ℕ) (asked : Option (List ℕ)) (walk : Walk) (lookups : List ℕ → Lookup) (later : List Done) (error answer : ErrorKind) → Ends n error walk lookups later → IsToldBy (FileNotIncluded path) error answer → RefusesWith path (Some (n, asked)) (λ ls. (walk ls).0) (λ ls. open_root n (walk ls)) lookups later answer
+refuses_root path n asked walk lookups later error answer h k = by_case (is_absent error) refl
   where
-    by_case : (b : Bool) → is_absent error ≡ b → RefusesWith path (λ ls. (walk ls).0) (λ ls. open_root n (walk ls)) lookups later answer
-    by_case true e = missing path n walk lookups later answer (absent_ends walk lookups later error e h) (k.absent e)
-    by_case false e = rw (k.other e) (other path n walk lookups later error e h)
+    by_case : (b : Bool) → is_absent error ≡ b → RefusesWith path (Some (n, asked)) (λ ls. (walk ls).0) (λ ls. open_root n (walk ls)) lookups later answer
+    by_case true e = missing path n asked walk lookups later answer (absent_ends n walk lookups later error e h) (k.absent e)
+    by_case false e = rw (k.other e) (other path n asked walk lookups later error e h)
 
 pub refuses : (limit : ℕ) (path n : List ℕ) (asked : Option (List ℕ)) (root : Option (List ℕ × Option (List ℕ))) (done later : List Done) (lookups : List ℕ → Lookup) (error answer : ErrorKind) → root ≡ Some (n, asked) → is_done done n ≡ false
-    → Ends error (root_walk limit asked n done) lookups later → IsToldBy (FileNotIncluded path) error answer → RefusesWith path (λ ls. grown ls limit root done) (λ ls. open_name ls limit root done) lookups later answer
-refuses limit path n asked root done later lookups error answer e new h k = rw (e, new) (refuses_root path n (root_walk limit asked n done) lookups later error answer h k)
+    → Ends n error (root_walk limit asked n done) lookups later → IsToldBy (FileNotIncluded path) error answer → RefusesWith path root (λ ls. grown ls limit root done) (λ ls. open_name ls limit root done) lookups later answer
+refuses limit path n asked root done later lookups error answer e new h k = rw (e, new) (refuses_root path n asked (root_walk limit asked n done) lookups later error answer h k)
 
 -- ---- a name that is finished
 
@@ -85,7 +85,7 @@ shadowed_again : (n p s : List ℕ) (asked known : Option (List ℕ)) (done : Li
 shadowed_again n p s asked known done a k e = rw (a, k, e) refl
 
 pub refuses_again : (lookups : List ℕ → Lookup) (limit : ℕ) (path n : List ℕ) (asked : Option (List ℕ)) (done later : List Done) (error : ErrorKind) → is_done done n ≡ true → later ≡ done → IsShadowedBy n asked (path_in n done) error
-    → RefusesWith path (λ ls. grown ls limit (Some (n, asked)) done) (λ ls. open_name ls limit (Some (n, asked)) done) lookups later error
+    → RefusesWith path (Some (n, asked)) (λ ls. grown ls limit (Some (n, asked)) done) (λ ls. open_name ls limit (Some (n, asked)) done) lookups later error
 refuses_again lookups limit path n asked done later (FileShadowed m p s) there same h = rw (there, same, h.0) (shadowed_again n p s asked (path_in n done) done h.1 h.2 h.3)
 refuses_again lookups limit path n asked done later NoMemory there same h = rw (there, same) (extends_same done)
 refuses_again lookups limit path n asked done later _ there same h = absurd h
@@ -169,15 +169,15 @@ module _ (files : List ℕ → Told) (limit : ℕ) (n : List ℕ) (asked : Optio
   ok_again (Ok x) there h = (nothing, right_nothing files, accepts_again nothing limit n asked done later there h)
 
   pub err_again : {T : Type 0} (path : List ℕ) (result : Result T ErrorKind) → is_done done n ≡ true → OnErr result (later ≡ done) → IfErr result (IsShadowedBy n asked (path_in n done))
-      → IfErr result (λ e. ByLookups files (λ ls. RefusesWith path (λ l. grown l limit (Some (n, asked)) done) (λ l. open_name l limit (Some (n, asked)) done) ls later e))
+      → IfErr result (λ e. ByLookups files (λ ls. RefusesWith path (Some (n, asked)) (λ l. grown l limit (Some (n, asked)) done) (λ l. open_name l limit (Some (n, asked)) done) ls later e))
   err_again path (Ok x) there same h = tt
   err_again path (Err error) there same h = (nothing, right_nothing files, refuses_again nothing limit path n asked done later error there same h)
 
   pub ok_new : (middle : List Done) → is_done done n ≡ false → ByLookups files (λ ls. visits ls limit [] asked n done ≡ (middle, Finished)) → later ≡ mark n middle → ByLookups files (λ ls. open_name ls limit (Some (n, asked)) done ≡ (later, Accepted))
   ok_new middle new h e = by_lookups files (λ ls k. accepts_new ls limit n asked done middle later new k e) h
 
-  pub err_new : (path : List ℕ) (error answer : ErrorKind) → is_done done n ≡ false → ByLookups files (λ ls. Ends error (root_walk limit asked n done) ls later) → IsToldBy (FileNotIncluded path) error answer
-      → ByLookups files (λ ls. RefusesWith path (λ l. grown l limit (Some (n, asked)) done) (λ l. open_name l limit (Some (n, asked)) done) ls later answer)
+  pub err_new : (path : List ℕ) (error answer : ErrorKind) → is_done done n ≡ false → ByLookups files (λ ls. Ends n error (root_walk limit asked n done) ls later) → IsToldBy (FileNotIncluded path) error answer
+      → ByLookups files (λ ls. RefusesWith path (Some (n, asked)) (λ l. grown l limit (Some (n, asked)) done) (λ l. open_name l limit (Some (n, asked)) done) ls later answer)
   err_new path error answer new h k = by_lookups files (λ ls e. refuses limit path n asked (Some (n, asked)) done later ls error answer refl new e k) h
 
 -- ---- a path
@@ -188,7 +188,7 @@ left_out_same (Some root) done = refl
 
 module _ (files : List ℕ → Told) (resolves : List ℕ → Option (List ℕ)) (limit : ℕ) (path : List ℕ) (done : List Done) where
   -- a path that has no name
-  unknown : (error : ErrorKind) → root_of resolves path ≡ None → OrNoMemory error (FileNotIncluded path) → RefusesWith path (λ ls. grown ls limit (root_of resolves path) done) (λ ls. opening ls resolves limit path done) nothing done error
+  unknown : (error : ErrorKind) → root_of resolves path ≡ None → OrNoMemory error (FileNotIncluded path) → RefusesWith path (root_of resolves path) (λ ls. grown ls limit (root_of resolves path) done) (λ ls. opening ls resolves limit path done) nothing done error
   unknown error e (inl memory) = rw memory (grown_extends nothing limit (root_of resolves path) done)
   unknown error e (inr same) = rw (same, e) (refl, refl)
 
@@ -202,11 +202,11 @@ module _ (files : List ℕ → Told) (resolves : List ℕ → Option (List ℕ))
     pub path_accepts : {T E : Type 0} (result : Result T E) → OnOk result (ByLookups files (λ ls. open_name ls limit (Some (n, asked)) done ≡ (later, Accepted))) → OnOk result (ByLookups files (λ ls. opening ls resolves limit path done ≡ (later, Accepted)))
     path_accepts result h = let P : Option (List ℕ × Option (List ℕ)) → Type 0 = λ r. OnOk result (ByLookups files (λ ls. open_name ls limit r done ≡ (later, Accepted))) in subst P (sym root) h
 
-    pub path_refuses : {T : Type 0} (result : Result T ErrorKind) → IfErr result (λ e. ByLookups files (λ ls. RefusesWith path (λ l. grown l limit (Some (n, asked)) done) (λ l. open_name l limit (Some (n, asked)) done) ls later e))
+    pub path_refuses : {T : Type 0} (result : Result T ErrorKind) → IfErr result (λ e. ByLookups files (λ ls. RefusesWith path (Some (n, asked)) (λ l. grown l limit (Some (n, asked)) done) (λ l. open_name l limit (Some (n, asked)) done) ls later e))
         → OnErr result (is_done later n ≡ is_done done n) → IfErr result (λ e. ByLookups files (λ ls. RefusesOpening ls resolves limit path done later e))
     path_refuses (Ok x) h out = tt
     path_refuses (Err error) h out =
-        let P : Option (List ℕ × Option (List ℕ)) → Type 0 = λ r. ByLookups files (λ ls. RefusesWith path (λ l. grown l limit r done) (λ l. open_name l limit r done) ls later error) in
+        let P : Option (List ℕ × Option (List ℕ)) → Type 0 = λ r. ByLookups files (λ ls. RefusesWith path r (λ l. grown l limit r done) (λ l. open_name l limit r done) ls later error) in
         let L : Option (List ℕ × Option (List ℕ)) → Type 0 = λ r. IsLeftOut r done later in
         by_lookups files (λ ls k. record { refused = k; root = subst L (sym root) out }) (subst P (sym root) h)
 

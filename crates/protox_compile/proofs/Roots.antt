@@ -26,7 +26,7 @@ unshadowed n (Some asked) None done v h = refl
 unshadowed n (Some asked) (Some path) done v h = rw h refl
 
 module _ (limit : ℕ) (asked : Option (List ℕ)) (n : List ℕ) (done : List Done) where
-  pub root_limit : (files : List ℕ → Told) → limit ≤ length done → ByLookups files (λ lookups. Ends (FileLimit limit) (root_walk limit asked n done) lookups done)
+  pub root_limit : (files : List ℕ → Told) → limit ≤ length done → ByLookups files (λ lookups. Ends n (FileLimit limit) (root_walk limit asked n done) lookups done)
   root_limit files h = (nothing, right_nothing files, rw (visits_step, lt-ltb limit (length done + 0 + 1) (omega arith)) refl)
 
   pub root_extends : (lookups : List ℕ → Lookup) → Extends done (visits lookups limit [] asked n done).0
@@ -63,14 +63,14 @@ module _ (limit : ℕ) (asked : Option (List ℕ)) (n : List ℕ) (done : List D
     missing : (lookups : List ℕ → Lookup) → lookups n ≡ NoFile → visits lookups limit [] asked n done ≡ (done, Missing)
     missing lookups e = rw (visits_step, inside, e) refl
 
-    stops : (lookups : List ℕ → Lookup) (error : ErrorKind) → StopsOpening (lookups n) n asked error → Ends error (root_walk limit asked n done) lookups done
+    stops : (lookups : List ℕ → Lookup) (error : ErrorKind) → StopsOpening (lookups n) n asked error → Ends n error (root_walk limit asked n done) lookups done
     stops lookups (Parse (parse.Syntax file line column expected found)) s = rw (visits_step, inside, s.1, s.0) refl
     stops lookups (Parse parse.NoMemory) s = s
     stops lookups (Check error) s = absurd s
-    stops lookups (OpenFile file path fault) s = record { front = root_extends lookups; end = Missing; exact = rw s (missing (without n lookups) (absent_there n lookups)); lacking = tt }
+    stops lookups (OpenFile file path fault) s = record { front = root_extends lookups; end = Missing; exact = rw s (missing (without n lookups) (absent_there n lookups)); lacking = s }
     stops lookups (FileTooLarge file) s = rw (visits_step, inside, s.1, s.0) refl
     stops lookups (FileInvalidUtf8 file) s = rw (visits_step, inside, s.1, s.0) refl
-    stops lookups (FileNotFound file) s = rw (visits_step, inside, s) refl
+    stops lookups (FileNotFound file) s = (s.0, rw (visits_step, inside, s.1) refl)
     stops lookups (ImportNotFound x i p y) s = absurd s
     stops lookups (CircularImport y cycle) s = absurd s
     stops lookups (FileNotIncluded path) s = absurd s
@@ -82,7 +82,7 @@ module _ (limit : ℕ) (asked : Option (List ℕ)) (n : List ℕ) (done : List D
     stops lookups (Undecodable file) s = absurd s
     stops lookups NoMemory s = root_extends lookups
 
-    pub root_stops : (files : List ℕ → Told) (error : ErrorKind) → ByLookup n (files n) (λ lookup. StopsOpening lookup n asked error) → ByLookups files (λ lookups. Ends error (root_walk limit asked n done) lookups done)
+    pub root_stops : (files : List ℕ → Told) (error : ErrorKind) → ByLookup n (files n) (λ lookup. StopsOpening lookup n asked error) → ByLookups files (λ lookups. Ends n error (root_walk limit asked n done) lookups done)
     root_stops files error told =
         let P : Lookup → Type 0 = λ l. StopsOpening l n asked error in
         (with_lookup n told.0 nothing, right_found files nothing n told.0 told.1 (right_nothing files), stops (with_lookup n told.0 nothing) error (subst P (sym (found_there n told.0 nothing)) told.2))

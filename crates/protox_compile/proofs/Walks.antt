@@ -1,10 +1,11 @@
 -- The turns of a walk.
-use Rattle.std.proofs.Common.{◌≡◌, ◌∷◌, ◌∙◌, [], ℕ, List, false, length, subst, sym, OnOk, IfErr}
+use Rattle.std.proofs.Common.{◌≡◌, ◌∷◌, ◌∙◌, [], ℕ, List, true, false, length, ap, subst, sym, OnOk, IfErr}
 use Rattle.std.specs.Prelude.{nat_lt, Result, Ok, Err}
+use Rattle.std.specs.Str.{bytes_eq}
 use Rattle.protox_file.specs.Told.{Told, ByLookups}
 use Rattle.protox_file.specs.declared.error.ErrorKind.{ErrorKind}
 use Rattle.protox_file.specs.declared.error.ErrorKind.TheVariants.{Check, OpenFile, Custom, NoMemory}
-use Rattle.protox_compile.specs.Walk.{Done, Open, Finished, records, imports_of}
+use Rattle.protox_compile.specs.Walk.{Done, Open, Finished, records, imports_of, declared_name, is_done}
 use Rattle.protox_compile.specs.Refusals.{Walk, Ends, HasStepCause}
 use Rattle.protox_compile.specs.Compiled.{IsUnlinked}
 use Rattle.protox_compile.specs.Resume.{past, IsVisit, AdvancesOrVisits, Follows, EndsWalks, LeadsTo}
@@ -12,6 +13,7 @@ use Rattle.protox_compile.specs.declared.step.Import.{Import}
 use Rattle.protox_compile.specs.declared.step.Import.TheVariants.{Finished as FinishedImport, Visit}
 use Rattle.protox_compile.proofs.Fresh.{Fresh, fresh_past}
 use Rattle.protox_compile.proofs.Measure.{all_finished}
+use Rattle.protox_compile.proofs.Right.{bytes_are}
 use Rattle.protox_compile.proofs.Steps.{finish_ends, ends_memory, by_known}
 
 pub advance_leads : (f : Open) (fs : List Open) (done : List Done) (asks : Import) (files : List ℕ → Told) (limit : ℕ) → asks ≡ FinishedImport → AdvancesOrVisits f fs done asks → LeadsTo files limit (f ∷ fs) done (past f ∷ fs) done
@@ -25,6 +27,14 @@ pub unlinked_ends : (files : List ℕ → Told) (limit : ℕ) (f : Open) (fs : L
 unlinked_ends files limit f fs done (Check error) last h = finish_ends files limit f fs done error last h.0 h.1
 unlinked_ends files limit f fs done NoMemory last h = ends_memory files limit (f ∷ fs) done
 unlinked_ends files limit f fs done _ last h = absurd h
+
+-- a file that is not linked breaks a rule, and is not finished
+pub unlinked_cause : (limit : ℕ) (done : List Done) (rose : Type 0) (f : Open) (error : ErrorKind) → is_done done f.name ≡ false
+    → bytes_eq (declared_name f.entry) f.name ≡ true → IsUnlinked (records done) f.entry.file error → HasStepCause limit done rose error
+unlinked_cause limit done rose f (Check error) new named h =
+    (f.entry.file, ap (is_done done) (bytes_are (declared_name f.entry) f.name named) ∙ new, h.1)
+unlinked_cause limit done rose f NoMemory new named h = tt
+unlinked_cause limit done rose f _ new named h = absurd h
 
 -- the same stack, written otherwise
 pub same_stack : (files : List ℕ → Told) (walk : Walk) (limit : ℕ) (fs gs : List Open) (done : List Done) → fs ≡ gs → Follows files walk limit fs done → Follows files walk limit gs done
@@ -60,7 +70,7 @@ later_files files now limit fs done later result walk e said follows =
     let P : (List ℕ → Told) → Type 0 = λ f. (w : Walk) → Follows f w limit fs done → OnOk result (ByLookups f (λ ls. w ls ≡ (later, Finished))) in
     subst P e said walk follows
 
-pub later_ends : {T : Type 0} (files now : List ℕ → Told) (limit : ℕ) (fs : List Open) (done later : List Done) (result : Result T ErrorKind) (walk : Walk) → now ≡ files
-    → IfErr result (λ e. EndsWalks now limit fs done e later) → Follows files walk limit fs done → IfErr result (λ e. ByLookups files (λ ls. Ends e walk ls later))
-later_ends files now limit fs done later (Ok x) walk e said follows = tt
-later_ends files now limit fs done later (Err error) walk e said follows = ends_later files now limit fs done later error e said walk follows
+pub later_ends : {T : Type 0} (files now : List ℕ → Told) (limit : ℕ) (fs : List Open) (done later : List Done) (result : Result T ErrorKind) (root : List ℕ) (walk : Walk) → now ≡ files
+    → IfErr result (λ e. EndsWalks now limit fs done e later) → Follows files walk limit fs done → IfErr result (λ e. ByLookups files (λ ls. Ends root e walk ls later))
+later_ends files now limit fs done later (Ok x) root walk e said follows = tt
+later_ends files now limit fs done later (Err error) root walk e said follows = ends_later files now limit fs done later error e said root walk follows

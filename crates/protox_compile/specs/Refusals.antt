@@ -3,6 +3,7 @@ use Rattle.std.specs.Prelude.{◌≡◌, ◌++◌, ◌⊎◌, ℕ, List, Bool, t
 use Rattle.std.specs.List.{list_all}
 use Rattle.std.specs.Str.{bytes_eq}
 use Rattle.pbx_desc_records.specs.declared.file.FileDescriptorProto.{FileDescriptorProto}
+use Rattle.pbx_definitions.specs.Names.{text_or_empty}
 use Rattle.pbx_link.specs.declared.error.DescriptorError.{DescriptorError}
 use Rattle.pbx_link.specs.Pool.{IsRefused}
 use Rattle.pbx_parse.specs.declared.error.ParseError.TheVariants as parse
@@ -49,43 +50,43 @@ pub record StopsLinking (error : DescriptorError) (walk : List Done × Visited) 
   pub walk_is : walk ≡ (done, Faulted (Unlinked file))
   pub refused : IsRefused (records done) file error
 
--- the walk ended since the name has no file, which is that of the root or of an import
-abbrev pub EndsWithout : List ℕ → Visited → Type 0
-EndsWithout n Missing = Unit {0}
-EndsWithout n (Faulted (NoImport file index place m)) = m ≡ n
-EndsWithout n end = ⊥
+-- the walk ended since the name has no file, which is that of its root or of an import
+abbrev pub EndsWithout : List ℕ → List ℕ → Visited → Type 0
+EndsWithout root n Missing = n ≡ root
+EndsWithout root n (Faulted (NoImport file index place m)) = m ≡ n
+EndsWithout root n end = ⊥
 
 -- reading the name failed: the files are those that the walk finishes where the name has no file, and begin those that it finishes
-pub record StopsAtName (n : List ℕ) (walk : Walk) (lookups : List ℕ → Lookup) (done : List Done) : Type 0 where
+pub record StopsAtName (root n : List ℕ) (walk : Walk) (lookups : List ℕ → Lookup) (done : List Done) : Type 0 where
   pub front : Extends done (walk lookups).0
   pub end : Visited
   pub exact : walk (without n lookups) ≡ (done, end)
-  pub lacking : EndsWithout n end
+  pub lacking : EndsWithout root n end
 
--- How a walk ended, by the error that was answered: a fault is the walk's own, with the files that it finished before it; after a fault
--- of the resolver and want of memory there are some of them.
-abbrev pub Ends : ErrorKind → Walk → (List ℕ → Lookup) → List Done → Type 0
-Ends (Parse (parse.Syntax file line column expected found)) walk lookups done = walk lookups ≡ (done, Faulted (Text file 1))
-Ends (Parse parse.NoMemory) walk lookups done = ⊥
-Ends (Check error) walk lookups done = StopsLinking error (walk lookups) done
-Ends (OpenFile name path fault) walk lookups done = StopsAtName name walk lookups done
-Ends (FileTooLarge name) walk lookups done = walk lookups ≡ (done, Faulted (Text name 4))
-Ends (FileInvalidUtf8 name) walk lookups done = walk lookups ≡ (done, Faulted (Text name 5))
-Ends (FileNotFound name) walk lookups done = walk lookups ≡ (done, Missing)
-Ends (ImportNotFound file index place name) walk lookups done = walk lookups ≡ (done, Faulted (NoImport file index place name))
-Ends (CircularImport name cycle) walk lookups done = walk lookups ≡ (done, Faulted (Circular name cycle))
-Ends (FileNotIncluded path) walk lookups done = ⊥
-Ends (FileShadowed name path shadow) walk lookups done = walk lookups ≡ (done, Faulted (Shadowed name path shadow))
-Ends (DuplicateImport file index place name) walk lookups done = walk lookups ≡ (done, Faulted (Duplicate file index place name))
-Ends (Custom text is_io) walk lookups done = Extends done (walk lookups).0
-Ends (NameMismatch asked declared) walk lookups done = walk lookups ≡ (done, Faulted (Mismatch asked declared))
-Ends (FileLimit limit) walk lookups done = walk lookups ≡ (done, Faulted (Limit limit))
-Ends (Undecodable file) walk lookups done = ⊥
-Ends NoMemory walk lookups done = Extends done (walk lookups).0
+-- How the walk of this root ended, by the error that was answered: a fault is the walk's own, with the files that it finished before it;
+-- after a fault of the resolver and want of memory there are some of them.
+abbrev pub Ends : List ℕ → ErrorKind → Walk → (List ℕ → Lookup) → List Done → Type 0
+Ends root (Parse (parse.Syntax file line column expected found)) walk lookups done = walk lookups ≡ (done, Faulted (Text file 1))
+Ends root (Parse parse.NoMemory) walk lookups done = ⊥
+Ends root (Check error) walk lookups done = StopsLinking error (walk lookups) done
+Ends root (OpenFile name path fault) walk lookups done = StopsAtName root name walk lookups done
+Ends root (FileTooLarge name) walk lookups done = walk lookups ≡ (done, Faulted (Text name 4))
+Ends root (FileInvalidUtf8 name) walk lookups done = walk lookups ≡ (done, Faulted (Text name 5))
+Ends root (FileNotFound name) walk lookups done = (name ≡ root) × (walk lookups ≡ (done, Missing))
+Ends root (ImportNotFound file index place name) walk lookups done = walk lookups ≡ (done, Faulted (NoImport file index place name))
+Ends root (CircularImport name cycle) walk lookups done = walk lookups ≡ (done, Faulted (Circular name cycle))
+Ends root (FileNotIncluded path) walk lookups done = ⊥
+Ends root (FileShadowed name path shadow) walk lookups done = walk lookups ≡ (done, Faulted (Shadowed name path shadow))
+Ends root (DuplicateImport file index place name) walk lookups done = walk lookups ≡ (done, Faulted (Duplicate file index place name))
+Ends root (Custom text is_io) walk lookups done = Extends done (walk lookups).0
+Ends root (NameMismatch asked declared) walk lookups done = walk lookups ≡ (done, Faulted (Mismatch asked declared))
+Ends root (FileLimit limit) walk lookups done = walk lookups ≡ (done, Faulted (Limit limit))
+Ends root (Undecodable file) walk lookups done = ⊥
+Ends root NoMemory walk lookups done = Extends done (walk lookups).0
 
--- a record breaks a rule among the finished files, which is this one
+-- a record whose file is not finished breaks a rule among the finished files, which is this one
 abbrev pub BreaksRule : List Done → DescriptorError → Type 0
-BreaksRule done error = (file : FileDescriptorProto) × IsRefused (records done) file error
+BreaksRule done error = (file : FileDescriptorProto) × (is_done done (text_or_empty file.name) ≡ false) × IsRefused (records done) file error
 
 -- What is known of the error of a walk over every resolver: the rule is broken among the finished files, a fault of the resolver has this
 -- cause, the limit is this one, and the declared name is another than the one asked for. Some kinds never come.
@@ -156,7 +157,7 @@ StopsOpening lookup name asked (Check error) = ⊥
 StopsOpening lookup name asked (OpenFile file path fault) = file ≡ name
 StopsOpening lookup name asked (FileTooLarge file) = (file ≡ name) × (lookup ≡ TextFault 4)
 StopsOpening lookup name asked (FileInvalidUtf8 file) = (file ≡ name) × (lookup ≡ TextFault 5)
-StopsOpening lookup name asked (FileNotFound file) = lookup ≡ NoFile
+StopsOpening lookup name asked (FileNotFound file) = (file ≡ name) × (lookup ≡ NoFile)
 StopsOpening lookup name asked (ImportNotFound file index place n) = ⊥
 StopsOpening lookup name asked (CircularImport n cycle) = ⊥
 StopsOpening lookup name asked (FileNotIncluded path) = ⊥
@@ -184,19 +185,19 @@ HasOpenCause asked rose (FileLimit limit) = ⊥
 HasOpenCause asked rose (Undecodable file) = ⊥
 HasOpenCause asked rose kind = Unit {0}
 
--- the opening was refused since the name has no file, which is that of the path or of an import
-abbrev pub RefusedWithout : List ℕ → Opened → Type 0
-RefusedWithout n NotIncluded = Unit {0}
-RefusedWithout n (Refused (NoImport file index place m)) = m ≡ n
-RefusedWithout n end = ⊥
+-- the opening of what is asked for was refused since the name has no file, which is the name that is asked for or that of an import
+abbrev pub RefusedWithout : Option (List ℕ × Option (List ℕ)) → List ℕ → Opened → Type 0
+RefusedWithout root n NotIncluded = (asked : Option (List ℕ)) × (root ≡ Some (n, asked))
+RefusedWithout root n (Refused (NoImport file index place m)) = m ≡ n
+RefusedWithout root n end = ⊥
 
 -- How an opening was refused: reading the name failed. The files are those that are finished where the name has no file.
-pub record FailsAtName (n : List ℕ) (files : (List ℕ → Lookup) → List Done) (opened : (List ℕ → Lookup) → List Done × Opened)
-    (lookups : List ℕ → Lookup) (later : List Done) : Type 0 where
+pub record FailsAtName (root : Option (List ℕ × Option (List ℕ))) (n : List ℕ) (files : (List ℕ → Lookup) → List Done)
+    (opened : (List ℕ → Lookup) → List Done × Opened) (lookups : List ℕ → Lookup) (later : List Done) : Type 0 where
   pub front : Extends later (files lookups)
   pub end : Opened
   pub exact : opened (without n lookups) ≡ (later, end)
-  pub lacking : RefusedWithout n end
+  pub lacking : RefusedWithout root n end
 
 -- the record is not linked among the finished files, for this reason
 pub record RefusesLinking (error : DescriptorError) (opened : List Done × Opened) (later : List Done) : Type 0 where
@@ -204,27 +205,27 @@ pub record RefusesLinking (error : DescriptorError) (opened : List Done × Opene
   pub opened_is : opened ≡ (later, Refused (Unlinked file))
   pub refused : IsRefused (records later) file error
 
--- The error that an opening of the path was refused with, and the files that it left: `files` are those that it would finish, `opened` is
--- what it comes to, each by what looking names up comes to.
-abbrev pub RefusesWith : List ℕ → ((List ℕ → Lookup) → List Done) → ((List ℕ → Lookup) → List Done × Opened) → (List ℕ → Lookup) → List Done
-    → ErrorKind → Type 0
-RefusesWith path files opened lookups later (Parse (parse.Syntax file line column expected found)) = opened lookups ≡ (later, Refused (Text file 1))
-RefusesWith path files opened lookups later (Parse parse.NoMemory) = ⊥
-RefusesWith path files opened lookups later (Check error) = RefusesLinking error (opened lookups) later
-RefusesWith path files opened lookups later (OpenFile name p fault) = FailsAtName name files opened lookups later
-RefusesWith path files opened lookups later (FileTooLarge name) = opened lookups ≡ (later, Refused (Text name 4))
-RefusesWith path files opened lookups later (FileInvalidUtf8 name) = opened lookups ≡ (later, Refused (Text name 5))
-RefusesWith path files opened lookups later (FileNotFound name) = ⊥
-RefusesWith path files opened lookups later (ImportNotFound file index place name) = opened lookups ≡ (later, Refused (NoImport file index place name))
-RefusesWith path files opened lookups later (CircularImport name cycle) = opened lookups ≡ (later, Refused (Circular name cycle))
-RefusesWith path files opened lookups later (FileNotIncluded p) = (p ≡ path) × (opened lookups ≡ (later, NotIncluded))
-RefusesWith path files opened lookups later (FileShadowed name asked shadow) = opened lookups ≡ (later, Refused (Shadowed name asked shadow))
-RefusesWith path files opened lookups later (DuplicateImport file index place name) = opened lookups ≡ (later, Refused (Duplicate file index place name))
-RefusesWith path files opened lookups later (Custom text is_io) = Extends later (files lookups)
-RefusesWith path files opened lookups later (NameMismatch asked declared) = opened lookups ≡ (later, Refused (Mismatch asked declared))
-RefusesWith path files opened lookups later (FileLimit limit) = opened lookups ≡ (later, Refused (Limit limit))
-RefusesWith path files opened lookups later (Undecodable file) = ⊥
-RefusesWith path files opened lookups later NoMemory = Extends later (files lookups)
+-- The error that an opening of the path was refused with, and the files that it left: `root` is what the path asks for, `files` are those
+-- that it would finish, `opened` is what it comes to, each by what looking names up comes to.
+abbrev pub RefusesWith : List ℕ → Option (List ℕ × Option (List ℕ)) → ((List ℕ → Lookup) → List Done)
+    → ((List ℕ → Lookup) → List Done × Opened) → (List ℕ → Lookup) → List Done → ErrorKind → Type 0
+RefusesWith path root files opened lookups later (Parse (parse.Syntax file line column expected found)) = opened lookups ≡ (later, Refused (Text file 1))
+RefusesWith path root files opened lookups later (Parse parse.NoMemory) = ⊥
+RefusesWith path root files opened lookups later (Check error) = RefusesLinking error (opened lookups) later
+RefusesWith path root files opened lookups later (OpenFile name p fault) = FailsAtName root name files opened lookups later
+RefusesWith path root files opened lookups later (FileTooLarge name) = opened lookups ≡ (later, Refused (Text name 4))
+RefusesWith path root files opened lookups later (FileInvalidUtf8 name) = opened lookups ≡ (later, Refused (Text name 5))
+RefusesWith path root files opened lookups later (FileNotFound name) = ⊥
+RefusesWith path root files opened lookups later (ImportNotFound file index place name) = opened lookups ≡ (later, Refused (NoImport file index place name))
+RefusesWith path root files opened lookups later (CircularImport name cycle) = opened lookups ≡ (later, Refused (Circular name cycle))
+RefusesWith path root files opened lookups later (FileNotIncluded p) = (p ≡ path) × (opened lookups ≡ (later, NotIncluded))
+RefusesWith path root files opened lookups later (FileShadowed name asked shadow) = opened lookups ≡ (later, Refused (Shadowed name asked shadow))
+RefusesWith path root files opened lookups later (DuplicateImport file index place name) = opened lookups ≡ (later, Refused (Duplicate file index place name))
+RefusesWith path root files opened lookups later (Custom text is_io) = Extends later (files lookups)
+RefusesWith path root files opened lookups later (NameMismatch asked declared) = opened lookups ≡ (later, Refused (Mismatch asked declared))
+RefusesWith path root files opened lookups later (FileLimit limit) = opened lookups ≡ (later, Refused (Limit limit))
+RefusesWith path root files opened lookups later (Undecodable file) = ⊥
+RefusesWith path root files opened lookups later NoMemory = Extends later (files lookups)
 
 -- the name that was asked for is finished exactly if it was before
 abbrev pub IsLeftOut : Option (List ℕ × Option (List ℕ)) → List Done → List Done → Type 0
@@ -234,7 +235,8 @@ IsLeftOut (Some root) old new = is_done new root.0 ≡ is_done old root.0
 -- The opening of the path was refused with the error, and left these files. The name that it asks for is finished exactly if it was before.
 pub record RefusesOpening (lookups : List ℕ → Lookup) (resolves : List ℕ → Option (List ℕ)) (limit : ℕ) (path : List ℕ) (done later : List Done)
     (error : ErrorKind) : Type 0 where
-  pub refused : RefusesWith path (λ ls. grown ls limit (root_of resolves path) done) (λ ls. opening ls resolves limit path done) lookups later error
+  pub refused : RefusesWith path (root_of resolves path) (λ ls. grown ls limit (root_of resolves path) done)
+      (λ ls. opening ls resolves limit path done) lookups later error
   pub root : IsLeftOut (root_of resolves path) done later
 
 -- What is known of the error of opening a path over every resolver: the rule is broken among the files that are left, a fault of the

@@ -62,9 +62,10 @@ pub record Follows (files : List ℕ → Told) (walk : Walk) (limit : ℕ) (fs :
   pub closed : (name : List ℕ) → was_opened fs done name ≡ false → known name ≡ Unread
   pub is : (lookups : List ℕ → Lookup) → IsMore known lookups → walk lookups ≡ resume lookups limit fs done
 
--- every walk that has this left on the stack ends so by the error
+-- every walk that has this left on the stack ends so by the error, whatever its root is
 abbrev pub EndsWalks : (List ℕ → Told) → ℕ → List Open → List Done → ErrorKind → List Done → Type 0
-EndsWalks files limit fs done error later = (walk : Walk) → Follows files walk limit fs done → ByLookups files (λ lookups. Ends error walk lookups later)
+EndsWalks files limit fs done error later =
+    (root : List ℕ) (walk : Walk) → Follows files walk limit fs done → ByLookups files (λ lookups. Ends root error walk lookups later)
 
 -- every walk that has the one left has the other left
 abbrev pub LeadsTo : (List ℕ → Told) → ℕ → List Open → List Done → List Open → List Done → Type 0

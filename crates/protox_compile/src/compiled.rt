@@ -1,8 +1,9 @@
 ghost use Rattle.std.specs.Prelude.{◌≡◌, [], ◌∷◌, ◌++◌, true, map, length, IfErr, OnOk, OnErr, IfOk};
 ghost use Rattle.std.specs.Option.{option_copied};
+ghost use Rattle.std.specs.Str.{bytes_eq};
 ghost use Rattle.pbx_rules.specs.Breaches.{keeps_rules};
 ghost use Rattle.pbx_pool_laws.specs.Pool.{ArePooled};
-ghost use Rattle.protox_compile.specs.Walk.{is_done, done_as, records};
+ghost use Rattle.protox_compile.specs.Walk.{is_done, done_as, records, declared_name};
 ghost use Rattle.protox_compile.specs.Opening.{mark, path_in};
 ghost use Rattle.protox_compile.specs.Compiled.{IsUnlinked, IsOrdered, metadata_of};
 
@@ -98,6 +99,7 @@ impl Compiled {
         ensures ok { OnOk result (self.new ≡ self.old ++ done_as self.old frame.name frame.entry ∷ []) }
         ensures linked { OnOk result (keeps_rules (records self.old) frame.entry.file ≡ true) }
         ensures refused { IfErr result (IsUnlinked (records self.old) frame.entry.file) }
+        ensures declared { bytes_eq (declared_name frame.entry) frame.name ≡ true }
         ensures err { OnErr result (self.new ≡ self.old) }
     {
         let (name, file) = frame.into_parts();

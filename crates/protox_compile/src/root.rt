@@ -72,7 +72,8 @@ fn open_name<R: FileResolver>(
         (λ lookups. open_name_in lookups limit (Some (name.now, asked_path resolved path.now)) done.old ≡ (done.new, Accepted))) }
     ensures err { IsTrue (R.tells resolver.old) →
         IfErr result (λ e. ByLookups (R.files resolver.old)
-        (λ lookups. RefusesWith path.now (λ ls. grown ls limit (Some (name.now, asked_path resolved path.now)) done.old)
+        (λ lookups. RefusesWith path.now (Some (name.now, asked_path resolved path.now))
+        (λ ls. grown ls limit (Some (name.now, asked_path resolved path.now)) done.old)
         (λ ls. open_name_in ls limit (Some (name.now, asked_path resolved path.now)) done.old) lookups done.new e)) }
     ensures opens { OnOk result (Opens done.old done.new) }
     ensures grows { OnErr result (Grows done.old done.new) }

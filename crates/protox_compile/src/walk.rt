@@ -114,7 +114,7 @@ pub(crate) fn visit_root<R: FileResolver>(
         (λ lookups. visits lookups limit [] (asked_path resolved path.now) root.now done.old ≡ (done.new, Finished))) }
     ensures err { IsTrue (R.tells resolver.old) →
         IfErr result (λ e. ByLookups (R.files resolver.old)
-        (λ lookups. Ends e (λ ls. visits ls limit [] (asked_path resolved path.now) root.now done.old) lookups done.new)) }
+        (λ lookups. Ends root.now e (λ ls. visits ls limit [] (asked_path resolved path.now) root.now done.old) lookups done.new)) }
     ensures cause { IfErr result
         (HasRootCause (asked_path resolved path.now) limit done.new (Rose (R.faults resolver.old) (R.faults resolver.new) (R.at_end resolver.new))) }
     ensures later { R.faults resolver.old ≤ R.faults resolver.new }

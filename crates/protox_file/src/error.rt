@@ -228,7 +228,9 @@ impl Error {
 
     /// What the error is; takes no memory.
     pub fn kind(&self) -> &ErrorKind
-        ensures { result.now ≡ self.now }
+        ensures same { result.now ≡ self.now }
+        // Inside of it no want of memory stands.
+        ensures whole { IsWhole self.now }
     {
         &self.kind
     }

@@ -3,10 +3,10 @@ use Rattle.std.proofs.lemmas.List.{length_push}
 use Rattle.std.proofs.lemmas.Result.{err_from_is_err_and}
 use Rattle.protox_compile.specs.Walk.{done_as, is_done}
 use Rattle.protox_compile.specs.Resume.{past, IsVisit}
-use Rattle.protox_compile.proofs.Fresh.{on_err, fresh_root, fresh_finish, fresh_visit, root_done}
+use Rattle.protox_compile.proofs.Fresh.{on_err, fresh_root, fresh_top, fresh_finish, fresh_visit, root_done}
 use Rattle.protox_compile.proofs.Extends.{grows_push}
 use Rattle.protox_compile.proofs.Steps.{finish_leads, ends_memory}
-use Rattle.protox_compile.proofs.Walks.{step_cause_later, advance_leads, to_visit, unlinked_ends, same_stack, fresh_next, ends_finished, ends_later, leads_later}
+use Rattle.protox_compile.proofs.Walks.{step_cause_later, advance_leads, to_visit, unlinked_ends, unlinked_cause, same_stack, fresh_next, ends_finished, ends_later, leads_later}
 use Rattle.protox_compile.proofs.walk.finish_all.Goals as goal
 
 pub returns-in-Err-clause-root : goal.returns-in-Err-clause-root
@@ -16,7 +16,7 @@ pub returns-in-Err-clause-cause : goal.returns-in-Err-clause-cause
 returns-in-Err-clause-cause g c = step_cause_later c.args.limit c.walk.done ⊥ _ c.in-Err.error (λ no. absurd no) (c.in-Err.ensures.cause c.args.limit)
 
 pub returns-in-Err-clause-err : goal.returns-in-Err-clause-err
-returns-in-Err-clause-err g c tells = λ walk follows. c.in-Err.ensures.err (g.R.FileResolver.files c.args.resolver.now) c.args.limit walk (c.walk.invariant.leads tells walk follows)
+returns-in-Err-clause-err g c tells = λ root walk follows. c.in-Err.ensures.err (g.R.FileResolver.files c.args.resolver.now) c.args.limit root walk (c.walk.invariant.leads tells walk follows)
 
 pub returns-in-Err-open_import-clause-root : goal.returns-in-Err-open_import-clause-root
 returns-in-Err-open_import-clause-root g c = fresh_root _ c.walk.current _ _ c.walk.invariant.fresh
@@ -24,7 +24,7 @@ returns-in-Err-open_import-clause-root g c = fresh_root _ c.walk.current _ _ c.w
 pub returns-in-Err-open_import-clause-err : goal.returns-in-Err-open_import-clause-err
 returns-in-Err-open_import-clause-err g c tells =
     let told : IsTrue (g.R.FileResolver.tells c.walk.resolver) = rw c.walk.invariant.tells tells in
-    λ walk follows. ends_later (g.R.FileResolver.files c.args.resolver.now) (g.R.FileResolver.files c.walk.resolver) c.args.limit (c.walk.current ∷ c.walk.parents) c.walk.done c.walk.done _ (c.walk.invariant.files tells) (c.in-Err-open_import.ensures.err told) walk (c.walk.invariant.leads tells walk follows)
+    λ root walk follows. ends_later (g.R.FileResolver.files c.args.resolver.now) (g.R.FileResolver.files c.walk.resolver) c.args.limit (c.walk.current ∷ c.walk.parents) c.walk.done c.walk.done _ (c.walk.invariant.files tells) (c.in-Err-open_import.ensures.err told) root walk (c.walk.invariant.leads tells walk follows)
 
 pub walk-preserved-in-Ok-Finished : goal.walk-preserved-in-Ok-Finished
 walk-preserved-in-Ok-Finished g c =
@@ -86,8 +86,8 @@ pub returns-then-is_err-clause-root : goal.returns-then-is_err-clause-root
 returns-then-is_err-clause-root g c = fresh_root _ c.walk.current _ _ c.walk.invariant.fresh
 
 pub returns-then-is_err-clause-err : goal.returns-then-is_err-clause-err
-returns-then-is_err-clause-err g c tells walk follows =
-    rw c.from.ensures (ends_memory (g.R.FileResolver.files c.args.resolver.now) c.args.limit (c.walk.current ∷ c.walk.parents) c.walk.done walk (c.walk.invariant.leads tells walk follows))
+returns-then-is_err-clause-err g c tells root walk follows =
+    rw c.from.ensures (ends_memory (g.R.FileResolver.files c.args.resolver.now) c.args.limit (c.walk.current ∷ c.walk.parents) c.walk.done root walk (c.walk.invariant.leads tells walk follows))
 
 pub returns-in_err-finish-clause-root : goal.returns-in_err-finish-clause-root
 returns-in_err-finish-clause-root g c =
@@ -97,7 +97,13 @@ returns-in_err-finish-clause-root g c =
 pub returns-in_err-finish-clause-err : goal.returns-in_err-finish-clause-err
 returns-in_err-finish-clause-err g c tells =
     let p = err_from_is_err_and c.from_residual.result c.from_residual.ensures.1 in
-    rw (p.1, p.2, c.in_err-finish.ensures.err) (λ walk follows. unlinked_ends (g.R.FileResolver.files c.args.resolver.now) c.args.limit c.walk.current c.walk.parents c.walk.done _ (sym c.has_next.ensures ∙ c.if-has_next.false) c.in_err-finish.ensures.refused walk (c.walk.invariant.leads tells walk follows))
+    rw (p.1, p.2, c.in_err-finish.ensures.err) (λ root walk follows. unlinked_ends (g.R.FileResolver.files c.args.resolver.now) c.args.limit c.walk.current c.walk.parents c.walk.done _ (sym c.has_next.ensures ∙ c.if-has_next.false) c.in_err-finish.ensures.refused root walk (c.walk.invariant.leads tells walk follows))
+
+pub returns-in_err-finish-clause-cause : goal.returns-in_err-finish-clause-cause
+returns-in_err-finish-clause-cause g c =
+    let p = err_from_is_err_and c.from_residual.result c.from_residual.ensures.1 in
+    rw (p.1, p.2, c.in_err-finish.ensures.err)
+    (unlinked_cause c.args.limit c.walk.done _ c.walk.current _ (fresh_top _ c.walk.current _ _ c.walk.invariant.fresh) c.in_err-finish.ensures.declared c.in_err-finish.ensures.refused)
 
 pub returns-in-None-clause-grows : goal.returns-in-None-clause-grows
 returns-in-None-clause-grows g c = grows_push c.args.done.now c.walk.done c.finish.new.self (done_as c.walk.done c.walk.current.name c.walk.current.entry) c.walk.invariant.grows c.in_ok-finish.ensures.ok refl

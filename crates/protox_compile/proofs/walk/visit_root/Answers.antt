@@ -24,7 +24,7 @@ returns-in-Ok-clause-err g c tells =
     let told : IsTrue (g.R.FileResolver.tells c.open_frame.new.resolver) = rw c.open_frame.ensures.keeps_tells tells in
     let follows : Follows (g.R.FileResolver.files c.args.resolver.now) (root_walk c.args.limit (asked_path c.args.resolved c.args.path.now) c.args.root.now c.args.done.now) c.args.limit (c.in-Ok.frame ∷ []) c.args.done.now
     = root_follows c.args.limit (asked_path c.args.resolved c.args.path.now) c.args.root.now c.args.done.now room (g.R.FileResolver.files c.args.resolver.now) c.in-Ok.frame c.in-Ok.ensures.fresh.0 (c.in-Ok.ensures.opened tells) c.in-Ok.ensures.unshadowed in
-    later_ends (g.R.FileResolver.files c.args.resolver.now) (g.R.FileResolver.files c.open_frame.new.resolver) c.args.limit _ _ _ c.finish_all.result _ (c.open_frame.ensures.keeps_files tells) (c.finish_all.ensures.err told) follows
+    later_ends (g.R.FileResolver.files c.args.resolver.now) (g.R.FileResolver.files c.open_frame.new.resolver) c.args.limit _ _ _ c.finish_all.result c.args.root.now _ (c.open_frame.ensures.keeps_files tells) (c.finish_all.ensures.err told) follows
 
 pub returns-in-Err-clause-err : goal.returns-in-Err-clause-err
 returns-in-Err-clause-err g c tells =
