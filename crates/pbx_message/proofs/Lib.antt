@@ -1,0 +1,13 @@
+pub mod Decimals
+pub mod EnumValues
+pub mod Extensional
+pub mod Found
+pub mod GivenValues
+pub mod Items
+pub mod KindVariants
+pub mod Messages
+pub mod Named
+pub mod Targets
+pub mod Stored
+pub mod GivenMaps
+pub mod Gets

@@ -1,0 +1,23 @@
+//! Dynamic messages: messages of a type that is known only when the program runs, and the values of their fields.
+//!
+//! A message is its descriptor and what it holds, a content of the descriptor's type. Values go in by move and out by copy.
+#![tactic(auto)]
+
+mod defaults;
+mod error;
+mod giving;
+mod holding;
+mod message;
+mod own;
+mod putting;
+mod reflect;
+mod typed;
+mod value;
+
+pub use error::{ReflectError, SetFieldError};
+pub use message::DynamicMessage;
+pub use pbx_codec::MapKey;
+pub use pbx_key_map::KeyMap;
+pub use pbx_wire::Rec as UnknownField;
+pub use reflect::ReflectMessage;
+pub use value::{Value, ValueMap};
