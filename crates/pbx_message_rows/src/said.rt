@@ -1,0 +1,80 @@
+//! What is told of a message.
+
+use crate::stop::Done;
+use crate::values::add_value;
+use pbx_desc::Message;
+use pbx_link::{ExtensionDescriptor, FieldDescriptor};
+use pbx_message::{DynamicMessage, Value};
+use pbx_wire::{Blob, write_recs};
+use std::alloc::Global;
+
+/// The value of a field; `=` before it where the message has one, and else `~` before the default.
+pub(crate) fn add_got(alloc: Global, text: &mut String, has: bool, value: &Option<Value>) -> Done {
+    text.push_str(if has { "=" } else { "~" })?;
+    match value {
+        Some(value) => add_value(alloc, text, value),
+        None => {
+            text.push_str("none")?;
+            Ok(())
+        }
+    }
+}
+
+fn add_field(
+    alloc: Global,
+    text: &mut String,
+    message: &DynamicMessage,
+    field: &FieldDescriptor,
+) -> Done {
+    text.push_str(field.name())?;
+    let value = message.get_field(alloc, field)?;
+    add_got(alloc, text, message.has_field(field), &value)?;
+    text.push_str(" ")?;
+    Ok(())
+}
+
+fn add_extension(
+    alloc: Global,
+    text: &mut String,
+    message: &DynamicMessage,
+    extension: &ExtensionDescriptor,
+) -> Done {
+    write!(text, "[{}]", extension.full_name())?;
+    let value = message.get_extension(alloc, extension)?;
+    add_got(alloc, text, message.has_extension(extension), &value)?;
+    text.push_str(" ")?;
+    Ok(())
+}
+
+/// The bytes in hexadecimal digits.
+pub(crate) fn add_bytes(alloc: Global, text: &mut String, bytes: &[u8]) -> Done {
+    let digits = hex::encode(alloc, bytes)?;
+    text.push_str(digits.as_str())?;
+    Ok(())
+}
+
+/// Each field and extension, the records that none of them reads, the bytes, and how many levels there are.
+pub(crate) fn add_message(alloc: Global, text: &mut String, message: &DynamicMessage) -> Done {
+    let desc = message.descriptor();
+    for field in desc.fields() {
+        add_field(alloc, text, message, &field)?;
+    }
+    add_rest(alloc, text, message)
+}
+
+/// The same without the fields.
+fn add_rest(alloc: Global, text: &mut String, message: &DynamicMessage) -> Done {
+    let desc = message.descriptor();
+    for extension in desc.extensions() {
+        add_extension(alloc, text, message, &extension)?;
+    }
+    let mut unknown = Blob::new(alloc);
+    write_recs(&mut unknown, message.unknown_fields())?;
+    text.push_str("unknown ")?;
+    add_bytes(alloc, text, unknown.as_slice())?;
+    text.push_str(" bytes ")?;
+    let bytes = message.encode_to_vec(alloc)?;
+    add_bytes(alloc, text, bytes.as_slice())?;
+    write!(text, " levels {}", message.depth())?;
+    Ok(())
+}
