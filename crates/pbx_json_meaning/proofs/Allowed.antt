@@ -1,0 +1,293 @@
+-- Where unknown fields are allowed, a tree says what it says where they are denied.
+use Rattle.std.proofs.Common.{◌≡◌, ℕ, List, [], ◌∷◌, Bool, true, false, ◌==◌, if◌then◌else◌, Option, Some, None, option_map, option_and_then, refl, codes}
+use Rattle.std.specs.Str.{bytes_eq}
+use Rattle.serde_json.specs.Data.{Data, null, boolean, number, string, array, object, Items, no_items, item, Members, no_members, member}
+use Rattle.pbx_wkt.specs.Names.{is_well_known}
+use Rattle.pbx_meaning.specs.Content.{Fields}
+use Rattle.pbx_meaning.specs.Shape.{declared_of, is_float, enum_values_of}
+use Rattle.pbx_meaning.specs.declared.shape.Kind.{Kind}
+use Rattle.pbx_meaning.specs.declared.shape.Kind.TheVariants as kind
+use Rattle.pbx_meaning.specs.declared.shape.FieldShape.{FieldShape}
+use Rattle.pbx_meaning.specs.declared.shape.EnumValueShape.{EnumValueShape}
+use Rattle.pbx_meaning.specs.declared.shape.Shape.{Shape}
+use Rattle.pbx_json_meaning.specs.Names.{field_named}
+use Rattle.pbx_json_meaning.specs.Scalars.{Family, integers, truths, texts, bytes_texts, floats, messages, enums, family}
+use Rattle.pbx_json_meaning.specs.Scalars.{scalar_of, scalar_read, is_null_value, Judged, key_read, value_named, number_named, unknown_name}
+use Rattle.pbx_json_meaning.specs.Scalars.{enum_read, null_value_read}
+use Rattle.pbx_json_meaning.specs.Asked.{Asked, field, one, root, Target, nothing, single, list, map, target}
+use Rattle.pbx_json_meaning.specs.Types.{message_name}
+use Rattle.pbx_json_meaning.specs.Laws.{ReadWhenAllowed}
+use Rattle.pbx_json_meaning.specs.Stands.{Reading, Entry, ok_of, is_known_key, all_known, told_by, told, only, put, with_reading, gathered, if_oneofs}
+use Rattle.pbx_json_meaning.specs.Stands.{message_of, all_read, elements_read, entry_read, if_differ, entries_read, message_in, message_as, object_of}
+use Rattle.pbx_json_meaning.specs.Stands.{value_as, list_as, map_as, read_as, read, said, items_said, entries_said}
+
+-- ---- options
+
+-- the second is what the first is, where that is there
+abbrev Goes : {X : Type 0} → Option X → Option X → Type 0
+Goes {X} x y = (v : X) → x ≡ Some v → y ≡ Some v
+
+map_goes : {X Y : Type 0} (f : X → Y) (x y : Option X) → Goes x y → Goes (option_map f x) (option_map f y)
+map_goes f None y g v h = absurd (cc)
+map_goes f (Some x) y g v h = rw (g x refl) h
+
+then_goes : {X Y : Type 0} (f g : X → Option Y) (x y : Option X) → Goes x y → ((v : X) → Goes (f v) (g v)) → Goes (option_and_then f x) (option_and_then g y)
+then_goes f g None y a b v h = absurd (cc)
+then_goes f g (Some x) y a b v h = rw (a x refl) (b x v h)
+
+-- ---- scalars
+
+named_goes : (o : Option EnumValueShape) → Goes (ok_of (number_named false o)) (ok_of (number_named true o))
+named_goes None v h = absurd (cc)
+named_goes (Some x) v h = h
+
+enum_goes : (vs : List EnumValueShape) (d : Data) → Goes (ok_of (enum_read false vs d)) (ok_of (enum_read true vs d))
+enum_goes vs (string s) v h = named_goes (value_named s vs) v h
+enum_goes vs null v h = h
+enum_goes vs (boolean b) v h = h
+enum_goes vs (number n) v h = h
+enum_goes vs (array ds) v h = h
+enum_goes vs (object ms) v h = h
+
+-- both tests go one way
+judged_goes : (b : Bool) (x y z : Judged) → Goes (ok_of y) (ok_of z) → Goes (ok_of (if b then x else y)) (ok_of (if b then x else z))
+judged_goes true x y z g v h = h
+judged_goes false x y z g v h = g v h
+
+unknown_goes : Goes (ok_of (unknown_name false)) (ok_of (unknown_name true))
+unknown_goes v h = absurd (cc)
+
+null_goes : (d : Data) → Goes (ok_of (null_value_read false d)) (ok_of (null_value_read true d))
+null_goes (string s) v h = judged_goes (bytes_eq s (codes "NULL_VALUE")) _ _ _ unknown_goes v h
+null_goes null v h = h
+null_goes (boolean b) v h = h
+null_goes (number n) v h = h
+null_goes (array ds) v h = h
+null_goes (object ms) v h = h
+
+family_goes : (shape : Shape) (k : Family) (d : Data) → Goes (ok_of (scalar_of shape false k d)) (ok_of (scalar_of shape true k d))
+family_goes shape (integers min max) d v h = h
+family_goes shape truths d v h = h
+family_goes shape texts d v h = h
+family_goes shape bytes_texts d v h = h
+family_goes shape floats d v h = h
+family_goes shape (messages t) d v h = h
+family_goes shape (enums e) d v h = at (is_null_value shape e) v h
+  where
+    at : (b : Bool) → Goes (ok_of (if b then null_value_read false d else enum_read false (enum_values_of shape e) d))
+        (ok_of (if b then null_value_read true d else enum_read true (enum_values_of shape e) d))
+    at true v h = null_goes d v h
+    at false v h = enum_goes (enum_values_of shape e) d v h
+
+scalar_goes : (shape : Shape) (k : Kind) (d : Data) → Goes (ok_of (scalar_read shape false k d)) (ok_of (scalar_read shape true k d))
+scalar_goes shape k d = family_goes shape (family k) d
+
+-- ---- what trees inside a tree say
+
+module _ (shape : Shape) where
+  -- all that the tree says where unknown fields are denied
+  abbrev TreeGoes : Data → Type 0
+  TreeGoes d = (a : Asked) → Goes (said shape false d a) (said shape true d a)
+
+  abbrev ItemsGo : Items → Type 0
+  ItemsGo no_items = Unit {0}
+  ItemsGo (item d ds) = TreeGoes d × ItemsGo ds
+
+  abbrev MembersGo : Members → Type 0
+  MembersGo no_members = Unit {0}
+  MembersGo (member k d ms) = TreeGoes d × MembersGo ms
+
+  -- ---- the fields of an object
+
+  abbrev ReadingsGo : List Reading → List Reading → Type 0
+  ReadingsGo [] [] = Unit {0}
+  ReadingsGo (x ∷ xs) (y ∷ ys) = Goes x y × ReadingsGo xs ys
+  ReadingsGo _ _ = ⊥
+
+  told_goes : (fs : List FieldShape) (n : ℕ) (ms : Members) → MembersGo ms
+      → ReadingsGo (told fs n (entries_said shape false ms)) (told fs n (entries_said shape true ms))
+  told_goes fs n no_members g = tt
+  told_goes fs n (member k d ms) g = at (field_named k fs) (told_goes fs n ms g.1)
+    where
+      one_more : (b : Bool) (f : FieldShape) (xs ys : List Reading) → ReadingsGo xs ys
+          → ReadingsGo (if b then said shape false d (field f) ∷ xs else xs) (if b then said shape true d (field f) ∷ ys else ys)
+      one_more true f xs ys r = (g.0 (field f), r)
+      one_more false f xs ys r = r
+
+      at : (o : Option FieldShape) → ReadingsGo (told fs n (entries_said shape false ms)) (told fs n (entries_said shape true ms))
+          → ReadingsGo (told_by o n (record { key = k; says = said shape false d }) (told fs n (entries_said shape false ms)))
+          (told_by o n (record { key = k; says = said shape true d }) (told fs n (entries_said shape true ms)))
+      at None r = r
+      at (Some f) r = one_more (f.number == n) f _ _ r
+
+  only_goes : (xs ys : List Reading) → ReadingsGo xs ys → Goes (only xs) (only ys)
+  only_goes [] [] g v h = h
+  only_goes [] (y ∷ ys) g v h = absurd (g)
+  only_goes (x ∷ xs) [] g v h = absurd (g)
+  only_goes (x ∷ []) (y ∷ []) g v h = g.0 v h
+  only_goes (x ∷ []) (y ∷ (z ∷ ys)) g v h = absurd (g.1)
+  only_goes (x ∷ (w ∷ xs)) (y ∷ ys) g v h = absurd (cc)
+
+  reading_goes : (n : ℕ) (x y : Reading) (p q : Option Fields) → Goes x y → Goes p q → Goes (with_reading n x p) (with_reading n y q)
+  reading_goes n None y p q a b v h = absurd (cc)
+  reading_goes n (Some None) y p q a b v h = rw (a None refl) (b v h)
+  reading_goes n (Some (Some w)) y p q a b v h = rw (a (Some w) refl) (map_goes (put n w) p q b v h)
+
+  gathered_goes : (x y : ℕ → Reading) → ((n : ℕ) → Goes (x n) (y n)) → (fs : List FieldShape) → Goes (gathered x fs) (gathered y fs)
+  gathered_goes x y g [] v h = h
+  gathered_goes x y g (f ∷ fs) v h = reading_goes f.number (x f.number) (y f.number) _ _ (g f.number) (gathered_goes x y g fs) v h
+
+  all_allowed : (fs : List FieldShape) (es : List Entry) → all_known true fs es ≡ true
+  all_allowed fs [] = refl
+  all_allowed fs (e ∷ es) = rw (known (field_named e.key fs), all_allowed fs es) refl
+    where
+      known : (o : Option FieldShape) → is_known_key true o ≡ true
+      known None = refl
+      known (Some f) = refl
+
+  message_goes : (fs : List FieldShape) (ms : Members) → MembersGo ms
+      → Goes (message_of false fs (entries_said shape false ms)) (message_of true fs (entries_said shape true ms))
+  message_goes fs ms g v h = rw (all_allowed fs (entries_said shape true ms)) (at (all_known false fs (entries_said shape false ms)) h)
+    where
+      denied : Option Fields
+      denied = gathered (λ n. only (told fs n (entries_said shape false ms))) fs
+
+      allowed : Option Fields
+      allowed = gathered (λ n. only (told fs n (entries_said shape true ms))) fs
+
+      fields_go : Goes denied allowed
+      fields_go = gathered_goes _ _ (λ n. only_goes _ _ (told_goes fs n ms g)) fs
+
+      at : (b : Bool) → (if b then option_and_then (if_oneofs fs) denied else None) ≡ Some v → option_and_then (if_oneofs fs) allowed ≡ Some v
+      at true k = then_goes (if_oneofs fs) (if_oneofs fs) denied allowed fields_go (λ w u e. e) v k
+      at false k = absurd (cc)
+
+  -- ---- lists and maps
+
+  items_read_go : (k : Kind) (ds : Items) → ItemsGo ds
+      → Goes (all_read (λ says. says (one k)) (items_said shape false ds)) (all_read (λ says. says (one k)) (items_said shape true ds))
+  items_read_go k no_items g v h = h
+  items_read_go k (item d ds) g v h = then_goes _ _ _ _ (g.0 (one k)) (λ w. map_goes (λ ys. w ∷ ys) _ _ (items_read_go k ds g.1)) v h
+
+  elements_go : (k : Kind) (ds : Items) → ItemsGo ds → Goes (elements_read k (items_said shape false ds)) (elements_read k (items_said shape true ds))
+  elements_go k ds g = map_goes _ _ _ (items_read_go k ds g)
+
+  entry_goes : (kk vk : Kind) (k : List ℕ) (d : Data) → TreeGoes d
+      → Goes (entry_read kk vk (record { key = k; says = said shape false d })) (entry_read kk vk (record { key = k; says = said shape true d }))
+  entry_goes kk vk k d g = then_goes _ _ (ok_of (key_read kk k)) (ok_of (key_read kk k)) (λ w e. e) (λ w. map_goes _ _ _ (g (one vk)))
+
+  members_read_go : (kk vk : Kind) (ms : Members) → MembersGo ms
+      → Goes (all_read (entry_read kk vk) (entries_said shape false ms)) (all_read (entry_read kk vk) (entries_said shape true ms))
+  members_read_go kk vk no_members g v h = h
+  members_read_go kk vk (member k d ms) g v h =
+      then_goes _ _ _ _ (entry_goes kk vk k d g.0) (λ w. map_goes (λ ys. w ∷ ys) _ _ (members_read_go kk vk ms g.1)) v h
+
+  entries_go : (kk vk : Kind) (ms : Members) → MembersGo ms
+      → Goes (entries_read kk vk (entries_said shape false ms)) (entries_read kk vk (entries_said shape true ms))
+  entries_go kk vk ms g = then_goes if_differ if_differ _ _ (members_read_go kk vk ms g) (λ w u e. e)
+
+  -- ---- all trees
+
+  message_as_goes : (t : ℕ) (d : Data) (ms : Members) → MembersGo ms
+      → Goes (message_as shape false t d (entries_said shape false ms)) (message_as shape true t d (entries_said shape true ms))
+  message_as_goes t d ms g = at (is_well_known (message_name shape t))
+    where
+      object_goes : (e : Data) → Goes (object_of (message_of false (declared_of shape t)) e (entries_said shape false ms))
+          (object_of (message_of true (declared_of shape t)) e (entries_said shape true ms))
+      object_goes (object all) v h = message_goes (declared_of shape t) ms g v h
+      object_goes null v h = absurd (cc)
+      object_goes (boolean b) v h = absurd (cc)
+      object_goes (number n) v h = absurd (cc)
+      object_goes (string s) v h = absurd (cc)
+      object_goes (array ds) v h = absurd (cc)
+
+      at : (b : Bool) → Goes (if b then None else object_of (message_of false (declared_of shape t)) d (entries_said shape false ms))
+          (if b then None else object_of (message_of true (declared_of shape t)) d (entries_said shape true ms))
+      at true v h = absurd (cc)
+      at false v h = object_goes d v h
+
+  value_goes : (k : Kind) (d : Data) (ms : Members) → MembersGo ms
+      → Goes (value_as shape false k d (entries_said shape false ms)) (value_as shape true k d (entries_said shape true ms))
+  value_goes (kind.Message t) d ms g = map_goes _ _ _ (message_as_goes t d ms g)
+  value_goes kind.Double d ms g = scalar_goes shape kind.Double d
+  value_goes kind.Float d ms g = scalar_goes shape kind.Float d
+  value_goes kind.Int32 d ms g = scalar_goes shape kind.Int32 d
+  value_goes kind.Int64 d ms g = scalar_goes shape kind.Int64 d
+  value_goes kind.Uint32 d ms g = scalar_goes shape kind.Uint32 d
+  value_goes kind.Uint64 d ms g = scalar_goes shape kind.Uint64 d
+  value_goes kind.Sint32 d ms g = scalar_goes shape kind.Sint32 d
+  value_goes kind.Sint64 d ms g = scalar_goes shape kind.Sint64 d
+  value_goes kind.Fixed32 d ms g = scalar_goes shape kind.Fixed32 d
+  value_goes kind.Fixed64 d ms g = scalar_goes shape kind.Fixed64 d
+  value_goes kind.Sfixed32 d ms g = scalar_goes shape kind.Sfixed32 d
+  value_goes kind.Sfixed64 d ms g = scalar_goes shape kind.Sfixed64 d
+  value_goes kind.Bool d ms g = scalar_goes shape kind.Bool d
+  value_goes kind.String d ms g = scalar_goes shape kind.String d
+  value_goes kind.Bytes d ms g = scalar_goes shape kind.Bytes d
+  value_goes (kind.Enum e) d ms g = scalar_goes shape (kind.Enum e) d
+
+  list_goes : (k : Kind) (d : Data) (ds : Items) → ItemsGo ds → Goes (list_as k d (items_said shape false ds)) (list_as k d (items_said shape true ds))
+  list_goes k (array no_items) ds g v h = h
+  list_goes k (array (item e es)) ds g v h = at (is_float k) v h
+    where
+      at : (b : Bool) → Goes (if b then None else elements_read k (items_said shape false ds)) (if b then None else elements_read k (items_said shape true ds))
+      at true v h = absurd (cc)
+      at false v h = elements_go k ds g v h
+  list_goes k null ds g v h = h
+  list_goes k (boolean b) ds g v h = h
+  list_goes k (number n) ds g v h = h
+  list_goes k (string s) ds g v h = h
+  list_goes k (object ms) ds g v h = h
+
+  map_as_goes : (kk vk : Kind) (d : Data) (ms : Members) → MembersGo ms
+      → Goes (map_as kk vk d (entries_said shape false ms)) (map_as kk vk d (entries_said shape true ms))
+  map_as_goes kk vk (object no_members) ms g v h = h
+  map_as_goes kk vk (object (member k e es)) ms g v h = at (is_float vk) v h
+    where
+      at : (b : Bool) → Goes (if b then None else entries_read kk vk (entries_said shape false ms))
+          (if b then None else entries_read kk vk (entries_said shape true ms))
+      at true v h = absurd (cc)
+      at false v h = entries_go kk vk ms g v h
+  map_as_goes kk vk null ms g v h = h
+  map_as_goes kk vk (boolean b) ms g v h = h
+  map_as_goes kk vk (number n) ms g v h = h
+  map_as_goes kk vk (string s) ms g v h = h
+  map_as_goes kk vk (array ds) ms g v h = h
+
+  read_as_goes : (at : Target) (d : Data) (ds : Items) (ms : Members) → ItemsGo ds → MembersGo ms
+      → Goes (read_as shape false at d (items_said shape false ds) (entries_said shape false ms))
+      (read_as shape true at d (items_said shape true ds) (entries_said shape true ms))
+  read_as_goes nothing d ds ms g k v h = h
+  read_as_goes (single kd) d ds ms g k v h = value_goes kd d ms k v h
+  read_as_goes (list kd) d ds ms g k v h = list_goes kd d ds g v h
+  read_as_goes (map kk vk) d ds ms g k v h = map_as_goes kk vk d ms k v h
+
+  read_goes : (d : Data) (ds : Items) (ms : Members) → ItemsGo ds → MembersGo ms → (a : Asked)
+      → Goes (read shape false d (items_said shape false ds) (entries_said shape false ms) a)
+      (read shape true d (items_said shape true ds) (entries_said shape true ms) a)
+  read_goes d ds ms g k (field f) = map_goes _ _ _ (read_as_goes (target shape d (field f)) d ds ms g k)
+  read_goes d ds ms g k (one kd) = read_as_goes (target shape d (one kd)) d ds ms g k
+
+  mutual
+    tree_goes : (d : Data) → TreeGoes d
+    tree_goes null = read_goes null no_items no_members tt tt
+    tree_goes (boolean b) = read_goes (boolean b) no_items no_members tt tt
+    tree_goes (number n) = read_goes (number n) no_items no_members tt tt
+    tree_goes (string s) = read_goes (string s) no_items no_members tt tt
+    tree_goes (array ds) = read_goes (array ds) ds no_members (items_go ds) tt
+    tree_goes (object ms) = read_goes (object ms) no_items ms tt (members_go ms)
+
+    items_go : (ds : Items) → ItemsGo ds
+    items_go no_items = tt
+    items_go (item d ds) = (tree_goes d, items_go ds)
+
+    members_go : (ms : Members) → MembersGo ms
+    members_go no_members = tt
+    members_go (member k d ms) = (tree_goes d, members_go ms)
+
+pub read_when_allowed : ReadWhenAllowed
+read_when_allowed shape t tree c h = at (said shape false tree (root t)) (tree_goes shape tree (root t)) h
+  where
+    at : (r : Reading) → Goes r (said shape true tree (root t)) → message_in r ≡ Some c → message_in (said shape true tree (root t)) ≡ Some c
+    at None g k = absurd (cc)
+    at (Some v) g k = rw (g v refl) k

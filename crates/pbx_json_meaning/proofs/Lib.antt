@@ -1,0 +1,5 @@
+mod Places
+mod First
+mod Allowed
+mod Plain
+mod Rows

@@ -1,0 +1,244 @@
+-- The one tree that is written for a content (ProtoJSON Format). None: a rule of writing is broken somewhere, or a value is not of its field's kind.
+use Rattle.std.specs.Prelude.{ℕ, ◌==◌, ℤ, List, [], ◌∷◌, ◌++◌, map as map_list, filter, find, codes, Bool, true, false, not, ◌&&◌, ◌||◌}
+use Rattle.std.specs.Prelude.{if◌then◌else◌, Option, Some, None, option_map}
+use Rattle.std.specs.List.{list_any}
+use Rattle.std.specs.Str.{bytes_eq}
+use Rattle.std.specs.Fmt.{signed_decimal}
+use Rattle.pbx_wire.specs.declared.rec.Rec.{Rec}
+use Rattle.serde_json.specs.Data.{Data, null, boolean, number, string, array, object, Items, no_items, item, Members, no_members, member, put}
+use Rattle.serde_json.specs.Find.{of_integer}
+use Rattle.pbx_meaning.specs.Content as content
+use Rattle.pbx_meaning.specs.Content.{Content, Fields, no_fields, field as field_of_number, Val, Vals, no_vals, val, Pairs, no_pairs, pair, get, Key}
+use Rattle.pbx_meaning.specs.Content.{truth_key, number_key, text_key}
+use Rattle.pbx_meaning.specs.declared.shape.Kind.{Kind}
+use Rattle.pbx_meaning.specs.declared.shape.Kind.TheVariants as kind
+use Rattle.pbx_meaning.specs.declared.shape.Cardinality.{Cardinality}
+use Rattle.pbx_meaning.specs.declared.shape.Cardinality.TheVariants.{Singular, Repeated, Map}
+use Rattle.pbx_meaning.specs.declared.shape.Shape.{Shape}
+use Rattle.pbx_meaning.specs.declared.shape.FieldShape.{FieldShape}
+use Rattle.pbx_meaning.specs.declared.shape.EnumValueShape.{EnumValueShape}
+use Rattle.std.specs.Ordering.{int_eq}
+use Rattle.pbx_meaning.specs.Records.{number_of}
+use Rattle.pbx_meaning.specs.Shape.{declared_of, field_of, is_float, enum_values_of}
+use Rattle.pbx_meaning.specs.Encoding.{type_of}
+use Rattle.pbx_meaning.specs.Meaning.{zero_of}
+use Rattle.pbx_wkt.specs.Names.{is_well_known}
+use Rattle.pbx_text.specs.Base64.{base64_text}
+use Rattle.pbx_json_meaning.specs.Types.{message_name}
+use Rattle.pbx_json_meaning.specs.Scalars.{Family, integers, truths, texts, bytes_texts, enums, family, is_null_value}
+use Rattle.pbx_json_meaning.specs.Asked.{Asked, field, one, has_presence}
+use Rattle.pbx_json_meaning.specs.Stands.{is_there, all_read}
+use Rattle.pbx_json_meaning.specs.declared.options.SerializeOptions.{SerializeOptions}
+
+-- ---- scalars
+
+-- the kinds whose integers have 64 bits
+abbrev pub is_wide : Kind → Bool
+is_wide kind.Int64 = true
+is_wide kind.Uint64 = true
+is_wide kind.Sint64 = true
+is_wide kind.Fixed64 = true
+is_wide kind.Sfixed64 = true
+is_wide _ = false
+
+-- a whole number
+abbrev pub integer : ℤ → Data
+integer z = number (of_integer z)
+
+-- an integer: of 64 bits as a decimal text, unless the option is off
+abbrev pub integer_tree : SerializeOptions → Kind → ℤ → Data
+integer_tree o k z = if is_wide k && o.stringify_64_bit_integers then string (signed_decimal z) else integer z
+
+-- the first declared value of a number
+abbrev pub value_of_number : ℤ → List EnumValueShape → Option EnumValueShape
+value_of_number z vs = find (λ v. int_eq v.number z) vs
+
+-- the name of a value, or the number where there is none
+abbrev pub name_or_number : ℤ → Option EnumValueShape → Data
+name_or_number z None = integer z
+name_or_number z (Some v) = string v.name
+
+-- an enum: the first declared name of the number, else the number, or always the number; null for `NullValue`
+abbrev pub enum_tree : Shape → SerializeOptions → ℕ → ℤ → Data
+enum_tree shape o e z =
+    if is_null_value shape e then null
+    else if o.use_enum_numbers then integer z
+    else name_or_number z (value_of_number z (enum_values_of shape e))
+
+-- a number of an integer kind or of an enum
+abbrev pub number_by : Shape → SerializeOptions → Kind → Family → ℤ → Option Data
+number_by shape o k (integers min max) z = Some (integer_tree o k z)
+number_by shape o k (enums e) z = Some (enum_tree shape o e z)
+number_by shape o k _ z = None
+
+-- the tree of a number
+abbrev pub number_tree : Shape → SerializeOptions → Kind → ℤ → Option Data
+number_tree shape o k z = number_by shape o k (family k) z
+
+-- `true` or `false`
+abbrev pub truth_by : Family → Bool → Option Data
+truth_by truths b = Some (boolean b)
+truth_by _ b = None
+
+-- a text
+abbrev pub text_by : Family → List ℕ → Option Data
+text_by texts s = Some (string s)
+text_by _ s = None
+
+-- bytes: base64 in the standard alphabet, with padding
+abbrev pub bytes_by : Family → List ℕ → Option Data
+bytes_by bytes_texts s = Some (string (base64_text s))
+bytes_by _ s = None
+
+-- the key of an entry as a text
+abbrev pub key_text : Key → List ℕ
+key_text (number_key z) = signed_decimal z
+key_text (truth_key b) = if b then codes "true" else codes "false"
+key_text (text_key s) = s
+
+-- ---- objects
+
+-- a key and its tree
+abbrev pub Line : Type 0
+Line = List ℕ × Option Data
+
+-- the key is there
+abbrev pub has_key : List ℕ → Members → Bool
+has_key k no_members = false
+has_key k (member l d ms) = bytes_eq l k || has_key k ms
+
+-- the members with one more; None: the key is there already
+abbrev pub with_member : List ℕ → Data → Members → Option Members
+with_member k d ms = if has_key k ms then None else Some (put k d ms)
+
+-- the members with a line more
+abbrev pub with_line : List ℕ → Option Data → Option Members → Option Members
+with_line k (Some d) (Some ms) = with_member k d ms
+with_line k _ _ = None
+
+-- the members of these lines, in byte order of their keys; None: a line has no tree, or two have one key
+abbrev pub members_of_lines : List Line → Option Members
+members_of_lines [] = Some no_members
+members_of_lines (l ∷ ls) = with_line l.0 l.1 (members_of_lines ls)
+
+-- ---- messages
+
+-- what a value is written as, where something is asked of it
+abbrev pub Tells : Type 0
+Tells = Asked → Option Data
+
+-- a number, and what its value is written as
+pub record Told : Type 0 where
+  pub number : ℕ
+  pub tells : Tells
+
+-- the key that a field is written under: its JSON name, or by option its own name; an extension keeps its JSON name
+abbrev pub key_of_field : SerializeOptions → FieldShape → List ℕ
+key_of_field o f = if o.use_proto_field_name && not f.is_extension then f.name else f.json_name
+
+-- a kept record of the field
+abbrev pub is_kept_of : List Rec → FieldShape → Bool
+is_kept_of kept f = list_any (λ r. number_of r == f.number) kept
+
+-- a kept record of a float field, a list of floats or a map with float values, which have no JSON; other kept records are skipped
+abbrev pub keeps_float : List FieldShape → List Rec → Bool
+keeps_float gs kept = list_any (λ f. is_float f.kind && is_kept_of kept f) gs
+
+-- the tree of a kind's default
+abbrev pub default_by : Shape → SerializeOptions → Kind → Val → Option Data
+default_by shape o k (content.number z) = number_tree shape o k z
+default_by shape o k (content.truth b) = Some (boolean b)
+default_by shape o k (content.text s) = Some (string s)
+default_by shape o k (content.octets s) = Some (string (base64_text s))
+default_by shape o k _ = None
+
+-- the tree of a field that has no value: its default, an empty array or an empty object
+abbrev pub default_tree : Shape → SerializeOptions → FieldShape → Cardinality → Option Data
+default_tree shape o f Singular = default_by shape o f.kind (zero_of shape f.kind)
+default_tree shape o f Repeated = Some (array no_items)
+default_tree shape o f (Map k) = Some (object no_members)
+
+-- where defaults are not skipped: fields without a value and without presence are written too, except floats and extensions
+abbrev pub is_written_default : SerializeOptions → Fields → FieldShape → Bool
+is_written_default o fs f =
+    not o.skip_default_fields && not (has_presence f) && not (is_float f.kind) && not f.is_extension && not (is_there (get f.number fs))
+
+-- the line of a field that has no value
+abbrev pub default_line : Shape → SerializeOptions → FieldShape → Line
+default_line shape o f = (key_of_field o f, default_tree shape o f f.cardinality)
+
+-- the line of a field that has a value
+abbrev pub told_line : SerializeOptions → Tells → Option FieldShape → Line
+told_line o tells None = ([], None)
+told_line o tells (Some f) = (key_of_field o f, tells (field f))
+
+-- a line for each field that is written
+abbrev pub lines : Shape → SerializeOptions → List FieldShape → Fields → List Told → List Line
+lines shape o gs fs told =
+    map_list (λ t. told_line o t.tells (field_of t.number gs)) told ++ map_list (default_line shape o) (filter (is_written_default o fs) gs)
+
+-- a message of fields
+abbrev pub object_tree : Shape → SerializeOptions → List FieldShape → Fields → List Rec → List Told → Option Data
+object_tree shape o gs fs kept told = if keeps_float gs kept then None else option_map object (members_of_lines (lines shape o gs fs told))
+
+-- the tree of a message: an object of fields; of a well-known type none is written so far
+abbrev pub message_tree : Shape → SerializeOptions → ℕ → Fields → List Rec → List Told → Option Data
+message_tree shape o t fs kept told = if is_well_known (message_name shape t) then None else object_tree shape o (declared_of shape t) fs kept told
+
+-- ---- all contents
+
+-- the kind of what is asked for
+abbrev pub kind_asked : Asked → Kind
+kind_asked (field f) = f.kind
+kind_asked (one k) = k
+
+-- the elements of an array
+abbrev pub items_of : List Data → Items
+items_of [] = no_items
+items_of (d ∷ ds) = item d (items_of ds)
+
+-- an array of the elements' trees
+abbrev pub array_tree : Kind → List Tells → Option Data
+array_tree k all = option_map (λ ds. array (items_of ds)) (all_read (λ tells. tells (one k)) all)
+
+-- the line of an entry
+abbrev pub entry_line : Kind → Key × Tells → Line
+entry_line k e = (key_text e.0, e.1 (one k))
+
+-- an object of the entries' trees
+abbrev pub entries_tree : Kind → List (Key × Tells) → Option Data
+entries_tree k all = option_map object (members_of_lines (map_list (entry_line k) all))
+
+abbrev mutual
+  -- the tree of a value, where something is asked of it
+  pub tells : Shape → SerializeOptions → Val → Tells
+  tells shape o (content.number z) a = number_tree shape o (kind_asked a) z
+  tells shape o (content.truth b) a = truth_by (family (kind_asked a)) b
+  tells shape o (content.text s) a = text_by (family (kind_asked a)) s
+  tells shape o (content.octets s) a = bytes_by (family (kind_asked a)) s
+  tells shape o (content.message c) a = content_tree shape o c (type_of (kind_asked a))
+  tells shape o (content.many vs) a = array_tree (kind_asked a) (vals_tell shape o vs)
+  tells shape o (content.keyed ps) a = entries_tree (kind_asked a) (pairs_tell shape o ps)
+
+  -- the tree of a content as a message of a type
+  pub content_tree : Shape → SerializeOptions → Content → ℕ → Option Data
+  content_tree shape o (content.content fs kept) t = message_tree shape o t fs kept (fields_tell shape o fs)
+
+  -- each field with the tree of its value
+  pub fields_tell : Shape → SerializeOptions → Fields → List Told
+  fields_tell shape o no_fields = []
+  fields_tell shape o (field_of_number n v fs) = record { number = n; tells = tells shape o v } ∷ fields_tell shape o fs
+
+  -- each element with its tree
+  pub vals_tell : Shape → SerializeOptions → Vals → List Tells
+  vals_tell shape o no_vals = []
+  vals_tell shape o (val v vs) = tells shape o v ∷ vals_tell shape o vs
+
+  -- each key with the tree of its value
+  pub pairs_tell : Shape → SerializeOptions → Pairs → List (Key × Tells)
+  pairs_tell shape o no_pairs = []
+  pairs_tell shape o (pair k v ps) = (k, tells shape o v) ∷ pairs_tell shape o ps
+
+-- the canonical tree of a content as a message of the type at a place of the shape, under the options
+abbrev pub canonical : Shape → ℕ → Content → SerializeOptions → Option Data
+canonical shape t c o = content_tree shape o c t

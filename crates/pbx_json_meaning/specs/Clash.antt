@@ -1,0 +1,59 @@
+-- Which keys of a message's JSON have two meanings (Protocol Buffers "Language Guide (proto 3)": JSON Options; ProtoJSON Format).
+use Rattle.std.specs.Prelude.{ℕ, ◌==◌, nat_le, List, [], ◌∷◌, map, filter, length, codes, Bool, not, ◌&&◌, ◌||◌, if◌then◌else◌, Option, Some, None}
+use Rattle.std.specs.Prelude.{option_map}
+use Rattle.std.specs.List.{list_any}
+use Rattle.std.specs.Option.{option_or}
+use Rattle.std.specs.Str.{bytes_eq}
+use Rattle.std.specs.Ordering.{nat_cmp, is_lt}
+use Rattle.std.specs.Cmp.Lexicographic.{slice_cmp}
+use Rattle.pbx_meaning.specs.declared.shape.Shape.{Shape}
+use Rattle.pbx_meaning.specs.declared.shape.MessageShape.{MessageShape}
+use Rattle.pbx_meaning.specs.declared.shape.FieldShape.{FieldShape}
+use Rattle.pbx_json_meaning.specs.Names.{json_name_is, name_is, extension_is}
+use Rattle.pbx_json_meaning.specs.declared.names_fault.NameFault.{NameFault}
+use Rattle.pbx_json_meaning.specs.declared.names_fault.NameFault.TheVariants.{JsonNames}
+
+-- two fields share the JSON name
+abbrev pub is_shared : List FieldShape → List ℕ → Bool
+is_shared fs key = nat_le 2 (length (filter (json_name_is key) fs))
+
+-- it is the key of an `Any`'s type
+abbrev pub is_type_key : List ℕ → Bool
+is_type_key key = bytes_eq key (codes "@type")
+
+-- it is an extension's too
+abbrev pub is_of_extension : List FieldShape → List ℕ → Bool
+is_of_extension fs key = list_any (extension_is key) fs
+
+-- it is the name of another field
+abbrev pub is_name_of_another : List FieldShape → FieldShape → Bool
+is_name_of_another fs f = list_any (λ g. name_is f.json_name g && not (g.number == f.number)) fs
+
+-- The field's JSON name has another meaning in its message. `by_name`: where fields may be written under their own names, also the name of another field.
+abbrev pub clashes : Bool → List FieldShape → FieldShape → Bool
+clashes by_name fs f =
+    not f.is_extension
+    && (is_shared fs f.json_name || is_type_key f.json_name || is_of_extension fs f.json_name || (by_name && is_name_of_another fs f))
+
+-- the lesser of keys by bytes
+abbrev pub lesser_key : List ℕ → Option (List ℕ) → List ℕ
+lesser_key k None = k
+lesser_key k (Some l) = if is_lt (slice_cmp nat_cmp l k) then l else k
+
+-- the least of keys by bytes
+abbrev pub least_key : List (List ℕ) → Option (List ℕ)
+least_key [] = None
+least_key (k ∷ ks) = Some (lesser_key k (least_key ks))
+
+-- the least key at fault in a message
+abbrev pub clashing_key : Bool → List FieldShape → Option (List ℕ)
+clashing_key by_name fs = least_key (map (λ f. f.json_name) (filter (clashes by_name fs) fs))
+
+-- the first message with a key at fault, and its least key
+abbrev pub first_clash : Bool → List MessageShape → Option NameFault
+first_clash by_name [] = None
+first_clash by_name (m ∷ ms) = option_or (option_map (λ key. JsonNames m.full_name key) (clashing_key by_name m.fields)) (first_clash by_name ms)
+
+-- the first message with a key at fault, in the order of the shape
+abbrev pub name_fault : Bool → Shape → Option NameFault
+name_fault by_name shape = first_clash by_name shape.messages

@@ -1,0 +1,15 @@
+pub mod Types
+pub mod Names
+pub mod Scalars
+pub mod Asked
+pub mod Place
+pub mod Trees
+pub mod Stands
+pub mod Faults
+pub mod FirstFaults
+pub mod Canonical
+pub mod WriteFaults
+pub mod Clash
+pub mod Options
+pub mod Named
+pub mod Laws

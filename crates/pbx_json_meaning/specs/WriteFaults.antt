@@ -1,0 +1,126 @@
+-- Which rule of the JSON mapping a content breaks where it is written, and where in the tree (ProtoJSON Format). A place is followed from the root,
+-- through what is written of the values on the way; a rule is broken by the value that stands there, or by the key that leads there.
+use Rattle.std.specs.Prelude.{◌≡◌, ◌⊎◌, ℕ, zero, suc, nat_le, List, [], ◌∷◌, ◌++◌, map as map_list, filter, length, Bool, true, false, ◌&&◌}
+use Rattle.std.specs.Prelude.{if◌then◌else◌, Option, Some, None, option_map, Result, Ok, Err}
+use Rattle.std.specs.List.{list_any}
+use Rattle.std.specs.Str.{bytes_eq}
+use Rattle.pbx_wire.specs.declared.rec.Rec.{Rec}
+use Rattle.pbx_meaning.specs.Content as content
+use Rattle.pbx_meaning.specs.Content.{Content, Fields, no_fields, field as field_of_number, Val, Vals, no_vals, val, Pairs, no_pairs, pair, get}
+use Rattle.pbx_meaning.specs.Content.{Key as MapKey}
+use Rattle.pbx_meaning.specs.declared.shape.Kind.{Kind}
+use Rattle.pbx_meaning.specs.declared.shape.Shape.{Shape}
+use Rattle.pbx_meaning.specs.declared.shape.FieldShape.{FieldShape}
+use Rattle.pbx_meaning.specs.Encoding.{type_of}
+use Rattle.pbx_meaning.specs.Shape.{declared_of, field_of, is_float}
+use Rattle.pbx_wkt.specs.Names.{is_well_known}
+use Rattle.pbx_json_meaning.specs.Types.{message_name}
+use Rattle.pbx_json_meaning.specs.Asked.{Asked, field, one, root}
+use Rattle.pbx_json_meaning.specs.Faults.{SomeWith, OkWith}
+use Rattle.pbx_json_meaning.specs.Canonical.{key_of_field, is_kept_of, is_written_default, kind_asked, key_text}
+use Rattle.pbx_json_meaning.specs.declared.kind.JsonKind.{JsonKind}
+use Rattle.pbx_json_meaning.specs.declared.kind.JsonKind.TheVariants as fault
+use Rattle.pbx_json_meaning.specs.declared.options.SerializeOptions.{SerializeOptions}
+use Rattle.pbx_json_meaning.specs.declared.place.Step.{Step}
+use Rattle.pbx_json_meaning.specs.declared.place.Step.TheVariants.{Key, Index}
+
+-- what is written below a value: nothing, elements, entries, or fields of a message with its kept records
+pub data Parts : Type 0 where
+  leaf : Parts
+  elements : Kind → Vals → Parts
+  keyed : Kind → Pairs → Parts
+  members : List FieldShape → Fields → List Rec → Parts
+
+-- what is written below, or the rule that the value itself breaks
+abbrev pub Taken : Type 0
+Taken = Result Parts JsonKind
+
+-- what is written below a message; of a well-known type none is written so far
+abbrev pub message_parts : Shape → ℕ → Fields → List Rec → Taken
+message_parts shape t fs kept = if is_well_known (message_name shape t) then Err fault.NotBuilt else Ok (members (declared_of shape t) fs kept)
+
+-- what is written below a content of a type
+abbrev pub content_parts : Shape → ℕ → Content → Taken
+content_parts shape t (content.content fs kept) = message_parts shape t fs kept
+
+-- what is written below a value of which something is asked, or the rule that it breaks
+abbrev pub parts_of : Shape → Val → Asked → Taken
+parts_of shape (content.message c) a = content_parts shape (type_of (kind_asked a)) c
+parts_of shape (content.many vs) a = Ok (elements (kind_asked a) vs)
+parts_of shape (content.keyed ps) a = Ok (keyed (kind_asked a) ps)
+parts_of shape _ a = Ok leaf
+
+-- ---- steps
+
+-- the element at an index
+abbrev pub val_at : ℕ → Vals → Option Val
+val_at i no_vals = None
+val_at zero (val v vs) = Some v
+val_at (suc i) (val v vs) = val_at i vs
+
+-- the value of the entry that is written under a key
+abbrev pub val_under : List ℕ → Pairs → Option Val
+val_under s no_pairs = None
+val_under s (pair k v ps) = if bytes_eq (key_text k) s then Some v else val_under s ps
+
+-- the field is written under a key
+abbrev pub is_under : SerializeOptions → List ℕ → Option FieldShape → Bool
+is_under o s None = false
+is_under o s (Some f) = bytes_eq (key_of_field o f) s
+
+-- a field's value, and what is asked of it
+abbrev pub asked_of : Option FieldShape → Val → Option (Val × Asked)
+asked_of None v = None
+asked_of (Some f) v = Some (v, field f)
+
+-- the value of the field that is written under a key
+abbrev pub field_under : SerializeOptions → List ℕ → List FieldShape → Fields → Option (Val × Asked)
+field_under o s gs no_fields = None
+field_under o s gs (field_of_number n v fs) = if is_under o s (field_of n gs) then asked_of (field_of n gs) v else field_under o s gs fs
+
+-- the value that is written at an element or under a key, and what is asked of it
+abbrev pub into_written : SerializeOptions → Parts → Step → Option (Val × Asked)
+into_written o (elements k vs) (Index i) = option_map (λ v. (v, one k)) (val_at i vs)
+into_written o (keyed k ps) (Key s) = option_map (λ v. (v, one k)) (val_under s ps)
+into_written o (members gs fs kept) (Key s) = field_under o s gs fs
+into_written o _ _ = None
+
+-- the key of a field
+abbrev pub key_in : SerializeOptions → Option FieldShape → List (List ℕ)
+key_in o None = []
+key_in o (Some f) = key_of_field o f ∷ []
+
+-- the keys of the fields that have a value
+abbrev pub value_keys : SerializeOptions → List FieldShape → Fields → List (List ℕ)
+value_keys o gs no_fields = []
+value_keys o gs (field_of_number n v fs) = key_in o (field_of n gs) ++ value_keys o gs fs
+
+-- the keys that are written: of the fields that have a value, and of the defaults
+abbrev pub written_keys : SerializeOptions → List FieldShape → Fields → List (List ℕ)
+written_keys o gs fs = value_keys o gs fs ++ map_list (key_of_field o) (filter (is_written_default o fs) gs)
+
+-- the key is written twice
+abbrev pub is_twice : List ℕ → List (List ℕ) → Bool
+is_twice s keys = nat_le 2 (length (filter (λ k. bytes_eq k s) keys))
+
+-- the rule that a key breaks: two are written, or a float field that would stand there has a kept record
+abbrev pub KeyBreaks : SerializeOptions → Parts → List ℕ → JsonKind → Type 0
+KeyBreaks o (members gs fs kept) s fault.DuplicateField = is_twice s (written_keys o gs fs) ≡ true
+KeyBreaks o (members gs fs kept) s fault.Float = list_any (λ f. is_float f.kind && is_kept_of kept f && bytes_eq (key_of_field o f) s) gs ≡ true
+KeyBreaks o _ s _ = ⊥
+
+-- the last step is to a key that breaks the rule
+abbrev pub IsKeyFault : SerializeOptions → Parts → Step → List Step → JsonKind → Type 0
+IsKeyFault o parts (Key s) place kind = (place ≡ []) × KeyBreaks o parts s kind
+IsKeyFault o parts (Index i) place kind = ⊥
+
+-- The rule of the kind is broken at the place of the tree: by the value that is written there, or by the key that leads there.
+abbrev pub WriteFaultAt : Shape → SerializeOptions → List Step → Val → Asked → JsonKind → Type 0
+WriteFaultAt shape o [] v a kind = parts_of shape v a ≡ Err kind
+WriteFaultAt shape o (step ∷ place) v a kind =
+    OkWith (parts_of shape v a) (λ parts.
+    IsKeyFault o parts step place kind ⊎ SomeWith (into_written o parts step) (λ next. WriteFaultAt shape o place next.0 next.1 kind))
+
+-- a content of the type breaks the rule of the kind at the place, where it is written under the options
+abbrev pub WriteFault : Shape → ℕ → Content → SerializeOptions → List Step → JsonKind → Type 0
+WriteFault shape t c o place kind = WriteFaultAt shape o place (content.message c) (root t) kind

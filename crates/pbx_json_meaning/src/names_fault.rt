@@ -1,0 +1,15 @@
+use pbx_wire::Text;
+
+/// Why the messages of a pool cannot all be carried to JSON and back.
+#[derive(Debug, Drop)]
+pub enum NameFault {
+    /// A key of a message's JSON has two meanings.
+    JsonNames {
+        /// The full name of the message.
+        message: Text,
+        /// The key.
+        key: Text,
+    },
+    /// Memory ran out.
+    NoMemory,
+}
