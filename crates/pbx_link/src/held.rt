@@ -1,6 +1,7 @@
 // A pool that has files, as its copies and descriptors hold it.
-ghost use Rattle.std.specs.Prelude.{◌≡◌, IfOk, IfSome, IsTrue};
+ghost use Rattle.std.specs.Prelude.{◌≡◌, IfOk, OnOk, IfSome, IsTrue};
 ghost use Rattle.pbx_described.specs.Shapes.{shape_of as shape_of_files};
+ghost use Rattle.pbx_shapes.specs.EnumNumbers.{HasEnumNumbers};
 
 use crate::kept::KeptShape;
 use pbx_meaning::Schema;
@@ -73,7 +74,8 @@ impl HeldPool {
 
     /// The shape of the types of the pool, which is kept. The only error is want of memory.
     pub(crate) fn schema(&self, alloc: Global) -> Result<Shared<Schema>, NoMemory>
-        ensures { IfOk result (λ schema. schema ≡ shape_of_files self.now) }
+        ensures is { IfOk result (λ schema. schema ≡ shape_of_files self.now) }
+        ensures numbers { OnOk result (HasEnumNumbers (shape_of_files self.now)) }
     {
         if let Some(shaped) = self.shaped() {
             return Ok(shaped.schema());

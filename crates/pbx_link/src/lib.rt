@@ -9,6 +9,7 @@ mod enumeration;
 mod error;
 mod extension;
 mod field;
+mod field_numbers;
 mod field_record;
 mod file;
 mod held;

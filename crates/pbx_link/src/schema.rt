@@ -1,7 +1,8 @@
 // The shape of the types of a pool, and the places of messages in it.
-ghost use Rattle.std.specs.Prelude.{◌≡◌, [], Some, slice_get, IfOk, IfSome};
+ghost use Rattle.std.specs.Prelude.{◌≡◌, [], Some, slice_get, IfOk, OnOk, IfSome};
 ghost use Rattle.pbx_described.specs.Descriptors.{all_messages};
 ghost use Rattle.pbx_described.specs.Shapes.{shape_of as shape_of_files, place_of, message_place as message_place_of};
+ghost use Rattle.pbx_shapes.specs.EnumNumbers.{HasEnumNumbers};
 
 use crate::message::MessageDescriptor;
 use crate::pool::DescriptorPool;
@@ -14,7 +15,8 @@ use std::alloc::Global;
 
 /// The shape of the types of no files. The only error is want of memory.
 fn empty_schema(alloc: Global) -> Result<Shared<Schema>, NoMemory>
-    ensures { IfOk result (λ schema. schema ≡ shape_of_files []) }
+    ensures is { IfOk result (λ schema. schema ≡ shape_of_files []) }
+    ensures numbers { OnOk result (HasEnumNumbers (shape_of_files [])) }
 {
     let none = Pool::new(alloc);
     match Shared::new(alloc, shape_of(alloc, &none)?) {
@@ -28,7 +30,9 @@ impl DescriptorPool {
     ///
     /// It is made when it is first asked for, and is then shared by the pool, its copies and its descriptors until a file is added.
     pub fn schema(&self) -> Result<Shared<Schema>, NoMemory>
-        ensures { IfOk result (λ schema. schema ≡ shape_of_files self.now) }
+        ensures is { IfOk result (λ schema. schema ≡ shape_of_files self.now) }
+        // The numbers of the values of enums have 32 bits.
+        ensures numbers { OnOk result (HasEnumNumbers (shape_of_files self.now)) }
     {
         match &self.pool {
             Some(pool) => pool.schema(self.alloc),
@@ -37,7 +41,7 @@ impl DescriptorPool {
     }
 
     /// The pool with the shape of its types, where it was asked for.
-    fn shaped(&self) -> Option<&ShapedPool>
+    pub(crate) fn shaped(&self) -> Option<&ShapedPool>
         ensures { IfSome result (λ shaped. shaped.now ≡ self.now) }
     {
         match &self.pool {
@@ -60,7 +64,9 @@ impl DescriptorPool {
 impl MessageDescriptor {
     /// The shape of the types of the message's pool, as the pool has it. The only error is want of memory.
     pub fn schema(&self) -> Result<Shared<Schema>, NoMemory>
-        ensures { IfOk result (λ schema. schema ≡ shape_of_files self.now.pool) }
+        ensures is { IfOk result (λ schema. schema ≡ shape_of_files self.now.pool) }
+        // The numbers of the values of enums have 32 bits.
+        ensures numbers { OnOk result (HasEnumNumbers (shape_of_files self.now.pool)) }
     {
         self.pool.schema()
     }

@@ -4,3 +4,4 @@ pub mod Placed
 pub mod FieldKinds
 pub mod Whole
 pub mod Extended
+pub mod TypeNumbers

@@ -1,3 +1,5 @@
 pub mod Starts
 pub mod Items
 pub mod Extending
+pub mod Named
+pub mod EnumNumbers

@@ -1,11 +1,13 @@
 // The shapes of enums.
 ghost use Rattle.std.specs.Prelude.{◌≡◌, ◌++◌, ℕ, IfOk, OnOk, map};
+ghost use Rattle.std.specs.List.{All};
 ghost use Rattle.std.specs.Int.{w32};
 ghost use Rattle.std.specs.Int.RustNames.{FitsSigned};
 ghost use Rattle.pbx_meaning.specs.Shape.{first_of, enum_values_at};
 ghost use Rattle.pbx_definitions.specs.Definitions.{enums as enums_of};
 ghost use Rattle.pbx_described.specs.Descriptors.{all_enums};
 ghost use Rattle.pbx_described.specs.Shapes.{enum_shape as enum_shape_of};
+ghost use Rattle.pbx_shapes.specs.EnumNumbers.{AreEnumNumbers};
 ghost use Rattle.pbx_shapes.specs.Items.{item_value, part_enum};
 
 use crate::records::{signed_or_zero, text_copy};
@@ -78,6 +80,32 @@ fn default_of(shape: &EnumShape) -> i32
     match shape.values.as_slice().first() {
         Some(value) => value.number,
         None => 0,
+    }
+}
+
+/// The number of a value of an enum.
+fn number_of(value: &EnumValueShape) -> i32
+    ensures is { result ≡ value.now.number }
+    ensures fits { FitsSigned w32 result }
+{
+    value.number
+}
+
+/// The numbers of the values are numbers of 32 bits.
+fn values_fit(values: &[EnumValueShape])
+    ensures { All (λ v. FitsSigned w32 v.number) values.now }
+{
+    for value in values {
+        let _number = number_of(value);
+    }
+}
+
+/// The number of each value of each enum is a number of 32 bits. That is so by its type alone; the walk only says it of all.
+pub(crate) fn numbers_fit(enums: &[EnumShape])
+    ensures { AreEnumNumbers enums.now }
+{
+    for shape in enums {
+        values_fit(shape.values.as_slice());
     }
 }
 

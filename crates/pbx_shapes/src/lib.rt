@@ -10,7 +10,9 @@ mod records;
 mod shaped;
 mod shapes;
 mod starts;
+mod type_names;
 mod types;
 
 pub use shaped::ShapedPool;
 pub use shapes::{message_place, shape_of};
+pub use type_names::number_named;

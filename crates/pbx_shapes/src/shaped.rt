@@ -1,11 +1,14 @@
 // A pool with the shape of its types.
-ghost use Rattle.std.specs.Prelude.{◌≡◌, IfOk, IsTrue};
+ghost use Rattle.std.specs.Prelude.{◌≡◌, IfOk, IfSome, IsTrue};
 ghost use Rattle.pbx_definitions.specs.Definitions.{messages as messages_of};
 ghost use Rattle.pbx_described.specs.Shapes.{shape_of as shape_of_files, message_place as message_place_of};
+ghost use Rattle.pbx_shapes.specs.EnumNumbers.{HasEnumNumbers};
+ghost use Rattle.pbx_shapes.specs.Named.{number_named as number_named_of};
 ghost use Rattle.pbx_shapes.specs.Starts.{AreStarts, counts};
 
 use crate::shapes::shape_of;
 use crate::starts::Starts;
+use crate::type_names::{KeptNames, TypeNames};
 use pbx_meaning::Schema;
 use pbx_pool::Pool;
 use pbx_shared::Shared;
@@ -19,6 +22,7 @@ pub struct ShapedPool {
     pool: Shared<Pool>,
     schema: Shared<Schema>,
     messages: Starts,
+    names: KeptNames,
 }
 
 impl Model for ShapedPool {
@@ -28,6 +32,7 @@ impl Model for ShapedPool {
     ghost use Rattle.pbx_desc_records.specs.declared.file.FileDescriptorProto.{FileDescriptorProto};
     ghost use Rattle.pbx_definitions.specs.Definitions.{messages as messages_of};
     ghost use Rattle.pbx_described.specs.Shapes.{shape_of as shape_of_files};
+    ghost use Rattle.pbx_shapes.specs.EnumNumbers.{HasEnumNumbers};
     ghost use Rattle.pbx_shapes.specs.Starts.{AreStarts, counts};
 
     ghost Value = { List FileDescriptorProto };
@@ -36,7 +41,7 @@ impl Model for ShapedPool {
 
     ghost view = { λ p. p.pool };
 
-    ghost invariant = { λ p. (p.schema ≡ shape_of_files p.pool) × AreStarts (counts messages_of p.pool) p.messages };
+    ghost invariant = { λ p. (p.schema ≡ shape_of_files p.pool) × AreStarts (counts messages_of p.pool) p.messages × HasEnumNumbers p.schema };
 }
 
 /// Where the messages of each file begin among those of all files. The only error is want of memory.
@@ -63,6 +68,7 @@ impl ShapedPool {
                 pool,
                 schema,
                 messages,
+                names: KeptNames::new(),
             }),
             Err(_) => Err(NoMemory),
         }
@@ -77,7 +83,9 @@ impl ShapedPool {
 
     /// The shape of the types of the pool. It takes no memory.
     pub fn schema(&self) -> Shared<Schema>
-        ensures { result ≡ shape_of_files self.now }
+        ensures is { result ≡ shape_of_files self.now }
+        // The numbers of the values of enums have 32 bits.
+        ensures numbers { HasEnumNumbers (shape_of_files self.now) }
     {
         self.schema.copy()
     }
@@ -90,5 +98,33 @@ impl ShapedPool {
             Some((file, index)) => self.messages.place(file, index),
             None => None,
         }
+    }
+
+    /// The number of the first field of the name in the message type at the place, extensions aside, by log n comparisons
+    /// where the names of the type are kept. It takes no memory.
+    pub fn kept_number(&self, place: usize, name: &str) -> Option<Option<u32>>
+        ensures { IfSome result (λ number. number ≡ number_named_of (shape_of_files self.now) place name.now) }
+    {
+        self.names.number(&self.schema, place, name)
+    }
+
+    /// The number of the first field of the name in the message type at the place, extensions aside. The names of the type
+    /// are kept, so that log n comparisons find it from then on. The only error is want of memory.
+    pub fn number_named(
+        &self,
+        alloc: Global,
+        place: usize,
+        name: &str,
+    ) -> Result<Option<u32>, NoMemory>
+        ensures { IfOk result (λ number. number ≡ number_named_of (shape_of_files self.now) place name.now) }
+    {
+        if let Some(number) = self.kept_number(place, name) {
+            return Ok(number);
+        }
+        let names = TypeNames::new(alloc, self.schema.copy(), place)?;
+        let number = names.number(name);
+        let count = self.schema.as_ref().shape().messages.len();
+        self.names.keep(alloc, count, names)?;
+        Ok(number)
     }
 }

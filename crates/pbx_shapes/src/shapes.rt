@@ -2,8 +2,9 @@
 ghost use Rattle.std.specs.Prelude.{◌≡◌, IfOk};
 ghost use Rattle.pbx_meaning.specs.Sound.{IsProper};
 ghost use Rattle.pbx_described.specs.Shapes.{shape_of as shape_of_files, message_named};
+ghost use Rattle.pbx_shapes.specs.EnumNumbers.{HasEnumNumbers};
 
-use crate::enums::{enum_shapes, enums_fit};
+use crate::enums::{enum_shapes, enums_fit, numbers_fit};
 use crate::extensions::add_extensions;
 use crate::messages::message_shapes;
 use crate::types::Types;
@@ -47,16 +48,20 @@ fn told_shape(alloc: Global, pool: &Pool) -> Result<Shape, NoMemory>
 /// The shape is proper, by the rules of linking and by the type of the numbers of enums' values.
 fn shape_fits(pool: &Pool, shape: &Shape)
     requires { shape.now ≡ shape_of_files pool.now }
-    ensures { IsProper shape.now }
+    ensures proper { IsProper shape.now }
+    ensures numbers { HasEnumNumbers shape.now }
 {
     let _ = pool.tables();
     enums_fit(shape.enums.as_slice());
+    numbers_fit(shape.enums.as_slice());
     shape_is_proper();
 }
 
 /// The shape of the types of a pool: its messages and its enums, file by file. It is always proper. The only error is want of memory.
 pub fn shape_of(alloc: Global, pool: &Pool) -> Result<Schema, NoMemory>
-    ensures { IfOk result (λ schema. schema ≡ shape_of_files pool.now) }
+    ensures is { IfOk result (λ schema. schema ≡ shape_of_files pool.now) }
+    // The numbers of the values of enums have 32 bits.
+    ensures numbers { IfOk result HasEnumNumbers }
 {
     let shape = told_shape(alloc, pool)?;
     shape_fits(pool, &shape);
