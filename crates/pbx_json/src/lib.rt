@@ -1,19 +1,21 @@
-//! The canonical JSON mapping: trees read as the contents of messages, and contents written as trees.
-//!
-//! So far a tree is read for singular fields of `int32` and `string`; all else is refused.
+//! The canonical JSON mapping (ProtoJSON Format): dynamic messages read from trees and written as trees, which names of
+//! a pool's messages have two meanings in JSON, and whether a message nests too deep for its bytes to be read again.
 #![tactic(auto)]
 
-mod error;
-mod laws;
+mod levels;
+mod message;
 mod names;
-mod read;
-mod scalar;
-mod write;
 
-pub use error::TreeError;
-pub use laws::{
-    canonical_is_plain, canonical_stands, read_when_allowed, stands_flat, stands_for_one,
-    stands_sound,
+pub use levels::fits_levels;
+pub use message::JsonMessage;
+pub use names::check_names;
+// The laws that callers need to go from one of these calls to another.
+pub use pbx_json_laws::{
+    canonical_stands, canonical_without_fault, standing_is_written, stands_sound,
+    stands_without_fault, values_have_texts,
 };
-pub use read::read_contents;
-pub use write::write_contents;
+pub use pbx_json_meaning::{
+    DeserializeOptions, JsonError, JsonKind, NameFault, Place, SerializeOptions, Step,
+    canonical_is_plain, first_fault_is_one_place, read_when_allowed, stands_for_one,
+};
+pub use pbx_json_shape_laws::shapes_are_well_named;

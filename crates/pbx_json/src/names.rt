@@ -1,60 +1,21 @@
-ghost use Rattle.std.specs.Prelude.{◌≡◌, option_map, find};
-ghost use Rattle.pbx_meaning.specs.Shape.{declared_of as declared_of_type, field_of};
-ghost use Rattle.pbx_meaning.specs.Sound.{IsProper};
-ghost use Rattle.pbx_json.specs.Names.{field_named, json_name_is, name_is, extension_is};
+ghost use Rattle.std.specs.Prelude.{◌≡◌, ◌⊎◌, Some, None, false, OnOk, IfErr};
+ghost use Rattle.pbx_described.specs.Shapes.{shape_of};
+ghost use Rattle.pbx_json_meaning.specs.Clash.{name_fault};
 
-use pbx_meaning::{FieldShape, Schema};
+use pbx_json_meaning::NameFault;
+use pbx_json_names::first_clash;
+use pbx_link::DescriptorPool;
+use pbx_wire::NoMemory;
+use std::alloc::Global;
 
-/// The fields of the type at a place in declared order, and behind them its extensions; a place outside the schema has
-/// none.
-pub(crate) fn declared_of(schema: &Schema, type_at: usize) -> &[FieldShape]
-    ensures fields { result.now ≡ declared_of_type schema.now type_at }
-    ensures proper { IsProper schema.now }
+/// Whether each key has one meaning in the JSON of each message of the pool. An error tells the first message in the
+/// order of `all_messages` where one has two, and the least such key by its bytes.
+pub fn check_names(alloc: Global, pool: &DescriptorPool) -> Result<(), NameFault>
+    ensures clear { OnOk result (name_fault false (shape_of pool.now) ≡ None) }
+    ensures fault { IfErr result (λ e. (e ≡ NameFault.NoMemory) ⊎ (name_fault false (shape_of pool.now) ≡ Some e)) }
 {
-    let messages = schema.shape().messages.as_slice();
-    if type_at < messages.len() {
-        messages[type_at].fields.as_slice()
-    } else {
-        &[]
-    }
-}
-
-/// The field of a number in the type at a place.
-pub(crate) fn field_numbered(schema: &Schema, type_at: usize, number: u32) -> Option<&FieldShape>
-    ensures { option_map (λ f. f.now) result ≡ field_of number (declared_of_type schema.now type_at) }
-{
-    schema.field_of(type_at, number)
-}
-
-fn by_json_name<'f>(fields: &'f [FieldShape], key: &str) -> Option<&'f FieldShape>
-    ensures { option_map (λ f. f.now) result ≡ find (json_name_is key.now) fields.now }
-{
-    fields.iter().find(|field| !field.is_extension && field.json_name.as_str() == key)
-}
-
-fn by_name<'f>(fields: &'f [FieldShape], key: &str) -> Option<&'f FieldShape>
-    ensures { option_map (λ f. f.now) result ≡ find (name_is key.now) fields.now }
-{
-    fields
-        .iter()
-        .find(|field| !field.is_extension && field.name.as_str() == key)
-}
-
-fn extension_by_name<'f>(fields: &'f [FieldShape], key: &str) -> Option<&'f FieldShape>
-    ensures { option_map (λ f. f.now) result ≡ find (extension_is key.now) fields.now }
-{
-    fields.iter().find(|field| field.is_extension && field.json_name.as_str() == key)
-}
-
-/// The field that a key names: by its JSON name first, by its own name second, and an extension last.
-pub(crate) fn find_field<'f>(fields: &'f [FieldShape], key: &str) -> Option<&'f FieldShape>
-    ensures { option_map (λ f. f.now) result ≡ field_named key.now fields.now }
-{
-    if let Some(field) = by_json_name(fields, key) {
-        return Some(field);
-    }
-    match by_name(fields, key) {
-        Some(field) => Some(field),
-        None => extension_by_name(fields, key),
+    match pool.schema() {
+        Ok(schema) => first_clash(alloc, schema.as_ref()),
+        Err(NoMemory) => Err(NameFault::NoMemory),
     }
 }

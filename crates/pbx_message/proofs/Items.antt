@@ -26,7 +26,7 @@ use Rattle.pbx_message.specs.declared.value.Value.{Value, out-Value, the_lemmas}
 use Rattle.pbx_message.specs.declared.value.Value as value
 use Rattle.pbx_message.specs.declared.value.Value.TheOpen.{Value-F}
 use Rattle.pbx_message.proofs.KindVariants.{kind_string}
-use Rattle.pbx_message.specs.Typed.{IsHeldAs, IsListHeld, IsMapHeld, IsFieldHeld, IsKeyOfKind, entry_of_value}
+use Rattle.pbx_message.specs.Typed.{IsHeldAs, IsPairHeld, IsListHeld, IsMapHeld, IsFieldHeld, IsKeyOfKind, entry_of_value}
 use Rattle.pbx_message.specs.Values.{val_of_value, IsOfKind, AreOfKind, AreEntriesOfKinds, IsMapOfKinds, IsMessageAt, variant_in, variant_in_key, variant_of, texts}
 
 -- ---- lists
@@ -93,16 +93,23 @@ pub one_pair : (pool : List FileDescriptorProto) (key k : Kind) (ys : List (MapK
 one_pair pool key k [] v rest o = (o.0, o.1)
 one_pair pool key k (y ∷ ys) v rest o = one_pair pool key k ys v rest o.2
 
-pub pairs_held_more : (pool : List FileDescriptorProto) (key k : Kind) (vs : List (MapKey × Value)) (hs : List Pair) (q : MapKey) (v : Value) (h : Held) (p : Pair)
-    → pair_of p ≡ (key_of q, val_of h) → AreHeldPairs pool key k vs hs → IsKeyOfKind key q → IsHeldAs pool k v h → AreHeldPairs pool key k (vs ++ (q, v) ∷ []) (hs ++ p ∷ [])
-pairs_held_more pool key k vs hs q v h p made a one is =
-    let last : ◌≡◌ {A = Key × Val} (pair_of p) (entry_of_value (q, v)) = made ∙ ap (λ (x : Val). (key_of q, x)) is.same in
-    record {
-      same = map-append pair_of hs (p ∷ []) ∙ ap (λ (xs : List (Key × Val)). xs ++ pair_of p ∷ []) a.same ∙ ap (λ (x : Key × Val). map entry_of_value vs ++ x ∷ []) last
-          ∙ sym (map-append entry_of_value vs ((q, v) ∷ []));
-      pairs = pairs_more pool key k vs (q, v) a.pairs one.variant is.one;
-      elements = entries_more (IsPairOf (shape_of pool) key k) vs (q, v) a.elements (one.fits, subst (IsElement (shape_of pool) k) is.same is.element);
-    }
+pub pairs_held_more : (pool : List FileDescriptorProto) (key k : Kind) (vs : List (MapKey × Value)) (hs : List Pair) (v : MapKey × Value) (p : Pair)
+    → AreHeldPairs pool key k vs hs → IsPairHeld pool key k v p → AreHeldPairs pool key k (vs ++ v ∷ []) (hs ++ p ∷ [])
+pairs_held_more pool key k vs hs v p a is = record {
+  same = map-append pair_of hs (p ∷ []) ∙ ap (λ (xs : List (Key × Val)). xs ++ pair_of p ∷ []) a.same ∙ ap (λ (x : Key × Val). map entry_of_value vs ++ x ∷ []) is.same
+      ∙ sym (map-append entry_of_value vs (v ∷ []));
+  pairs = pairs_more pool key k vs v a.pairs is.own_key.variant is.one;
+  elements = entries_more (IsPairOf (shape_of pool) key k) vs v a.elements (is.own_key.fits, is.element);
+}
+
+pub pair_is_held : (pool : List FileDescriptorProto) (key k : Kind) (q : MapKey) (v : Value) (now : MapKey) (h : Held) (p : Pair) → pair_of p ≡ (key_of now, val_of h)
+    → now ≡ q → IsKeyOfKind key q → IsHeldAs pool k v h → IsPairHeld pool key k (q, v) p
+pair_is_held pool key k q v now h p made e one is = record {
+  same = made ∙ ap (λ (z : MapKey). (key_of z, val_of h)) e ∙ ap (λ (x : Val). (key_of q, x)) is.same;
+  own_key = one;
+  one = is.one;
+  element = subst (IsElement (shape_of pool) k) is.same is.element;
+}
 
 pub same_before : (a b : MapKey) → variant_in_key a ≡ variant_in_key b → is_before a b ≡ key_before (key_of a) (key_of b)
 same_before (key.Bool x) (key.Bool y) e = refl

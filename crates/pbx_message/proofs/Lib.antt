@@ -8,6 +8,9 @@ pub mod KindVariants
 pub mod Messages
 pub mod Named
 pub mod Targets
-pub mod Stored
+pub mod KnownMembers
+pub mod Noting
+pub mod Sets
 pub mod GivenMaps
 pub mod Gets
+pub mod Unread

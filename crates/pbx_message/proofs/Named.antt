@@ -1,18 +1,21 @@
 -- The first field of a name.
 use Rattle.std.proofs.Common.{◌≡◌, ℕ, Bool, true, false, List, [], ◌∷◌, ◌++◌, map, Some, None, refl, sym, ap, ◌∙◌, subst, rules}
-use Rattle.std.specs.Prelude.{not, ◌&&◌, find}
+use Rattle.std.specs.Prelude.{not, ◌&&◌, find, Option, option_map, Result, Ok, Err, IfOk}
 use Rattle.std.specs.Str.{bytes_eq}
 use Rattle.std.proofs.lemmas.List.Elements.{Contains-append_right}
 use Rattle.pbx_meaning.specs.declared.shape.FieldShape.{FieldShape}
 use Rattle.pbx_desc_records.specs.declared.field.FieldDescriptorProto.{FieldDescriptorProto}
 use Rattle.pbx_desc_records.specs.declared.message.DescriptorProto.{DescriptorProto}
-use Rattle.pbx_definitions.specs.Names.{text_or_empty}
-use Rattle.pbx_described.specs.Descriptors.{Described, number_of_field, fields_of_message, extensions_of_message}
-use Rattle.pbx_described.specs.Shapes.{field_shape, extension_shape}
-use Rattle.pbx_message_laws.specs.Pools.{IsPooled, MessageIsPlaced, FieldIsListed}
+use Rattle.pbx_wire.specs.declared.memory.NoMemory.{NoMemory}
+use Rattle.pbx_definitions.specs.Names.{text_or_empty, is_named}
+use Rattle.pbx_described.specs.Descriptors.{Described, number_of_field, fields_of_message, extensions_of_message, with_name}
+use Rattle.pbx_described.specs.Shapes.{field_shape, extension_shape, shape_of, place_of}
+use Rattle.pbx_shapes.specs.Named.{number_named}
+use Rattle.pbx_shape_laws.proofs.PoolParts.{found_there}
+use Rattle.pbx_message_laws.specs.Pools.{IsPooled, MessageIsPlaced, FieldIsListed, NamedIsField}
 use Rattle.pbx_message.specs.Fields.{IsNamed}
 use Rattle.pbx_message.specs.Message.{type_declared}
-use Rattle.pbx_message.specs.Targets.{IsOnly}
+use Rattle.pbx_message.specs.Targets.{IsOnly, IsNumbered, IsTarget}
 use Rattle.std.specs.Prelude.{Contains}
 
 -- none of the fields has the name
@@ -75,3 +78,34 @@ named_none d name ys placed of parts o f is =
     ∙ none name ys (extensions_of_message d) o in
     let bad : None ≡ Some f = sym nothing ∙ is in
     absurd cc
+
+-- ---- by the index
+
+some_named : (d : Described DescriptorProto) (name : List ℕ) (f : FieldShape) (o : Option (Described FieldDescriptorProto)) → FieldIsListed → IsPooled d
+    → with_name (fields_of_message d) name ≡ o → Some f ≡ option_map field_shape o → IsNumbered d f.number f
+some_named d name f None listed of found is = absurd cc
+some_named d name f (Some x) listed of found is =
+    let same : f ≡ field_shape x = cc in
+    subst (λ (g : FieldShape). IsNumbered d g.number g) (sym same) (listed d x of (found_there (λ (y : Described FieldDescriptorProto). is_named y.part.item.name name) (fields_of_message d) x found))
+
+pub number_target : (d : Described DescriptorProto) (name : List ℕ) (r : Option ℕ) → NamedIsField → FieldIsListed → IsPooled d
+    → r ≡ number_named (shape_of d.pool) (place_of d) name → IsTarget d (IsNamed d name) r
+number_target d name r law listed of is = subst (IsTarget d (IsNamed d name)) (sym is) (at (find (is_named_so name) (type_declared d)) refl)
+  where
+    some_is : (a b : FieldShape) → Some a ≡ Some b → a ≡ b
+    some_is a b e = cc
+
+    at : (o : Option FieldShape) → find (is_named_so name) (type_declared d) ≡ o → IsTarget d (IsNamed d name) (option_map (λ (f : FieldShape). f.number) o)
+    at None e = λ f own. absurd (let bad : None ≡ Some f = sym e ∙ own in cc)
+    at (Some f) e = record {
+      field = f;
+      own = e;
+      numbered = some_named d name f (with_name (fields_of_message d) name) listed of refl (sym e ∙ law d name of);
+      number = refl;
+      only = λ g own. some_is g f (sym own ∙ e);
+    }
+
+pub kept_target : (d : Described DescriptorProto) (name : List ℕ) (r : Result (Option ℕ) NoMemory) → NamedIsField → FieldIsListed → IsPooled d
+    → IfOk r (λ n. n ≡ number_named (shape_of d.pool) (place_of d) name) → IfOk r (IsTarget d (IsNamed d name))
+kept_target d name (Ok n) law listed of is = number_target d name n law listed of is
+kept_target d name (Err e) law listed of is = tt

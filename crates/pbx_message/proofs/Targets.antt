@@ -1,11 +1,15 @@
 -- The field that a call means, by its number, and whether it has a value.
-use Rattle.std.proofs.Common.{◌≡◌, ℕ, Bool, true, false, Option, Some, None, refl, sym, ap, ◌∙◌, subst}
+use Rattle.std.proofs.Common.{◌≡◌, ℕ, Bool, true, false, List, [], ◌∷◌, length, map, Option, Some, None, refl, sym, ap, ◌∙◌, subst, arith}
 use Rattle.std.specs.Prelude.{◌↔◌, IsTrue, Contains, option_map, is_some, Result, Ok, Err, OnOk, IfErr}
 use Rattle.pbx_meaning.specs.declared.shape.FieldShape.{FieldShape}
 use Rattle.pbx_meaning.specs.declared.shape.Shape.{Shape}
-use Rattle.pbx_meaning.specs.Content.{Content, Val, fields, get, has, without, with_fields}
+use Rattle.pbx_meaning.specs.Content.{Content, content, Fields, no_fields, Val, fields, get, has, without, with_fields}
 use Rattle.pbx_meaning.specs.Shape.{fields_of, field_of, is_float}
 use Rattle.pbx_meaning.specs.Sound.{IsSound}
+use Rattle.pbx_codec.specs.declared.contents.Contents.{Contents, out-Contents}
+use Rattle.pbx_codec.specs.declared.contents.Held.{Held}
+use Rattle.pbx_codec.specs.View.{content_of, fields_in, entry_of}
+use Rattle.pbx_codec.proofs.Tree.{content_is}
 use Rattle.pbx_desc_records.specs.declared.field.FieldDescriptorProto.{FieldDescriptorProto}
 use Rattle.pbx_desc_records.specs.declared.message.DescriptorProto.{DescriptorProto}
 use Rattle.pbx_described.specs.Descriptors.{Described, IsSame, parent_of, extended_of, number_of_field, fields_of_message, extensions_of_message}
@@ -96,6 +100,24 @@ cleared_own m new Own n o e = record {
 
 pub cleared_none : (m : Dynamic) (Own : FieldShape → Type 0) → ((f : FieldShape) → Own f → ⊥) → IsCleared m Own m
 cleared_none m Own none = record { own = λ f is. absurd (none f is); other = λ other. refl }
+
+-- ---- a message that holds no field
+
+pub holds_none : (tree : Contents) → length (out-Contents tree).fields ≡ 0 → fields (content_of tree) ≡ no_fields
+holds_none tree e = ap fields (content_is tree) ∙ at (out-Contents tree).fields e
+  where
+    at : (xs : List (ℕ × Held)) → length xs ≡ 0 → fields_in (map entry_of xs) ≡ no_fields
+    at [] e = refl
+    at (x ∷ xs) e = absurd (omega (arith, e))
+
+pub has_no_value : (m : Dynamic) (Own : FieldShape → Type 0) → fields m.content ≡ no_fields → HasValue m Own false
+has_no_value m Own e = (λ here. absurd cc, λ w. absurd (let bad : false ≡ true = ap (has w.0.number) (sym e) ∙ w.3 in cc))
+
+pub cleared_nothing : (m : Dynamic) (Own : FieldShape → Type 0) → fields m.content ≡ no_fields → IsCleared m Own m
+cleared_nothing m Own e = record { own = λ f is. ap (with_content m) (sym (same m.content f.number e)); other = λ other. refl }
+  where
+    same : (c : Content) (n : ℕ) → fields c ≡ no_fields → with_fields c (without n (fields c)) ≡ c
+    same (content fs ks) n e = ap (λ (gs : Fields). content gs ks) (ap (without n) e ∙ sym e)
 
 -- ---- setting
 

@@ -6,3 +6,5 @@ pub mod Reflect
 pub mod Variants
 pub mod Typed
 pub mod Given
+pub mod Trees
+pub mod Members

@@ -3,17 +3,19 @@ use Rattle.std.specs.Prelude.{◌≡◌, ℕ, List, map, Option, Some, None}
 use Rattle.pbx_meaning.specs.declared.shape.Cardinality.{Cardinality}
 use Rattle.pbx_meaning.specs.declared.shape.Kind.{Kind}
 use Rattle.pbx_meaning.specs.declared.shape.Kind.TheVariants as kind
+use Rattle.pbx_meaning.specs.declared.shape.FieldShape.{FieldShape}
 use Rattle.pbx_meaning.specs.Content.{Key, Val, message, many, keyed, vals_of, pairs_of}
 use Rattle.pbx_meaning.specs.Sound.{IsElement, IsKeyOf, AreElements, ArePairs}
 use Rattle.pbx_codec.specs.declared.contents.Held.{Held}
+use Rattle.pbx_codec.specs.declared.contents.Pair.{Pair}
 use Rattle.pbx_codec.specs.declared.key.MapKey.{MapKey}
-use Rattle.pbx_codec.specs.View.{key_of, val_of}
+use Rattle.pbx_codec.specs.View.{key_of, val_of, pair_of}
 use Rattle.pbx_desc_records.specs.declared.file.FileDescriptorProto.{FileDescriptorProto}
 use Rattle.pbx_desc_records.specs.declared.message.DescriptorProto.{DescriptorProto}
 use Rattle.pbx_described.specs.Descriptors.{Described}
 use Rattle.pbx_described.specs.Shapes.{shape_of}
 use Rattle.pbx_message_laws.specs.Types.{IsTypeAt}
-use Rattle.pbx_message_laws.specs.Settable.{IsSettableBy}
+use Rattle.pbx_message_laws.specs.Settable.{IsSettable, IsSettableBy}
 use Rattle.pbx_message.specs.declared.error.SetFieldError.{SetFieldError}
 use Rattle.pbx_message.specs.declared.error.SetFieldError.TheVariants as errors
 use Rattle.pbx_message.specs.declared.typed.ValueType.{ValueType}
@@ -21,7 +23,7 @@ use Rattle.pbx_message.specs.declared.value.Value.{Value}
 use Rattle.pbx_message.specs.Values as values
 use Rattle.pbx_message.specs.declared.value.Value.TheOpen.{Value-F}
 use Rattle.pbx_message.specs.Message.{Dynamic}
-use Rattle.pbx_message.specs.Values.{IsMessageAt, val_of_value, IsOfKind, AreOfKind, IsOfCardinality, variant_of, variant_in_key}
+use Rattle.pbx_message.specs.Values.{IsMessageAt, val_of_value, IsOfKind, AreOfKind, IsOfCardinality, IsOfField, variant_of, variant_in_key}
 
 -- ---- types
 
@@ -90,8 +92,26 @@ abbrev pub IsKeyHeldIf : Kind → MapKey → Option MapKey → Type 0
 IsKeyHeldIf k key None = variant_in_key key ≡ variant_of k → ⊥
 IsKeyHeldIf k key (Some same) = (same ≡ key) × IsKeyOfKind k key
 
+-- the pair stands for the key and the value, each of its kind
+pub record IsPairHeld (pool : List FileDescriptorProto) (key k : Kind) (p : MapKey × Value) (h : Pair) : Type 0 where
+  pub same : pair_of h ≡ (key_of p.0, val_of_value p.1)
+  pub own_key : IsKeyOfKind key p.0
+  pub one : IsOfKind pool k p.1
+  pub element : IsElement (shape_of pool) k (val_of_value p.1)
+
+-- the same of a key and a value of the kinds, and otherwise nothing
+abbrev pub IsPairHeldIf : List FileDescriptorProto → Kind → Kind → MapKey × Value → Option Pair → Type 0
+IsPairHeldIf pool key k p None = variant_in_key p.0 ≡ variant_of key → IsOfKind pool k p.1 → ⊥
+IsPairHeldIf pool key k p (Some h) = IsPairHeld pool key k p h
+
 -- what is held stands for the value, to which a field of the kind and the cardinality may be set
 pub record IsFieldHeld (pool : List FileDescriptorProto) (c : Cardinality) (k : Kind) (v : Value) (h : Held) : Type 0 where
   pub same : val_of h ≡ val_of_value v
   pub by : IsOfCardinality pool c k v
   pub settable : IsSettableBy (shape_of pool) c k (val_of h)
+
+-- what is held stands for the value, to which the field may be set
+pub record IsHeldFor (pool : List FileDescriptorProto) (f : FieldShape) (v : Value) (h : Held) : Type 0 where
+  pub same : val_of h ≡ val_of_value v
+  pub of : IsOfField pool f v
+  pub settable : IsSettable (shape_of pool) f (val_of h)

@@ -61,6 +61,7 @@ fn message_value(value_type: &ValueType, tree: &Contents, alloc: Global) -> Resu
         Some(desc) => Ok(Value::Message(DynamicMessage {
             desc: desc.copy(),
             tree: tree.copy(alloc)?,
+            members: None,
             alloc,
         })),
         None => Err(NoMemory),

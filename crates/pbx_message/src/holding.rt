@@ -1,6 +1,6 @@
 // Values as trees hold them.
 ghost use Rattle.std.specs.Prelude.{◌≡◌, IfOk, IfErr};
-ghost use Rattle.pbx_message.specs.Typed.{IsTyped, IsHeldIf, IsNotHeld, IsListHeld, IsMapHeld, IsKeyHeldIf, IsFieldHeld, IsMessageHeldIf};
+ghost use Rattle.pbx_message.specs.Typed.{IsTyped, IsHeldIf, IsNotHeld, IsListHeld, IsMapHeld, IsKeyHeldIf, IsPairHeldIf, IsFieldHeld, IsMessageHeldIf};
 ghost use Rattle.pbx_message.specs.Values.{IsOfCardinality, AreOfKind, AreEntriesOfKinds, variant_in, variant_in_key, variant_of, messages};
 ghost use Rattle.pbx_message.specs.Variants.{variant_number};
 ghost use Rattle.pbx_message.specs.declared.value.Value.{out-Value};
@@ -139,6 +139,23 @@ fn list_held(
     Ok(Held::Many(list))
 }
 
+/// The key and the value as a pair, where each is of its kind.
+fn pair_held(value_type: &ValueType, key_kind: Kind, key: MapKey, value: Value) -> Option<Pair>
+    requires { IsTyped value_type.now }
+    ensures { IsPairHeldIf value_type.now.holder.pool key_kind value_type.now.kind (key, value) result }
+{
+    match key_held(key_kind, key) {
+        Some(key) => match held_of(value_type, value) {
+            Some(held) => Some(Pair { key, held }),
+            None => None,
+        },
+        None => {
+            drop(value);
+            None
+        }
+    }
+}
+
 /// The pairs of a map, where each key and each value is of its kind.
 fn map_held(
     value_type: &ValueType,
@@ -153,11 +170,8 @@ fn map_held(
     items_are_of_kinds();
     let mut pairs = List::new(alloc);
     for (key, value) in map.into_entries() {
-        match key_held(key_kind, key) {
-            Some(key) => match held_of(value_type, value) {
-                Some(held) => pairs.add(Pair { key, held })?,
-                None => return Err(SetFieldError::InvalidType),
-            },
+        match pair_held(value_type, key_kind, key, value) {
+            Some(pair) => pairs.add(pair)?,
             None => return Err(SetFieldError::InvalidType),
         }
     }

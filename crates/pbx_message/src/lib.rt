@@ -7,10 +7,14 @@ mod defaults;
 mod error;
 mod giving;
 mod holding;
+mod members;
 mod message;
 mod own;
 mod putting;
+mod reading;
 mod reflect;
+mod setting;
+mod tree;
 mod typed;
 mod value;
 

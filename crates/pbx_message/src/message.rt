@@ -11,11 +11,9 @@ ghost use Rattle.pbx_message.specs.Targets.{IsNumbered};
 ghost use Rattle.pbx_message.specs.Fields.{IsOwnField, IsOwnExtension, IsNamed, IsGot, HasValue, IsFieldSet, IsNotSet, IsCleared};
 
 use crate::error::SetFieldError;
-use crate::giving::value_or_default;
-use crate::holding::field_held;
-use crate::own::{extension_number, field_number, named_number};
-use crate::putting::put_value;
-use crate::typed::{is_float, value_type};
+use crate::own::{extension_number, field_number, kept_number, named_number};
+use crate::reading::numbered_value;
+use crate::setting::set_numbered;
 use crate::value::Value;
 use pbx_codec::{Contents, decode, depth, encode, merge};
 use pbx_desc::Message;
@@ -23,9 +21,10 @@ use pbx_desc_decoding::DecodeMessage;
 use pbx_link::{ExtensionDescriptor, FieldDescriptor, MessageDescriptor};
 use pbx_meaning::{encoding_decodes, meaning_is_sound, onto_is_following};
 use pbx_message_laws::{
-    clearing_is_sound, defaults_are_settable, empty_is_sound, fields_are_as_set, fields_are_listed,
-    setting_is_sound, sound_values_are_settable,
+    clearing_is_sound, empty_is_sound, fields_are_as_set, fields_are_listed,
+    sound_values_are_settable,
 };
+use pbx_number_map::NumberMap;
 use pbx_wire::{DecodeError, NoMemory, Recs};
 use std::alloc::Global;
 use std::marker::Model;
@@ -36,14 +35,18 @@ use std::marker::Model;
 pub struct DynamicMessage {
     pub(crate) desc: MessageDescriptor,
     pub(crate) tree: Contents,
+    /// Under the index of a oneof its member that may have a value, once a member of a oneof was set.
+    pub(crate) members: Option<NumberMap<u32>>,
     pub(crate) alloc: Global,
 }
 
 impl Model for DynamicMessage {
+    ghost use Rattle.pbx_meaning.specs.Content.{fields};
     ghost use Rattle.pbx_meaning.specs.Sound.{IsSound};
     ghost use Rattle.pbx_codec.specs.View.{content_of};
     ghost use Rattle.pbx_described.specs.Shapes.{shape_of, place_of};
-    ghost use Rattle.pbx_message.specs.Message.{Dynamic, dynamic_code};
+    ghost use Rattle.pbx_message.specs.Members.{AreMembersIf};
+    ghost use Rattle.pbx_message.specs.Message.{Dynamic, dynamic_code, type_fields};
 
     ghost Value = { Dynamic };
 
@@ -51,7 +54,8 @@ impl Model for DynamicMessage {
 
     ghost view = { λ m. record { of = m.desc; content = content_of m.tree } };
 
-    ghost invariant = { λ m. IsSound (shape_of m.desc.pool) (place_of m.desc) (content_of m.tree) };
+    ghost invariant = { λ m. IsSound (shape_of m.desc.pool) (place_of m.desc) (content_of m.tree)
+        × AreMembersIf (type_fields m.desc) (fields (content_of m.tree)) m.members };
 }
 
 impl DynamicMessage {
@@ -63,6 +67,7 @@ impl DynamicMessage {
         DynamicMessage {
             desc,
             tree: Contents::new(alloc),
+            members: None,
             alloc,
         }
     }
@@ -82,7 +87,12 @@ impl DynamicMessage {
         let schema = desc.schema()?;
         let _proper = schema.as_ref().shape();
         let tree = decode(alloc, schema.as_ref(), desc.place(schema.as_ref()), bytes)?;
-        Ok(DynamicMessage { desc, tree, alloc })
+        Ok(DynamicMessage {
+            desc,
+            tree,
+            members: None,
+            alloc,
+        })
     }
 
     /// Adds what the bytes mean, as if their records followed those of the message. A refused call changes nothing.
@@ -100,6 +110,7 @@ impl DynamicMessage {
         match merge(self.alloc, schema.as_ref(), place, &self.tree, bytes) {
             Ok(tree) => {
                 self.tree = tree;
+                self.members = None;
                 Ok(())
             }
             Err(fault) => Err(fault),
@@ -110,22 +121,10 @@ impl DynamicMessage {
     fn get_number(&self, alloc: Global, number: u32) -> Result<Option<Value>, NoMemory>
         ensures { IfOk result (IsGot self.now (IsNumbered self.now.of number)) }
     {
-        sound_values_are_settable();
-        defaults_are_settable();
-        fields_are_listed();
-        let _pool = self.desc.parent_pool();
-        let schema = self.desc.schema()?;
-        let place = self.desc.place(schema.as_ref());
-        let Some(field) = schema.as_ref().field_of(place, number) else {
-            return Ok(None);
-        };
-        if is_float(field.kind) {
-            return Ok(None);
+        match self.desc.schema() {
+            Ok(schema) => numbered_value(&self.desc, &self.tree, schema.as_ref(), number, alloc),
+            Err(refused) => Err(refused),
         }
-        let value_type = value_type(&self.desc, schema.as_ref(), field.kind);
-        let held = self.tree.get(number);
-        let value = value_or_default(&value_type, schema.as_ref(), field, held, alloc)?;
-        Ok(Some(value))
     }
 
     /// Whether the field of the number has a value.
@@ -144,19 +143,21 @@ impl DynamicMessage {
         ensures refused { IfErr result (IsNotSet self.old (IsNumbered self.old.of number) value) }
         ensures unchanged { OnErr result (self.new ≡ self.old) }
     {
-        setting_is_sound();
-        let schema = self.desc.schema()?;
-        let place = self.desc.place(schema.as_ref());
-        let Some(field) = schema.as_ref().field_of(place, number) else {
-            return Err(SetFieldError::NotFound);
-        };
-        if is_float(field.kind) {
-            return Err(SetFieldError::InvalidType);
+        match self.desc.schema() {
+            Ok(schema) => set_numbered(
+                &self.desc,
+                &mut self.tree,
+                &mut self.members,
+                self.alloc,
+                schema.as_ref(),
+                number,
+                value,
+            ),
+            Err(_refused) => {
+                drop(value);
+                Err(SetFieldError::NoMemory)
+            }
         }
-        let value_type = value_type(&self.desc, schema.as_ref(), field.kind);
-        let held = field_held(&value_type, field.cardinality, value, self.alloc)?;
-        put_value(&mut self.tree, schema.as_ref(), place, field, held)?;
-        Ok(())
     }
 
     /// Takes the value of the field of the number away.
@@ -201,7 +202,10 @@ impl DynamicMessage {
     {
         match field_number(&self.desc, field) {
             Some(number) => self.set_number(number, value),
-            None => Err(SetFieldError::NotFound),
+            None => {
+                drop(value);
+                Err(SetFieldError::NotFound)
+            }
         }
     }
 
@@ -219,7 +223,7 @@ impl DynamicMessage {
     pub fn get_field_by_name(&self, alloc: Global, name: &str) -> Result<Option<Value>, NoMemory>
         ensures { IfOk result (IsGot self.now (IsNamed self.now.of name.now)) }
     {
-        match named_number(&self.desc, name) {
+        match kept_number(&self.desc, name)? {
             Some(number) => self.get_number(alloc, number),
             None => Ok(None),
         }
@@ -229,6 +233,9 @@ impl DynamicMessage {
     pub fn has_field_by_name(&self, name: &str) -> bool
         ensures { HasValue self.now (IsNamed self.now.of name.now) result }
     {
+        if self.tree.fields.len() == 0 {
+            return false;
+        }
         match named_number(&self.desc, name) {
             Some(number) => self.has_number(number),
             None => false,
@@ -241,9 +248,12 @@ impl DynamicMessage {
         ensures refused { IfErr result (IsNotSet self.old (IsNamed self.old.of name.now) value) }
         ensures unchanged { OnErr result (self.new ≡ self.old) }
     {
-        match named_number(&self.desc, name) {
+        match kept_number(&self.desc, name)? {
             Some(number) => self.set_number(number, value),
-            None => Err(SetFieldError::NotFound),
+            None => {
+                drop(value);
+                Err(SetFieldError::NotFound)
+            }
         }
     }
 
@@ -251,6 +261,9 @@ impl DynamicMessage {
     pub fn clear_field_by_name(&mut self, name: &str)
         ensures { IsCleared self.old (IsNamed self.old.of name.now) self.new }
     {
+        if self.tree.fields.len() == 0 {
+            return;
+        }
         match named_number(&self.desc, name) {
             Some(number) => self.clear_number(number),
             None => {}
@@ -293,7 +306,10 @@ impl DynamicMessage {
     {
         match extension_number(&self.desc, field) {
             Some(number) => self.set_number(number, value),
-            None => Err(SetFieldError::NotFound),
+            None => {
+                drop(value);
+                Err(SetFieldError::NotFound)
+            }
         }
     }
 

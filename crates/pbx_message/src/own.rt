@@ -1,9 +1,11 @@
 // Which field of a message a descriptor or a name means.
+ghost use Rattle.std.specs.Prelude.{IfOk};
 ghost use Rattle.pbx_message.specs.Fields.{IsOwnField, IsOwnExtension, IsNamed};
 ghost use Rattle.pbx_message.specs.Targets.{IsTarget};
 
 use pbx_link::{ExtensionDescriptor, FieldDescriptor, MessageDescriptor};
-use pbx_message_laws::{fields_are_listed, fields_of_messages, messages_are_placed};
+use pbx_message_laws::{fields_of_messages, messages_are_placed};
+use pbx_wire::NoMemory;
 
 /// The number of the field, where it is one of the message or of one that is the same.
 pub(crate) fn field_number(desc: &MessageDescriptor, field: &FieldDescriptor) -> Option<u32>
@@ -37,8 +39,8 @@ pub(crate) fn extension_number(desc: &MessageDescriptor, field: &ExtensionDescri
     }
 }
 
-/// The number of the first field of the name.
-pub(crate) fn named_number(desc: &MessageDescriptor, name: &str) -> Option<u32>
+/// The number of the field of the name, found among all of the message.
+fn searched_number(desc: &MessageDescriptor, name: &str) -> Option<u32>
     ensures { IsTarget desc.now (IsNamed desc.now name.now) result }
 {
     messages_are_placed();
@@ -50,4 +52,25 @@ pub(crate) fn named_number(desc: &MessageDescriptor, name: &str) -> Option<u32>
         }
     }
     None
+}
+
+/// The number of the field of the name, which is looked up where the pool keeps the names. It takes no memory.
+pub(crate) fn named_number(desc: &MessageDescriptor, name: &str) -> Option<u32>
+    ensures { IsTarget desc.now (IsNamed desc.now name.now) result }
+{
+    fields_of_messages();
+    let _pool = desc.parent_pool();
+    match desc.kept_field_number(name) {
+        Some(number) => number,
+        None => searched_number(desc, name),
+    }
+}
+
+/// The number of the field of the name, which is looked up. The only error is want of memory.
+pub(crate) fn kept_number(desc: &MessageDescriptor, name: &str) -> Result<Option<u32>, NoMemory>
+    ensures { IfOk result (IsTarget desc.now (IsNamed desc.now name.now)) }
+{
+    fields_of_messages();
+    let _pool = desc.parent_pool();
+    desc.field_number(name)
 }

@@ -1,17 +1,23 @@
 // Values put into trees.
-ghost use Rattle.std.specs.Prelude.{◌≡◌, ◌++◌, pos, IsTrue, OnOk, OnErr};
+ghost use Rattle.std.specs.Prelude.{◌≡◌, pos, Some, OnOk, OnErr};
 ghost use Rattle.std.specs.Int.{w32};
 ghost use Rattle.std.specs.Int.RustNames.{FitsSigned};
 ghost use Rattle.std.specs.Ordering.{int_eq};
-ghost use Rattle.pbx_meaning.specs.Content.{fields as fields_in_content, with_fields, with_option, IsAscending};
+ghost use Rattle.pbx_meaning.specs.Content.{fields as fields_in_content, with_fields, with_option};
 ghost use Rattle.pbx_meaning.specs.Meaning.{is_default as is_default_of, zero_number as zero_number_of};
-ghost use Rattle.pbx_meaning.specs.Shape.{first_number, first_of as first_of_values, declared_of, fields_of, is_other as is_other_of};
+ghost use Rattle.pbx_meaning.specs.Shape.{first_number, first_of as first_of_values, field_of, fields_of};
+ghost use Rattle.pbx_meaning.specs.Sound.{IsSound};
 ghost use Rattle.pbx_codec.specs.View.{content_of, val_of};
-ghost use Rattle.pbx_message_laws.specs.Fields.{cleared_others, keeps_default as keeps_default_of, set_value, value_kept};
+ghost use Rattle.pbx_number_map.specs.Entries.{value_under};
+ghost use Rattle.pbx_message_laws.specs.Fields.{keeps_default as keeps_default_of, set_value, value_kept};
+ghost use Rattle.pbx_message.specs.Members.{AreMembersIf, IsNoted, without_former};
 
+use crate::members::{clear_former, known_members, member_under, noted};
 use pbx_codec::{Contents, Held};
 use pbx_meaning::{Cardinality, EnumShape, FieldShape, Kind, Schema};
+use pbx_number_map::NumberMap;
 use pbx_wire::NoMemory;
+use std::alloc::Global;
 
 /// The number of the first value.
 fn first_of(shape: &EnumShape) -> i32
@@ -85,38 +91,6 @@ fn keeps_default(field: &FieldShape) -> bool
     }
 }
 
-/// Whether the other field is another member of the oneof of the field.
-fn is_other(field: &FieldShape, other: &FieldShape) -> bool
-    ensures { result ≡ is_other_of field.now other.now }
-{
-    match (field.oneof, other.oneof) {
-        (Some(oneof), Some(own)) => oneof == own && field.number != other.number,
-        _ => false,
-    }
-}
-
-/// Takes away the values of the other members of the field's oneof.
-fn clear_others(tree: &mut Contents, field: &FieldShape, declared: &[FieldShape])
-    ensures { content_of tree.new ≡ with_fields (content_of tree.old) (cleared_others field.now declared.now (fields_in_content (content_of tree.old))) }
-{
-    for other in declared {
-        if is_other(field, other) {
-            tree.clear(other.number);
-        }
-    }
-}
-
-/// The fields of the type, in declared order.
-fn declared_fields(schema: &Schema, place: usize) -> &[FieldShape]
-    ensures { result.now ≡ declared_of schema.now place }
-{
-    let messages = schema.shape().messages.as_slice();
-    if place >= messages.len() {
-        return &[];
-    }
-    messages[place].fields.as_slice()
-}
-
 /// Puts the value, or none where it is a default that the field does not keep.
 fn put_own(
     tree: &mut Contents,
@@ -136,21 +110,61 @@ fn put_own(
     }
 }
 
-/// Puts the value of the field, and takes away those of the other members of its oneof. A refused call changes nothing.
+/// Puts the value of a member of the oneof, takes away that of the member which may have had one, and notes the one that
+/// has it now.
+fn put_member(
+    tree: &mut Contents,
+    members: &mut Option<NumberMap<u32>>,
+    known: NumberMap<u32>,
+    schema: &Schema,
+    field: &FieldShape,
+    oneof: u32,
+    held: Held,
+) -> Result<(), NoMemory>
+    ensures ok { OnOk result (content_of tree.new ≡ with_fields (content_of tree.old) (without_former (value_under oneof known) field.now.number
+        (with_option field.now.number (value_kept schema.now field.now (val_of held)) (fields_in_content (content_of tree.old))))) }
+    ensures noted { OnOk result (IsNoted oneof field.now.number known members.new) }
+    ensures err { OnErr result (content_of tree.new ≡ content_of tree.old) }
+    ensures same { OnErr result (members.new ≡ Some known) }
+{
+    let former = member_under(&known, oneof);
+    match put_own(tree, schema, field, held) {
+        Ok(()) => {
+            clear_former(tree, former, field.number);
+            *members = noted(known, oneof, field.number);
+            Ok(())
+        }
+        Err(refused) => {
+            *members = Some(known);
+            Err(refused)
+        }
+    }
+}
+
+/// Puts the value of the field, and takes away those of the other members of its oneof, of which at most the known one
+/// has a value. A refused call changes nothing.
 pub(crate) fn put_value(
     tree: &mut Contents,
+    members: &mut Option<NumberMap<u32>>,
+    alloc: Global,
     schema: &Schema,
     place: usize,
     field: &FieldShape,
     held: Held,
 ) -> Result<(), NoMemory>
-    requires { IsAscending (fields_in_content (content_of tree.old)) }
+    requires sound { IsSound schema.now place (content_of tree.old) }
+    requires own { field_of field.now.number (fields_of schema.now place) ≡ Some field.now }
+    requires known { AreMembersIf (fields_of schema.now place) (fields_in_content (content_of tree.old)) members.old }
     ensures ok { OnOk result (content_of tree.new ≡ set_value schema.now (fields_of schema.now place) field.now (val_of held) (content_of tree.old)) }
     ensures err { OnErr result (content_of tree.new ≡ content_of tree.old) }
+    ensures known { AreMembersIf (fields_of schema.now place) (fields_in_content (content_of tree.new)) members.new }
 {
-    put_own(tree, schema, field, held)?;
-    if field.oneof.is_some() {
-        clear_others(tree, field, declared_fields(schema, place));
+    let _proper = schema.shape();
+    match field.oneof {
+        Some(oneof) => match known_members(members, alloc, schema, place, tree) {
+            Ok(known) => put_member(tree, members, known, schema, field, oneof, held),
+            Err(refused) => Err(refused),
+        },
+        None => put_own(tree, schema, field, held),
     }
-    Ok(())
 }

@@ -106,7 +106,7 @@ pool_named before (g ∷ gs) h =
     ∙ no_other _ _ (ap (λ (k : FileDescriptorProto). list_any is_unnamed (fields k)) h.0.1.is ∙ linked_named before h.0.0 h.0.1.keeps)
     (pool_named (before ++ g ∷ []) gs h.1)
 
-field_named : (d : Described DescriptorProto) → IsPooled d → (x : Described FieldDescriptorProto) → Contains (fields_of_message d) x → is_unnamed x.part ≡ false
+pub field_named : (d : Described DescriptorProto) → IsPooled d → (x : Described FieldDescriptorProto) → Contains (fields_of_message d) x → is_unnamed x.part ≡ false
 field_named d of x c =
     let t = told_of (λ (f : FileDescriptorProto). map (described d.pool f) (messages f)) d.pool d of.within in
     let m = source (described d.pool t.holder) (messages t.holder) d t.inside in

@@ -1,18 +1,20 @@
-//! Asks of `pbx_json`. What is wanted follows "ProtoJSON Format".
+//! Asks of `pbx_json_reading` and `pbx_json_writing`. What is wanted follows "ProtoJSON Format".
 
 use crate::contents::{bytes_of, meaning};
 use crate::stop::{Stop, word};
 use pbx_codec::Contents;
-use pbx_json::{TreeError, read_contents, write_contents};
+use pbx_json_meaning::{DeserializeOptions, JsonError, JsonKind, SerializeOptions};
+use pbx_json_reading::read_content;
+use pbx_json_writing::write_content;
 use pbx_meaning::Schema;
 use serde_json::Value;
 use std::alloc::Global;
 use test_rows::Row;
 
-fn refused(alloc: Global, error: TreeError) -> Result<String, Stop> {
-    match error {
-        TreeError::Refused => word(alloc, "refused"),
-        TreeError::NoMemory => Err(Stop::NoMemory),
+fn refused(alloc: Global, error: JsonError) -> Result<String, Stop> {
+    match error.kind {
+        JsonKind::NoMemory => Err(Stop::NoMemory),
+        _ => word(alloc, "refused"),
     }
 }
 
@@ -23,7 +25,8 @@ fn stands_for(
     allow_unknown: bool,
     tree: &Value,
 ) -> Result<String, Stop> {
-    match read_contents(alloc, schema, 0, allow_unknown, tree) {
+    let options = DeserializeOptions::new().deny_unknown_fields(!allow_unknown);
+    match read_content(alloc, schema, 0, tree, &options) {
         Ok(contents) => bytes_of(alloc, schema, &contents),
         Err(error) => refused(alloc, error),
     }
@@ -39,7 +42,7 @@ pub(crate) fn read(alloc: Global, schema: &Schema, row: &Row) -> Result<String, 
 
 /// The canonical JSON text.
 fn text_of(alloc: Global, schema: &Schema, contents: &Contents) -> Result<String, Stop> {
-    match write_contents(alloc, schema, 0, contents) {
+    match write_content(alloc, schema, 0, contents, &SerializeOptions::new()) {
         Ok(tree) => Ok(tree.to_string(alloc)?),
         Err(error) => refused(alloc, error),
     }

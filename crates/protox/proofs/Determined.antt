@@ -4,14 +4,17 @@ use Rattle.serde_json.specs.Data.{Data}
 use Rattle.serde_json.specs.Written.{compact_text}
 use Rattle.pbx_meaning.specs.Content.{Content}
 use Rattle.pbx_meaning.specs.Encoding.{encoded}
-use Rattle.pbx_meaning.specs.Shape.{declared_of}
 use Rattle.pbx_meaning.specs.declared.shape.Shape.{Shape}
 use Rattle.pbx_desc_records.specs.declared.file.FileDescriptorProto.{FileDescriptorProto}
 use Rattle.pbx_desc_records.specs.declared.message.DescriptorProto.{DescriptorProto}
 use Rattle.pbx_described.specs.Descriptors.{Described, message_of_name}
-use Rattle.pbx_json.specs.Canonical.{canonical}
-use Rattle.pbx_json.specs.Stands.{Stands}
-use Rattle.pbx_described.specs.Shapes.{shape_of, message_named}
+use Rattle.pbx_json_meaning.specs.Canonical.{canonical}
+use Rattle.pbx_json_meaning.specs.Clash.{name_fault}
+use Rattle.pbx_json_meaning.specs.Options.{default_writing}
+use Rattle.pbx_json_meaning.specs.Stands.{Stands}
+use Rattle.pbx_json_meaning.specs.declared.names_fault.NameFault.TheVariants as names
+use Rattle.pbx_json.specs.Fits.{fits}
+use Rattle.pbx_described.specs.Shapes.{shape_of, place_of}
 use Rattle.pbx_parse.specs.declared.error.ParseError.TheVariants as parse
 use Rattle.protox_paths.specs.Paths.{resolved}
 use Rattle.protox_io.specs.Disk.{Held}
@@ -25,8 +28,7 @@ use Rattle.protox_compile.specs.Refusals.{RefusesWith}
 use Rattle.protox_compile.specs.Closures.{StopsAt}
 use Rattle.protox_compile.specs.Laws.{ClosesOnce}
 use Rattle.protox.specs.Class.{limit, folder, told_on, json_of, Done as Ended, Refusing, Judges}
-use Rattle.protox.specs.Thin.{is_thin}
-use Rattle.protox.specs.Top.{AreWithinLevels, ForFiles, IsNotBuilt, IsRefused, IsTranscoded, IsTypeTranscoded, IsUnbuilt, IsUndecodable, Refuses, Transcodes, has_own_names, is_fault, is_refusal, most_files}
+use Rattle.protox.specs.Top.{AreWithinLevels, ForFiles, ForType, HaveClearNames, IsRefused, IsTooDeep, IsTranscoded, IsUndecodable, IsUnread, Refuses, Transcodes, is_fault, is_refusal, most_files}
 use Rattle.protox.specs.Words.{Args}
 use Rattle.protox.specs.declared.error.TopError.{TopError}
 use Rattle.protox.specs.declared.error.TopError.TheVariants as top
@@ -145,28 +147,36 @@ decodable files (kinds.FileLimit n) fit h = absurd h
 decodable files (kinds.Undecodable file) fit h = nothing_there h.0 (sym fit ∙ h.1)
 decodable files kinds.NoMemory fit h = absurd h
 
-type_built : (shape : Shape) (name : List ℕ) (tree : Data) (wire : List ℕ) (written : Data) → IsTypeTranscoded shape name tree wire written → IsUnbuilt shape name tree → ⊥
-type_built shape name tree wire written h u =
-    let same : u.0 ≡ h.place = same_place u.0 h.place (message_named name shape) u.1 h.placed in
-    let P : ℕ → Type 0 = λ t. (has_own_names (declared_of shape t) ≡ false) ⊎ ((c : Content) → ¬ Stands shape t false tree c) in
-    elim (subst P same u.2) [ inl other ↦ not_both (has_own_names (declared_of shape h.place)) h.own_names other | inr none ↦ none h.transcodes.0 h.transcodes.1 ]
+-- a content stands for the tree, so no error tells that none does
+-- two facts of the type of one name are of one type
+both_of_type : (name : List ℕ) (files : List FileDescriptorProto) (P Q : Shape → ℕ → Type 0) → ForType name files P → ForType name files Q
+    → (t : ℕ) × P (shape_of files) t × Q (shape_of files) t
+both_of_type name files P Q h k =
+    let R : Described DescriptorProto → Type 0 = λ d. Q (shape_of files) (place_of d) in
+    (place_of h.0, h.2, subst R (same_type k.0 h.0 (message_of_name files name) k.1 h.1) k.2)
 
-not_built : (name : List ℕ) (tree : Data) (files : List FileDescriptorProto) (set wire : List ℕ) (written : Data) → IsTranscoded name tree files set wire written → IsNotBuilt name tree files → ⊥
-not_built name tree files set wire written h r =
-    let same : r.0 ≡ h.type_of_name = same_type r.0 h.type_of_name (message_of_name files name) r.1 h.found in
-    elim r.2 [
-      | inl other ↦ not_both (is_thin h.type_of_name) h.thin (ap is_thin (sym same) ∙ other)
-      | inr unbuilt ↦ type_built (shape_of files) name tree wire written h.transcoded unbuilt
-    ]
+-- the content that stands for the tree nests few levels, and so does every other
+fits_alone : (shape : Shape) (t : ℕ) (tree : Data) (wire : List ℕ) (written : Data) → Transcodes shape t tree wire written → IsTooDeep shape t tree → ⊥
+fits_alone shape t tree wire written h k =
+    let same : h.0 ≡ k.0 = (let e : Some h.0 ≡ Some k.0 = sym h.1 ∙ k.1 in cc) in
+    not_both (fits h.0) h.2 (ap fits same ∙ k.2)
+
+clear_alone : (files : List FileDescriptorProto) (message key : List ℕ) → HaveClearNames files
+    → name_fault false (shape_of files) ≡ Some (names.JsonNames message key) → ⊥
+clear_alone files message key h k = nothing_there (names.JsonNames message key) (sym h ∙ k)
 
 not_refused : (name : List ℕ) (tree : Data) (files : List FileDescriptorProto) (set wire : List ℕ) (written : Data) (error : TopError) → is_refusal error ≡ true → IsTranscoded name tree files set wire written → IsRefused name tree files error → ⊥
 not_refused name tree files set wire written (top.File error) k h r = decodable files error h.within_levels r
-not_refused name tree files set wire written (top.JsonNames message key) k h r = absurd r
+not_refused name tree files set wire written (top.JsonNames message key) k h r = clear_alone files message key h.clear r.1
 not_refused name tree files set wire written (top.WellKnownShape message) k h r = absurd r
-not_refused name tree files set wire written (top.TypeNotFound n) k h r = nothing_there h.type_of_name (sym r.2 ∙ h.found)
-not_refused name tree files set wire written top.TooDeep k h r = absurd r
+not_refused name tree files set wire written (top.TypeNotFound n) k h r = nothing_there h.transcodes.0 (sym r.3 ∙ h.transcodes.1)
+not_refused name tree files set wire written (top.Json e) k h r =
+    let both = both_of_type name files (λ shape t. Transcodes shape t tree wire written) (λ shape t. IsUnread shape t tree e) h.transcodes r.2 in
+    both.2.2 both.1.0 both.1.1
+not_refused name tree files set wire written top.TooDeep k h r =
+    let both = both_of_type name files (λ shape t. Transcodes shape t tree wire written) (λ shape t. IsTooDeep shape t tree) h.transcodes r.2 in
+    fits_alone (shape_of files) both.0 tree wire written both.1 both.2
 not_refused name tree files set wire written top.NoMemory k h r = absurd (cc)
-not_refused name tree files set wire written top.NotBuilt k h r = not_built name tree files set wire written h r.1
 
 -- the linked files are the same, by whatever look-ups
 among : ClosesOnce → (told : List ℕ → Told) (resolves : List ℕ → Option (List ℕ)) (paths : List (List ℕ)) (P Q : List FileDescriptorProto → Type 0) (h : ForFiles told resolves paths P) → ForFiles told resolves paths Q → Q (records h.2.0)
@@ -193,12 +203,12 @@ refuses_not once told resolves paths name tree set wire written error k h r = at
     at : (e : TopError) → is_refusal e ≡ true → Refuses told resolves paths name tree e → ⊥
     at (top.File kind) k (inl r) = accepted_alone once told resolves paths (λ files. IsTranscoded name tree files set wire written) kind (no_fault kind k) h r
     at (top.File kind) k (inr r) = not_refused name tree (records h.2.0) set wire written (top.File kind) k h.2.2 (here (λ files. IsUndecodable files kind) r)
-    at (top.JsonNames message key) k r = absurd r.2.2
+    at (top.JsonNames message key) k r = not_refused name tree (records h.2.0) set wire written (top.JsonNames message key) k h.2.2 (here (λ files. IsRefused name tree files (top.JsonNames message key)) r)
     at (top.WellKnownShape message) k r = absurd r.2.2
     at (top.TypeNotFound n) k r = not_refused name tree (records h.2.0) set wire written (top.TypeNotFound n) k h.2.2 (here (λ files. IsRefused name tree files (top.TypeNotFound n)) r)
-    at top.TooDeep k r = absurd r.2.2
+    at (top.Json e) k r = not_refused name tree (records h.2.0) set wire written (top.Json e) k h.2.2 (here (λ files. IsRefused name tree files (top.Json e)) r)
+    at top.TooDeep k r = not_refused name tree (records h.2.0) set wire written top.TooDeep k h.2.2 (here (λ files. IsRefused name tree files top.TooDeep) r)
     at top.NoMemory k r = absurd (cc)
-    at top.NotBuilt k r = not_refused name tree (records h.2.0) set wire written top.NotBuilt k h.2.2 (here (λ files. IsRefused name tree files top.NotBuilt) r)
 
 pub done_alone : ClosesOnce → (args : Args) (disk : List Component → Held) (input wire text : List ℕ) (refusal : Refusal) → Judges args disk input (Ended wire text) → Judges args disk input (Refusing refusal) → ⊥
 done_alone once args disk input wire text TooLong h r = let short : length input ≤ limit = h.0 in omega (arith, short, r)
@@ -215,18 +225,15 @@ done_alone once args disk input wire text (Top line) h r =
 transcodes_once : (shape : Shape) (t : ℕ) (tree : Data) (wire later_wire : List ℕ) (written later_written : Data) → Transcodes shape t tree wire written → Transcodes shape t tree later_wire later_written → (wire ≡ later_wire) × (written ≡ later_written)
 transcodes_once shape t tree wire later_wire written later_written h k =
     let content : h.0 ≡ k.0 = (let e : Some h.0 ≡ Some k.0 = sym h.1 ∙ k.1 in cc) in
-    let same : written ≡ later_written = (let e : Some written ≡ Some later_written = sym h.4 ∙ ap (canonical shape t) content ∙ k.4 in cc) in
-    (h.3 ∙ ap (encoded shape t) content ∙ sym k.3, same)
+    let same : written ≡ later_written = (let e : Some written ≡ Some later_written = sym h.5 ∙ ap (λ c. canonical shape t c default_writing) content ∙ k.5 in cc) in
+    (h.4 ∙ ap (encoded shape t) content ∙ sym k.4, same)
 
 transcoded_once : (name : List ℕ) (tree : Data) (files : List FileDescriptorProto) (set wire : List ℕ) (written : Data) (later_set later_wire : List ℕ) (later_written : Data)
     → IsTranscoded name tree files set wire written → IsTranscoded name tree files later_set later_wire later_written
     → (set ≡ later_set) × (wire ≡ later_wire) × (written ≡ later_written)
 transcoded_once name tree files set wire written later_set later_wire later_written h k =
-    let x = h.transcoded in
-    let y = k.transcoded in
-    let place : y.place ≡ x.place = same_place y.place x.place (message_named name (shape_of files)) y.placed x.placed in
-    let P : ℕ → Type 0 = λ t. Transcodes (shape_of files) t tree later_wire later_written in
-    let once = transcodes_once (shape_of files) x.place tree wire later_wire written later_written x.transcodes (subst P place y.transcodes) in
+    let both = both_of_type name files (λ shape t. Transcodes shape t tree wire written) (λ shape t. Transcodes shape t tree later_wire later_written) h.transcodes k.transcodes in
+    let once = transcodes_once (shape_of files) both.0 tree wire later_wire written later_written both.1 both.2 in
     (h.set_is.0 ∙ sym k.set_is.0, once.0, once.1)
 
 pub files_once : ClosesOnce → (told : List ℕ → Told) (resolves : List ℕ → Option (List ℕ)) (paths : List (List ℕ)) (name : List ℕ) (tree : Data) (set wire : List ℕ) (written : Data) (later_set later_wire : List ℕ) (later_written : Data)

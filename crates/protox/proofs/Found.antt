@@ -4,19 +4,18 @@ use Rattle.std.specs.List.{position_or_len}
 use Rattle.std.proofs.lemmas.List.Folds.{find_at}
 use Rattle.std.proofs.lemmas.Option.{slice_get_past}
 
-module _ {X Y : Type 0} (p : X → Bool) (q : Y → Bool) (f : X → Y) (same : (x : X) → q (f x) ≡ p x) where
-  within : (xs : List X) (d : X) → find p xs ≡ Some d → position_or_len q (map f xs) < length (map f xs)
-  within [] d e = absurd (cc)
-  within (x ∷ xs) d e = rw (same x) (at (p x) e (within xs d))
-    where
-      at : (b : Bool) → cond b (Some x) (find p xs) ≡ Some d → (find p xs ≡ Some d → position_or_len q (map f xs) < length (map f xs))
-          → cond (not b) (1 + position_or_len q (map f xs)) 0 < length (f x ∷ map f xs)
-      at true k more = omega arith
-      at false k more = let rest = more k in omega (arith, rest)
+within : {X : Type 0} (p : X → Bool) (xs : List X) (d : X) → find p xs ≡ Some d → position_or_len p xs < length xs
+within p [] d e = absurd (cc)
+within p (x ∷ xs) d e = at (p x) e (within p xs d)
+  where
+    at : (b : Bool) → cond b (Some x) (find p xs) ≡ Some d → (find p xs ≡ Some d → position_or_len p xs < length xs)
+        → cond (not b) (1 + position_or_len p xs) 0 < length (x ∷ xs)
+    at true k more = omega arith
+    at false k more = let rest = more k in omega (arith, rest)
 
-  -- what is found has a place in a list of what stands for the elements
-  pub has_place : (xs : List X) (d : X) → find p xs ≡ Some d → (t : ℕ) × (position q (map f xs) ≡ Some t)
-  has_place xs d e = let here = within xs d e in (position_or_len q (map f xs), rw (lt-ltb _ _ here) refl)
+-- what is found has a place
+pub has_place : {X : Type 0} (p : X → Bool) (xs : List X) (d : X) → find p xs ≡ Some d → (t : ℕ) × (position p xs ≡ Some t)
+has_place p xs d e = let here = within p xs d e in (position_or_len p xs, rw (lt-ltb _ _ here) refl)
 
 -- without a place nothing is found
 pub none_found : {X : Type 0} (p : X → Bool) (xs : List X) → position p xs ≡ None → find p xs ≡ None

@@ -3,9 +3,10 @@ use Rattle.std.proofs.Common.{◌≡◌, ◌∷◌, [], ◌≤◌, Bool, true, f
 use Rattle.serde_json.specs.Data.{Data}
 use Rattle.serde_json.specs.Written.{has_float, compact_text}
 use Rattle.pbx_desc_records.specs.declared.file.FileDescriptorProto.{FileDescriptorProto}
-use Rattle.pbx_json.specs.Laws.{CanonicalIsPlain}
+use Rattle.pbx_json_meaning.specs.Laws.{CanonicalIsPlain}
 use Rattle.pbx_pool_laws.specs.Pool.{ArePooled}
-use Rattle.pbx_described.specs.Shapes.{shape_of}
+use Rattle.pbx_described.specs.Shapes.{shape_of, place_of}
+use Rattle.pbx_json_meaning.specs.Options.{default_writing}
 use Rattle.protox_io.specs.Count.{Rose}
 use Rattle.protox_io.specs.Disk.{Held}
 use Rattle.protox_io.specs.Paths.{Component}
@@ -82,12 +83,12 @@ module _ (told : List ℕ → Told) (resolves : List ℕ → Option (List ℕ)) 
   -- what is refused among them
   pub all_refused : (name : List ℕ) (tree : Data) (error : TopError) → IsRefused name tree files error → Refuses told resolves paths name tree error
   all_refused name tree (top.File error) h = inr (for_files (λ fs. IsUndecodable fs error) h)
-  all_refused name tree (top.JsonNames message key) h = absurd h
+  all_refused name tree (top.JsonNames message key) h = for_files (λ fs. IsRefused name tree fs (top.JsonNames message key)) h
   all_refused name tree (top.WellKnownShape message) h = absurd h
   all_refused name tree (top.TypeNotFound n) h = for_files (λ fs. IsRefused name tree fs (top.TypeNotFound n)) h
-  all_refused name tree top.TooDeep h = absurd h
+  all_refused name tree top.TooDeep h = for_files (λ fs. IsRefused name tree fs top.TooDeep) h
   all_refused name tree top.NoMemory h = tt
-  all_refused name tree top.NotBuilt h = for_files (λ fs. IsRefused name tree fs top.NotBuilt) h
+  all_refused name tree (top.Json e) h = for_files (λ fs. IsRefused name tree fs (top.Json e)) h
 
   pub all_given : (name : List ℕ) (tree : Data) (set wire : List ℕ) (written : Data) → IsTranscoded name tree files set wire written → ForFiles told resolves paths (λ fs. IsTranscoded name tree fs set wire written)
   all_given name tree set wire written h = for_files (λ fs. IsTranscoded name tree fs set wire written) h
@@ -116,8 +117,8 @@ pub gives : (type_name file : List ℕ) (disk : List Component → Held) (tree :
     → given ≡ wire → (has_float written ≡ false → text ≡ compact_text written) → Gives type_name file disk tree given text
 gives type_name file disk tree set wire written given text plain h e printed =
     let P : List ℕ → Type 0 = λ w. ForFiles (told_on disk) (resolved folder) (file ∷ []) (λ files. IsTranscoded type_name tree files set w written) in
-    let type_told = h.2.2.transcoded in
-    (set, written, subst P (sym e) h, printed (plain (shape_of (records h.2.0)) type_told.place type_told.transcodes.0 written type_told.transcodes.4))
+    let told = h.2.2.transcodes in
+    (set, written, subst P (sym e) h, printed (plain (shape_of (records h.2.0)) (place_of told.0) told.2.0 default_writing written told.2.5).1)
 
 -- ---- stops
 
@@ -153,7 +154,7 @@ file_stop type_name file disk tree (top.WellKnownShape message) rose (Broken (Fi
 file_stop type_name file disk tree (top.TypeNotFound n) rose (Broken (File line)) s k h = absurd s
 file_stop type_name file disk tree top.TooDeep rose (Broken (File line)) s k h = absurd s
 file_stop type_name file disk tree top.NoMemory rose (Broken (File line)) s k h = absurd s
-file_stop type_name file disk tree top.NotBuilt rose (Broken (File line)) s k h = absurd s
+file_stop type_name file disk tree (top.Json e) rose (Broken (File line)) s k h = absurd s
 file_stop type_name file disk tree error rose (Broken Path) s k h = absurd s
 file_stop type_name file disk tree error rose (Broken Output) s k h = absurd s
 file_stop type_name file disk tree error rose NoMemory s k h = tt
@@ -186,7 +187,7 @@ stop_caused rose (top.WellKnownShape message) (Broken (File line)) s c = absurd 
 stop_caused rose (top.TypeNotFound n) (Broken (File line)) s c = absurd s
 stop_caused rose top.TooDeep (Broken (File line)) s c = absurd s
 stop_caused rose top.NoMemory (Broken (File line)) s c = absurd s
-stop_caused rose top.NotBuilt (Broken (File line)) s c = absurd s
+stop_caused rose (top.Json e) (Broken (File line)) s c = absurd s
 stop_caused rose error (Broken Path) s c = absurd s
 stop_caused rose error (Broken Output) s c = absurd s
 stop_caused rose error NoMemory s c = tt
@@ -251,12 +252,12 @@ pool_caused rose name tree files (top.File (kinds.NameMismatch asked declared)) 
 pool_caused rose name tree files (top.File (kinds.FileLimit n)) h = absurd h
 pool_caused rose name tree files (top.File (kinds.Undecodable file)) h = tt
 pool_caused rose name tree files (top.File kinds.NoMemory) h = absurd h
-pool_caused rose name tree files (top.JsonNames message key) h = absurd h
+pool_caused rose name tree files (top.JsonNames message key) h = tt
 pool_caused rose name tree files (top.WellKnownShape message) h = absurd h
 pool_caused rose name tree files (top.TypeNotFound n) h = tt
-pool_caused rose name tree files top.TooDeep h = absurd h
+pool_caused rose name tree files top.TooDeep h = tt
 pool_caused rose name tree files top.NoMemory h = tt
-pool_caused rose name tree files top.NotBuilt h = tt
+pool_caused rose name tree files (top.Json e) h = h.2.2.0
 
 -- the input ended the run
 pub input_judged : (args : Args) (disk : List Component → Held) (input : List ℕ) (stop : Stop) → IsInputStop input stop → PlanStops args disk input stop

@@ -1,11 +1,8 @@
 pub mod Causes
-pub mod Distinct
 pub mod Endings
-pub mod Built
 pub mod Found
 pub mod Judged
 pub mod Json
 pub mod SetOf
-pub mod ThinFields
 pub mod Transcoding
 pub mod Determined

@@ -1,5 +1,5 @@
 pub mod Words
-pub mod Thin
+pub mod Json
 pub mod Top
 pub mod Class
 pub mod Outcome

@@ -2,8 +2,10 @@
 
 ghost use Rattle.std.specs.Prelude.{◌≡◌, ◌∷◌, [], IfOk, string_bytes, codes};
 ghost use Rattle.std.specs.List.{concat};
-ghost use Rattle.protox.specs.Top.{top_line, is_refusal, is_fault, is_memory, of_error};
+ghost use Rattle.protox.specs.Top.{top_line, is_refusal, is_fault, is_memory, of_error, of_json, of_names};
 
+use crate::json_line::json_line;
+use pbx_json::{JsonError, JsonKind, NameFault};
 use pbx_wire::{NoMemory, Text};
 use protox_file::{Error, ErrorKind};
 use std::alloc::Global;
@@ -13,7 +15,7 @@ use std::alloc::Global;
 pub enum TopError {
     /// A file is not found, not read or not taken.
     File(Error),
-    /// Two fields of a message have one key in JSON. It does not come so far.
+    /// A key of a message's JSON has two meanings.
     JsonNames {
         /// The full name of the message.
         message: Text,
@@ -30,12 +32,12 @@ pub enum TopError {
         /// The name.
         name: Text,
     },
-    /// The message nests more than 100 levels. It does not come so far.
+    /// The tree stands for no message of the type, as it breaks a rule of the JSON mapping at a place.
+    Json(JsonError),
+    /// The message nests more than 100 levels.
     TooDeep,
     /// Memory ran out.
     NoMemory,
-    /// The type or the tree is not built yet.
-    NotBuilt,
 }
 
 fn json_names_line(alloc: Global, message: &Text, key: &Text) -> Result<Text, NoMemory>
@@ -68,9 +70,9 @@ impl TopError {
                 "' has not its well-known shape",
             ),
             TopError::TypeNotFound { name } => Text::between(alloc, "type '", name, "' not found"),
+            TopError::Json(error) => json_line(alloc, error),
             TopError::TooDeep => Text::from_str(alloc, "message nests more than 100 levels"),
             TopError::NoMemory => Text::from_str(alloc, "out of memory"),
-            TopError::NotBuilt => Text::from_str(alloc, "not built yet"),
         }
     }
 
@@ -110,4 +112,24 @@ fn is_memory(error: &Error) -> bool
     ensures { result ≡ is_memory error.now }
 {
     matches!(error.kind(), ErrorKind::NoMemory)
+}
+
+/// The error of a tree; want of memory stands inside of no other error.
+pub(crate) fn json_error(error: JsonError) -> TopError
+    ensures { result ≡ of_json error }
+{
+    if matches!(error.kind, JsonKind::NoMemory) {
+        return TopError::NoMemory;
+    }
+    TopError::Json(error)
+}
+
+/// The error of a message whose JSON has a key with two meanings.
+pub(crate) fn names_error(fault: NameFault) -> TopError
+    ensures { result ≡ of_names fault }
+{
+    match fault {
+        NameFault::JsonNames { message, key } => TopError::JsonNames { message, key },
+        NameFault::NoMemory => TopError::NoMemory,
+    }
 }

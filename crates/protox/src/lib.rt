@@ -7,12 +7,12 @@
 
 mod carry;
 mod error;
+mod json_line;
 mod laws;
 mod plan;
 mod report;
 mod set;
 mod stop;
-mod thin;
 mod top;
 mod transcode;
 mod words;

@@ -9,7 +9,7 @@ ghost use Rattle.protox.specs.Stops.{PlanStops, Caused};
 use crate::error::TopError;
 use crate::stop::{Object, Refusal, Stop};
 use crate::transcode::{Attempt, Transcoded, compile_and_transcode};
-use pbx_json::canonical_is_plain;
+use pbx_json_meaning::canonical_is_plain;
 use pbx_wire::{Blob, NoMemory, Text, Texts};
 use protox_file::IncludeFileResolver;
 use protox_io::{Disk, ReadFault, Source, read_to_end};

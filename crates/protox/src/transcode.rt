@@ -1,38 +1,34 @@
 //! From files, a type's name and a tree to the set of the files, the wire bytes and the canonical tree.
 
-ghost use Rattle.std.specs.Prelude.{◌≡◌, ◌≤◌, ◌⊎◌, [], map, IfOk, IfErr, OnOk, IsSome, IsTrue, List};
-ghost use Rattle.std.specs.List.{list_all};
-ghost use Rattle.std.specs.Str.{bytes_eq};
+ghost use Rattle.std.specs.Prelude.{◌≡◌, ◌≤◌, ◌⊎◌, [], IfOk, IfErr, OnOk, IsTrue, List};
 ghost use Rattle.serde_json.specs.View.{view};
-ghost use Rattle.pbx_meaning.specs.Shape.{declared_of};
-ghost use Rattle.pbx_meaning.specs.Sound.{IsProper};
-ghost use Rattle.pbx_codec.specs.View.{content_of};
-ghost use Rattle.pbx_json.specs.Canonical.{canonical};
+ghost use Rattle.pbx_json_meaning.specs.Canonical.{canonical};
+ghost use Rattle.pbx_json_meaning.specs.Options.{default_writing};
 ghost use Rattle.pbx_pool_laws.specs.Pool.{ArePooled};
 ghost use Rattle.pbx_described.specs.Descriptors.{message_of_name};
-ghost use Rattle.pbx_described.specs.Shapes.{shape_of as shape_of_files};
+ghost use Rattle.pbx_described.specs.Shapes.{shape_of, place_of};
 ghost use Rattle.protox_io.specs.Count.{Rose};
 ghost use Rattle.protox_compile.specs.Walk.{Done, records};
 ghost use Rattle.protox_compile.specs.Compiled.{IsOrdered};
 ghost use Rattle.protox_compile.specs.State.{Keeps};
-ghost use Rattle.protox.specs.Parts.{IsBuilt, IsNotTold, IsNotWritten, IsWritten, IsThinAt, IsNotThin, IsNotShaped};
-ghost use Rattle.protox.specs.Top.{ForFiles, IsTranscoded, IsTypeTranscoded, IsRefused, Refuses, IsCaused, Transcodes};
-ghost use Rattle.protox.specs.Top.{has_own_names as has_own_names_of, are_distinct};
+ghost use Rattle.protox.specs.Parts.{IsClear, IsNotClear, IsNotTold, IsNamed, IsNotNamed, IsNotWritten, IsWire, IsWritten};
+ghost use Rattle.protox.specs.Top.{ForFiles, HaveClearNames, IsTranscoded, IsRefused, Refuses, IsCaused, Transcodes};
 
-use crate::error::{TopError, file_error};
+use crate::error::{TopError, file_error, json_error, names_error};
 use crate::set::set_of;
-use crate::thin::is_thin;
-use pbx_codec::{Contents, encode};
-use pbx_json::{TreeError, canonical_stands, read_contents, stands_flat, write_contents};
-use pbx_link::DescriptorPool;
-use pbx_meaning::{FieldShape, Schema, encoding_decodes};
-use pbx_shapes::message_place;
+use pbx_desc::Message;
+use pbx_json::{JsonMessage, check_names, fits_levels};
+use pbx_json_laws::{canonical_stands, standing_is_written, values_have_texts};
+use pbx_json_shape_laws::shapes_are_well_named;
+use pbx_link::{DescriptorPool, MessageDescriptor};
+use pbx_meaning::encoding_decodes;
+use pbx_message::DynamicMessage;
+use pbx_message_laws::kinds_have_types;
 use pbx_wire::{Blob, NoMemory, Text, Texts};
 use protox_compile::Compiler;
 use protox_file::FileResolver;
 use serde_json::Value;
 use std::alloc::Global;
-use std::collections::BTreeSet;
 
 /// The set of the files, the wire bytes and the canonical tree.
 #[derive(Drop)]
@@ -52,54 +48,6 @@ pub struct Attempt<R> {
     pub result: Result<Transcoded, TopError>,
 }
 
-/// The fields of the type at a place, in declared order; a place outside the schema has none.
-fn declared_fields(schema: &Schema, type_at: usize) -> &[FieldShape]
-    ensures fields { result.now ≡ declared_of schema.now type_at }
-    ensures proper { IsProper schema.now }
-{
-    let messages = schema.shape().messages.as_slice();
-    if type_at < messages.len() {
-        messages[type_at].fields.as_slice()
-    } else {
-        &[]
-    }
-}
-
-/// Whether no two fields have one name.
-fn have_distinct_names(alloc: Global, fields: &[FieldShape]) -> Result<bool, NoMemory>
-    ensures { IfOk result (λ own. own ≡ are_distinct (map (λ f. f.name) fields.now)) }
-{
-    let mut seen = BTreeSet::new(alloc);
-    for field in fields {
-        if !seen.insert(field.name.as_str())? {
-            return Ok(false);
-        }
-    }
-    Ok(true)
-}
-
-fn has_own_name(field: &FieldShape) -> bool
-    ensures { result ≡ bytes_eq field.now.json_name field.now.name }
-{
-    field.json_name.as_str() == field.name.as_str()
-}
-
-fn have_own_json_names(fields: &[FieldShape]) -> bool
-    ensures { result ≡ list_all (λ f. bytes_eq f.json_name f.name) fields.now }
-{
-    fields.iter().all(|field| has_own_name(field))
-}
-
-/// Whether the JSON name of each field is the field's name, and that of no other field.
-fn have_own_names(alloc: Global, fields: &[FieldShape]) -> Result<bool, NoMemory>
-    ensures { IfOk result (λ own. own ≡ has_own_names_of fields.now) }
-{
-    if !have_own_json_names(fields) {
-        return Ok(false);
-    }
-    have_distinct_names(alloc, fields)
-}
-
 fn type_not_found(alloc: Global, type_name: &str) -> TopError
     ensures { (result ≡ TopError.NoMemory) ⊎ (result ≡ TopError.TypeNotFound type_name.now) }
 {
@@ -109,85 +57,90 @@ fn type_not_found(alloc: Global, type_name: &str) -> TopError
     }
 }
 
-/// The wire bytes of the contents, and their canonical tree.
-fn write_both(
-    alloc: Global,
-    schema: &Schema,
-    type_at: usize,
-    contents: &Contents,
-) -> Result<(Blob, Value), TopError>
-    ensures ok { IfOk result (λ done. IsWritten schema.now type_at (content_of contents.now) done.0 (view done.1)) }
-    ensures stop { IfErr result (IsNotWritten (canonical schema.now type_at (content_of contents.now))) }
+/// The bytes of the message.
+fn wire_of(alloc: Global, message: &DynamicMessage) -> Result<Blob, NoMemory>
+    ensures { IfOk result (IsWire message.now) }
 {
-    let Ok(wire) = encode(alloc, schema, type_at, contents) else {
+    let bytes = message.encode_to_vec(alloc)?;
+    Blob::from_slice(alloc, bytes.as_slice())
+}
+
+/// The wire bytes of the message, and its canonical tree.
+fn write_both(alloc: Global, message: &DynamicMessage) -> Result<(Blob, Value), TopError>
+    ensures ok { IfOk result (λ done. IsWritten message.now.of message.now.content done.0 (view done.1)) }
+    ensures stop { IfErr result (IsNotWritten
+        (canonical (shape_of message.now.of.pool) (place_of message.now.of) message.now.content default_writing)) }
+{
+    let Ok(wire) = wire_of(alloc, message) else {
         return Err(TopError::NoMemory);
     };
-    match write_contents(alloc, schema, type_at, contents) {
+    match message.serialize(alloc) {
         Ok(tree) => Ok((wire, tree)),
-        Err(TreeError::Refused) => Err(TopError::NotBuilt),
-        Err(TreeError::NoMemory) => Err(TopError::NoMemory),
+        Err(error) => Err(json_error(error)),
     }
 }
 
-/// The wire bytes of the message that the tree stands for, and its canonical tree.
+/// The wire bytes of the message of the type that the tree stands for, and its canonical tree.
 fn transcode_as(
     alloc: Global,
-    schema: &Schema,
-    type_at: usize,
+    desc: MessageDescriptor,
     tree: &Value,
 ) -> Result<(Blob, Value), TopError>
-    ensures ok { IsBuilt schema.now type_at → IfOk result (λ done. Transcodes schema.now type_at (view tree.now) done.0 (view done.1)) }
-    ensures err { IsBuilt schema.now type_at → IfErr result (IsNotTold schema.now type_at (view tree.now)) }
+    ensures ok { IsClear (shape_of desc.pool) →
+        IfOk result (λ done. Transcodes (shape_of desc.pool) (place_of desc) (view tree.now) done.0 (view done.1)) }
+    ensures err { IsClear (shape_of desc.pool) → IfErr result (IsNotTold desc (view tree.now)) }
 {
-    let contents = match read_contents(alloc, schema, type_at, false, tree) {
-        Ok(contents) => contents,
-        Err(TreeError::Refused) => return Err(TopError::NotBuilt),
-        Err(TreeError::NoMemory) => return Err(TopError::NoMemory),
-    };
-    // What the contents are written as stands for them, and decodes to them.
+    // What the message is written as stands for it, and decodes to it.
     canonical_stands();
+    standing_is_written();
     encoding_decodes();
-    stands_flat();
-    write_both(alloc, schema, type_at, &contents)
+    values_have_texts(tree);
+    let message = match DynamicMessage::deserialize(alloc, desc, tree) {
+        Ok(message) => message,
+        Err(error) => return Err(json_error(error)),
+    };
+    // What it holds may be held by a message of its type.
+    let _sound = message.descriptor();
+    match fits_levels(alloc, &message) {
+        Ok(true) => write_both(alloc, &message),
+        Ok(false) => Err(TopError::TooDeep),
+        Err(NoMemory) => Err(TopError::NoMemory),
+    }
 }
 
-/// The wire bytes and the canonical tree of a tree, as a message of a type of the pool's.
-fn transcode_type(
+/// Refuses a pool of which a message's JSON has a key with two meanings.
+fn check_clear(alloc: Global, pool: &DescriptorPool) -> Result<(), TopError>
+    ensures ok { OnOk result (IsClear (shape_of pool.now)) }
+    ensures err { IfErr result (IsNotClear pool.now) }
+{
+    shapes_are_well_named();
+    let _pooled = pool.files();
+    let Ok(schema) = pool.schema() else {
+        return Err(TopError::NoMemory);
+    };
+    let _proper = schema.as_ref().shape();
+    match check_names(alloc, pool) {
+        Ok(()) => Ok(()),
+        Err(fault) => Err(names_error(fault)),
+    }
+}
+
+/// The tree as a message of a type of the pool's.
+fn transcode_named(
     alloc: Global,
     pool: &DescriptorPool,
     type_name: &str,
     tree: &Value,
 ) -> Result<(Blob, Value), TopError>
-    ensures ok { IfOk result (λ done. IsTypeTranscoded (shape_of_files pool.now) type_name.now (view tree.now) done.0 (view done.1)) }
-    ensures err { IsSome (message_of_name pool.now type_name.now) → IfErr result (IsNotShaped (shape_of_files pool.now) type_name.now (view tree.now)) }
+    ensures ok { IsClear (shape_of pool.now) → IfOk result (λ done. IsNamed pool.now type_name.now (view tree.now) done.0 (view done.1)) }
+    ensures err { IsClear (shape_of pool.now) → IfErr result (IsNotNamed pool.now type_name.now (view tree.now)) }
 {
-    let shared = match pool.schema() {
-        Ok(shared) => shared,
-        Err(NoMemory) => return Err(TopError::NoMemory),
-    };
-    let schema = shared.as_ref();
-    let Some(type_at) = message_place(schema, type_name) else {
-        return Err(TopError::NotBuilt);
-    };
-    match have_own_names(alloc, declared_fields(schema, type_at)) {
-        Ok(true) => transcode_as(alloc, schema, type_at, tree),
-        Ok(false) => Err(TopError::NotBuilt),
-        Err(NoMemory) => Err(TopError::NoMemory),
-    }
-}
-
-/// Refuses a name that is not that of a thin type of the pool's.
-fn check_type(alloc: Global, pool: &DescriptorPool, type_name: &str) -> Result<(), TopError>
-    ensures ok { OnOk result (IsThinAt pool.now type_name.now) }
-    ensures err { IfErr result (IsNotThin pool.now type_name.now) }
-{
-    let Some(message) = pool.get_message_by_name(type_name) else {
-        return Err(type_not_found(alloc, type_name));
-    };
-    if is_thin(&message) {
-        Ok(())
-    } else {
-        Err(TopError::NotBuilt)
+    // The message is one of this pool's.
+    kinds_have_types();
+    let _pooled = pool.files();
+    match pool.get_message_by_name(type_name) {
+        Some(desc) => transcode_as(alloc, desc, tree),
+        None => Err(type_not_found(alloc, type_name)),
     }
 }
 
@@ -205,11 +158,11 @@ fn transcode_in(
         Ok(set) => set,
         Err(error) => return Err(error),
     };
-    match check_type(alloc, pool, type_name) {
+    match check_clear(alloc, pool) {
         Ok(()) => {}
         Err(error) => return Err(error),
     }
-    match transcode_type(alloc, pool, type_name, tree) {
+    match transcode_named(alloc, pool, type_name, tree) {
         Ok((wire, tree)) => Ok(Transcoded { set, wire, tree }),
         Err(error) => Err(error),
     }
@@ -217,11 +170,12 @@ fn transcode_in(
 
 /// Compiles the files at the paths with all that they import, and transcodes a tree as a message of the type of that
 /// full name: into the set of the files, each behind all that it imports, the wire bytes and the canonical tree.
-/// At most 65,536 files are taken, and none that nests more than 100 levels, since no reader of the set would take it.
-/// The resolver is handed back.
+/// At most 65,536 files are taken, and none that nests more than 100 levels, since no reader of the set would take it;
+/// neither is a message that nests so deep. The resolver is handed back.
 ///
-/// The names of the paths are as those of `Compiler::open_file`. The tree is read last, so a file or a type's name is
-/// refused before it.
+/// The names of the paths are as those of `Compiler::open_file`. The tree is read last: refused are, in this order, a
+/// file, a key with two meanings in the JSON of any message of the files, the type's name, a tree that stands for no
+/// message of the type, and a message that nests too deep.
 pub fn compile_and_transcode<R: FileResolver>(
     alloc: Global,
     resolver: R,

@@ -1,7 +1,5 @@
 use Rattle.std.proofs.Common.{◌≡◌, ◌++◌, ◌∷◌, [], List, sym, ap, ◌∙◌, rules, subst, append-nil, append_assoc, arith}
 use Rattle.pbx_codec.specs.declared.key.MapKey.{MapKey}
-use Rattle.pbx_codec.specs.View.{key_of, val_of}
-use Rattle.pbx_codec.proofs.Tree.{pair_made}
 use Rattle.pbx_key_map.specs.Keys.{IsInKeyOrder}
 use Rattle.pbx_message.specs.declared.value.Value.{Value}
 use Rattle.pbx_message.specs.Values.{AreEntriesOfKinds}
@@ -14,28 +12,19 @@ loop-key-init c = (
   sym c.into_entries-key-items.ensures.same ∙ search rules,
 )
 
-pub returns-in-None-held_of-clause-err : goal.returns-in-None-held_of-clause-err
-returns-in-None-held_of-clause-err c = λ pairs.
+pub returns-in-None-pair_held-clause-err : goal.returns-in-None-pair_held-clause-err
+returns-in-None-pair_held-clause-err c = λ pairs.
     let step : c.loop-key.key-iterator.rest.items ≡ (c.in-Some.key, c.in-Some.value) ∷ c.next.new.self.rest.items = c.in-Some.ensures.steps.0 in
-    c.in-None-held_of.ensures (one_pair c.args.value_type.now.holder.pool c.args.key_kind c.args.value_type.now.kind c.loop-key.yielded (c.in-Some.key, c.in-Some.value)
+    let both = one_pair c.args.value_type.now.holder.pool c.args.key_kind c.args.value_type.now.kind c.loop-key.yielded (c.in-Some.key, c.in-Some.value)
     c.next.new.self.rest.items (subst (AreEntriesOfKinds c.args.value_type.now.holder.pool c.args.key_kind c.args.value_type.now.kind)
-    (c.loop-key.invariant.1 ∙ ap (λ (xs : List (MapKey × Value)). c.loop-key.yielded ++ xs) step) pairs)).1
-
-pub returns-in-None-key_held-clause-err : goal.returns-in-None-key_held-clause-err
-returns-in-None-key_held-clause-err c = λ pairs.
-    let step : c.loop-key.key-iterator.rest.items ≡ (c.in-Some.key, c.in-Some.value) ∷ c.next.new.self.rest.items = c.in-Some.ensures.steps.0 in
-    c.in-None-key_held.ensures (one_pair c.args.value_type.now.holder.pool c.args.key_kind c.args.value_type.now.kind c.loop-key.yielded (c.in-Some.key, c.in-Some.value)
-    c.next.new.self.rest.items (subst (AreEntriesOfKinds c.args.value_type.now.holder.pool c.args.key_kind c.args.value_type.now.kind)
-    (c.loop-key.invariant.1 ∙ ap (λ (xs : List (MapKey × Value)). c.loop-key.yielded ++ xs) step) pairs)).0
+    (c.loop-key.invariant.1 ∙ ap (λ (xs : List (MapKey × Value)). c.loop-key.yielded ++ xs) step) pairs) in
+    c.in-None-pair_held.ensures both.0 both.1
 
 pub loop-key-preserved : goal.loop-key-preserved
 loop-key-preserved c =
-    let step : c.loop-key.key-iterator.rest.items ≡ (c.in-Some.key, c.in-Some.value) ∷ c.next.new.self.rest.items = c.in-Some.ensures.steps.0 in
-    let q = c.in-Some-key_held.key in
-    let h = c.in-Some-held_of.held in (
-      rw c.in_ok-add-in-Some-held_of.ensures.ok (pairs_held_more c.args.value_type.now.holder.pool c.args.key_kind c.args.value_type.now.kind c.loop-key.yielded c.loop-key.pairs
-          c.in-Some.key c.in-Some.value h _ (pair_made q h ∙ ap (λ (z : MapKey). (key_of z, val_of h)) c.in-Some-key_held.ensures.0)
-          c.loop-key.invariant.0 c.in-Some-key_held.ensures.1 c.in-Some-held_of.ensures),
+    let step : c.loop-key.key-iterator.rest.items ≡ (c.in-Some.key, c.in-Some.value) ∷ c.next.new.self.rest.items = c.in-Some.ensures.steps.0 in (
+      rw c.in_ok-add-in-Some-pair_held.ensures.ok (pairs_held_more c.args.value_type.now.holder.pool c.args.key_kind c.args.value_type.now.kind c.loop-key.yielded c.loop-key.pairs
+          (c.in-Some.key, c.in-Some.value) c.in-Some-pair_held.pair c.loop-key.invariant.0 c.in-Some-pair_held.ensures),
       c.loop-key.invariant.1 ∙ ap (λ (xs : List (MapKey × Value)). c.loop-key.yielded ++ xs) step
           ∙ sym (append_assoc c.loop-key.yielded ((c.in-Some.key, c.in-Some.value) ∷ []) c.next.new.self.rest.items),
     )

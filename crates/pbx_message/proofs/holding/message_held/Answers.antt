@@ -15,6 +15,6 @@ returns-in-Some c =
     let kind = c.args.value_type.now.kind in
     let pool = c.args.value_type.now.holder.pool in
     let taken : IsTaken pool kind (dynamic c.message.inside.desc (content_of c.message.inside.tree)) = message_taken pool kind c.in-Some.wanted (dynamic c.message.inside.desc (content_of c.message.inside.tree)) c.messages_are_placed.ensures.same of
-    c.requires.variant (rw c.in-Some.is at c.requires.typed) (c.is_same.ensures.0 c.if-is_same.true) c.message.invariant in
+    c.requires.variant (rw c.in-Some.is at c.requires.typed) (c.is_same.ensures.0 c.if-is_same.true) c.message.invariant.0 in
     let same : val_of (held.Message c.message.inside.tree) ≡ message (content_of c.message.inside.tree) = search (rules, the_lemmas) in
     rw (← c.message.view_is) (same, taken.place, taken.element)

@@ -1,16 +1,22 @@
-use Rattle.std.proofs.Common.{◌≤◌, false, arith}
+use Rattle.std.proofs.Common.{◌≡◌, ◌∙◌, sym, true}
 use Rattle.serde_json.specs.View.{view}
-use Rattle.pbx_meaning.specs.Sound.{depth}
-use Rattle.pbx_codec.specs.View.{content_of}
-use Rattle.protox.proofs.Transcoding.{ok_then, transcodes}
+use Rattle.pbx_json.specs.Fits.{fits}
+use Rattle.protox.proofs.Transcoding.{ok_then, err_then, transcoded_as, not_told_as}
 use Rattle.protox.proofs.transcode.transcode_as.Goals as goal
 
-pub returns-clause-ok : goal.returns-clause-ok
-returns-clause-ok c built =
-    let contents = content_of c.in-Ok.contents in
-    let flat = c.stands_flat.ensures c.args.schema.now c.args.type_at false (view c.args.tree.now) contents built.proper c.in-Ok.ensures.stands in
-    let shallow : depth contents ≤ 100 = omega (arith, flat) in
+pub returns-in-Ok-true-clause-ok : goal.returns-in-Ok-true-clause-ok
+returns-in-Ok-true-clause-ok c clear =
+    let m = c.in-Ok.message in
+    let fit : fits m.content ≡ true = sym c.in-Ok-true.ensures ∙ c.in-Ok-true.field-0-test in
     ok_then c.write_both.result
-    (λ done h. transcodes c.args.schema.now c.args.type_at (view c.args.tree.now) contents done.0 (view done.1) c.encoding_decodes.ensures.whole c.canonical_stands.ensures built c.in-Ok.ensures.stands
-    c.in-Ok.ensures.sound shallow h)
+    (λ done h. transcoded_as c.args.desc m.of (view c.args.tree.now) m.content c.in-Ok.ensures.of clear c.values_have_texts.ensures c.in-Ok.ensures.read
+    done.0 (view done.1) c.encoding_decodes.ensures.whole c.canonical_stands.ensures.canonical c.descriptor-sound.ensures.sound fit h)
     c.write_both.ensures.ok
+
+pub returns-in-Ok-true-clause-err : goal.returns-in-Ok-true-clause-err
+returns-in-Ok-true-clause-err c clear =
+    let m = c.in-Ok.message in
+    err_then c.write_both.result
+    (λ error h. not_told_as c.args.desc m.of (view c.args.tree.now) m.content c.in-Ok.ensures.of clear c.values_have_texts.ensures c.in-Ok.ensures.read
+    error c.standing_is_written.ensures h)
+    c.write_both.ensures.stop

@@ -1,0 +1,243 @@
+-- All that was read of a tree has a canonical tree, which reads back as the same.
+use Rattle.std.proofs.Common.{◌≡◌, ℕ, ◌&&◌, List, [], ◌∷◌, map as map_list, Bool, true, false, Option, Some, None, option_map, option_and_then, refl, ap, sym, ◌∙◌, subst}
+use Rattle.pbx_wire.specs.declared.rec.Rec.{Rec}
+use Rattle.serde_json.specs.Data.{Data, array, object, item, Members, no_members, member}
+use Rattle.pbx_meaning.specs.Content as content
+use Rattle.pbx_meaning.specs.Content.{Content, Fields, Val, Vals, Pairs, Key, vals_of, get}
+use Rattle.pbx_meaning.specs.Meaning.{is_default}
+use Rattle.pbx_meaning.specs.Shape.{declared_of, field_of, is_float}
+use Rattle.pbx_meaning.specs.Sound.{IsProper}
+use Rattle.pbx_meaning.specs.declared.shape.Kind.{Kind}
+use Rattle.pbx_meaning.specs.declared.shape.Kind.TheVariants as kind
+use Rattle.pbx_meaning.specs.declared.shape.FieldShape.{FieldShape}
+use Rattle.pbx_meaning.specs.declared.shape.Shape.{Shape}
+use Rattle.pbx_json_meaning.specs.Asked.{field, one, Target, single, list, map, target_by}
+use Rattle.pbx_json_meaning.specs.Names.{field_named}
+use Rattle.pbx_json_meaning.specs.Canonical.{canonical, key_of_field, Tells, keeps_float}
+use Rattle.pbx_json_meaning.specs.Canonical.{items_of, entry_line, tells, content_tree, fields_tell, vals_tell, pairs_tell}
+use Rattle.pbx_json_meaning.specs.Clash.{name_fault}
+use Rattle.pbx_json_meaning.specs.Laws.{StandingIsWritten, CanonicalStands, WrittenStands}
+use Rattle.pbx_json_meaning.specs.Named.{IsWellNamed}
+use Rattle.pbx_json_meaning.specs.Trees.{HasTexts}
+use Rattle.pbx_json_meaning.specs.Stands.{Stands, message_in, pairs_of, if_differ, Says, all_read, present, entries_read, message_as, map_as, said}
+use Rattle.pbx_json_meaning.specs.Stands.{items_said, entries_said}
+use Rattle.pbx_json_meaning.specs.declared.options.SerializeOptions.{SerializeOptions}
+use Rattle.pbx_json_laws.proofs.EntriesBack.{LinesSay, ReadsAs, lines_read}
+use Rattle.pbx_json_laws.proofs.Fits.{Fits, FitsAs, FieldsFit, AllFit, PairsFit, FitsOption}
+use Rattle.pbx_json_laws.proofs.LinesBack.{ValuesBack, lines_back}
+use Rattle.pbx_json_laws.proofs.NamesBack.{key_names, fault_by_name}
+use Rattle.pbx_json_laws.proofs.ScalarsBack.{number_back, truth_back, text_as_is, bytes_back, key_back, no_null}
+use Rattle.pbx_json_laws.proofs.Back.{kind_by, tells_kind, IsBack, element_says, field_says, scalar_is_back, no_float}
+use Rattle.pbx_json_laws.proofs.DefaultsBack.{default_back}
+use Rattle.pbx_json_laws.proofs.FitTrees.{standing_fits}
+use Rattle.pbx_json_laws.proofs.Read.{said_is}
+use Rattle.pbx_json_laws.proofs.Parts.{of_some}
+use Rattle.pbx_json_laws.proofs.FitSound.{no_number}
+
+module _ (shape : Shape) (proper : IsProper shape) (well : IsWellNamed shape) (o : SerializeOptions) (clean : name_fault o.use_proto_field_name shape ≡ None) where
+  named : (t n : ℕ) (f : FieldShape) → field_of n (declared_of shape t) ≡ Some f → field_named (key_of_field o f) (declared_of shape t) ≡ Some f
+  named t n f e = key_names shape t o proper well clean n f e
+
+  -- ---- messages
+
+  abbrev ContentBack : Content → ℕ → Type 0
+  ContentBack c t = (ms : Members) × (content_tree shape o c t ≡ Some (object ms)) × (message_as shape false t (object ms) (entries_said shape false ms) ≡ Some c)
+
+  none_kept : (gs : List FieldShape) → keeps_float gs [] ≡ false
+  none_kept [] = refl
+  none_kept (f ∷ gs) = rw (at (is_float f.kind), none_kept gs) refl
+    where
+      at : (b : Bool) → (b && false) ≡ false
+      at true = refl
+      at false = refl
+
+  content_of_lines : (fs : Fields) (kept : List Rec) (t : ℕ) → FitsAs shape (content.content fs kept) t
+      → ValuesBack shape o (declared_of shape t) (named t) fs (fields_tell shape o fs) → ContentBack (content.content fs kept) t
+  content_of_lines fs kept t h back =
+      let gs = declared_of shape t in
+      let it = lines_back shape o gs (named t) (proper.types t) fs h.2 h.3 (fields_tell shape o fs) back (λ f e w. default_back shape proper well o fs f w) in
+      let bare : kept ≡ [] = h.0 in
+      let made : content_tree shape o (content.content fs []) t ≡ Some (object it.0) =
+      rw (h.1, none_kept gs) (ap (λ r. option_map object r) it.1) in
+      let says : message_as shape false t (object it.0) (entries_said shape false it.0) ≡ Some (content.content fs []) = rw h.1 it.2 in
+      let P : List Rec → Type 0 = λ k. ContentBack (content.content fs k) t in
+      subst P (sym bare) (it.0, made, says)
+
+  -- ---- lists and maps
+
+  abbrev somes : Vals → List (Option Val)
+  somes content.no_vals = []
+  somes (content.val v vs) = Some v ∷ somes vs
+
+  present_somes : (vs : Vals) → vals_of (present (somes vs)) ≡ vs
+  present_somes content.no_vals = refl
+  present_somes (content.val v vs) = ap (content.val v) (present_somes vs)
+
+  -- each element has a tree, which says it
+  abbrev ElementsBack : Vals → Kind → Type 0
+  ElementsBack vs k =
+      (ds : List Data) × (all_read (λ (t : Tells). t (one k)) (vals_tell shape o vs) ≡ Some ds)
+      × (all_read (λ (s : Says). s (one k)) (items_said shape false (items_of ds)) ≡ Some (somes vs))
+
+  abbrev ValueBack : Val → Target → Type 0
+  ValueBack v tg = (d : Data) × IsBack shape o tg v d
+
+  one_more : (v : Val) (vs : Vals) (k : Kind) → ValueBack v (single k) → ElementsBack vs k → ElementsBack (content.val v vs) k
+  one_more v vs k it rest = (
+    it.0 ∷ rest.0,
+    ap (option_and_then (λ y. option_map (λ ys. y ∷ ys) (all_read (λ (t : Tells). t (one k)) (vals_tell shape o vs)))) it.1.made
+        ∙ ap (option_map (λ ys. it.0 ∷ ys)) rest.1,
+    ap (option_and_then (λ y. option_map (λ ys. y ∷ ys) (all_read (λ (s : Says). s (one k)) (items_said shape false (items_of rest.0)))))
+        (element_says shape o k v it.0 it.1)
+        ∙ ap (option_map (λ ys. Some v ∷ ys)) rest.2,
+  )
+
+  list_back : (v : Val) (vs : Vals) (k : Kind) → is_float k ≡ false → ValueBack v (single k) → ElementsBack vs k
+      → ValueBack (content.many (content.val v vs)) (list k)
+  unfolding one_more
+  list_back v vs k f it rest =
+      let all = one_more v vs k it rest in (
+        array (item it.0 (items_of rest.0)),
+        record {
+          made = ap (option_map (λ ds. array (items_of ds))) all.1;
+          says = rw f (ap (option_map (λ os. Some (content.many (vals_of (present os))))) all.2
+              ∙ ap (λ x. Some (Some (content.many x))) (present_somes (content.val v vs)));
+          null_ok = λ e. absurd (no_null (array (item it.0 (items_of rest.0))) (λ x. x) e);
+        },
+      )
+
+  abbrev PairsBack : Pairs → Kind → Kind → Type 0
+  PairsBack ps kk vk = LinesSay shape false kk vk ps (map_list (entry_line vk) (pairs_tell shape o ps))
+
+  pairs_float : (ps : Pairs) (kk vk : Kind) → is_default shape vk (content.keyed ps) ≡ false → PairsFit shape ps kk vk → is_float vk ≡ false
+  pairs_float content.no_pairs kk vk n h = absurd (cc)
+  pairs_float (content.pair l v ps) kk vk n h = no_float shape o vk v h.1
+
+  map_back : (ps : Pairs) (kk vk : Kind) → is_default shape vk (content.keyed ps) ≡ false → is_float vk ≡ false → PairsBack ps kk vk
+      → ValueBack (content.keyed ps) (map kk vk)
+  map_back ps kk vk n f lines_say =
+      let it = lines_read shape false kk vk ps (map_list (entry_line vk) (pairs_tell shape o ps)) lines_say in (
+        object it.0,
+        record {
+          made = ap (option_map object) it.1;
+          says = says it.0 it.2;
+          null_ok = λ e. absurd (no_null (object it.0) (λ x. x) e);
+        },
+      )
+    where
+      says : (ms : Members) → ReadsAs shape false kk vk ps ms → map_as kk vk (object ms) (entries_said shape false ms) ≡ Some (Some (content.keyed ps))
+      says no_members r =
+          let none : [] ≡ r.found = of_some [] r.found r.reads in
+          let bare : content.no_pairs ≡ ps = ap (λ es. pairs_of es) none ∙ r.pairs in
+          let bad : true ≡ false = ap (λ x. is_default shape vk (content.keyed x)) bare ∙ n in
+          absurd (cc)
+      says (member s d ms) r =
+          let read_all : entries_read kk vk (entries_said shape false (member s d ms)) ≡ Some (Some (content.keyed ps)) =
+          ap (option_and_then if_differ) r.reads ∙ rw (r.differ, r.pairs) refl in
+          rw f read_all
+
+  -- ---- all values
+
+  message_back : (c : Content) (k : Kind) (t : ℕ) → k ≡ kind.Message t → ContentBack c t → ValueBack (content.message c) (single k)
+  message_back c k t e it =
+      let P : Kind → Type 0 = λ x. ValueBack (content.message c) (single x) in
+      subst P (sym e) (
+        object it.0,
+        record {
+          made = it.1;
+          says = ap (λ r. option_map (λ c. Some (content.message c)) r) it.2;
+          null_ok = λ q. absurd (no_null (object it.0) (λ x. x) q);
+        },
+      )
+
+  field_value : (v : Val) (fs : Fields) (n : ℕ) (gs : List FieldShape) → ((tg : Target) → Fits shape v tg → ValueBack v tg)
+      → (x : Option FieldShape) → field_of n gs ≡ x → FitsOption shape v (Fits shape v) x
+      → (f : FieldShape) × (field_of n gs ≡ Some f)
+      × ((d : Data) × (tells shape o v (field f) ≡ Some d) × (said shape false d (field f) ≡ Some (Some v)))
+  field_value v fs n gs back None e h = absurd h
+  field_value v fs n gs back (Some f) e h =
+      let it = back (target_by f f.cardinality) h.0 in (
+        f,
+        e,
+        (
+          it.0,
+          tells_kind shape o v f ∙ ap (λ k. tells shape o v (one k)) (sym (kind_by f f.cardinality)) ∙ it.1.made,
+          field_says shape o f (Some v) it.0 it.1.says it.1.null_ok (Some v) h.1,
+        ),
+      )
+
+  mutual
+    value_back : (v : Val) (tg : Target) → Fits shape v tg → ValueBack v tg
+    value_back (content.number z) (single k) h =
+        let it = number_back shape well o k z h.0 h.1 in
+        (it.0, scalar_is_back shape o k (content.number z) it.0 (no_number k z h.0) it.1)
+    value_back (content.truth b) (single k) h =
+        let it = truth_back shape well o k b h in
+        (it.0, scalar_is_back shape o k (content.truth b) it.0 (λ t e. absurd (let q : kind.Bool ≡ kind.Message t = sym h ∙ e in cc)) it.1)
+    value_back (content.text s) (single k) h =
+        let it = text_as_is shape well o k s h.0 in
+        (it.0, scalar_is_back shape o k (content.text s) it.0 (λ t e. absurd (let q : kind.String ≡ kind.Message t = sym h.0 ∙ e in cc)) it.1)
+    value_back (content.octets s) (single k) h =
+        let it = bytes_back shape well o k s h.0 h.1 in
+        (it.0, scalar_is_back shape o k (content.octets s) it.0 (λ t e. absurd (let q : kind.Bytes ≡ kind.Message t = sym h.0 ∙ e in cc)) it.1)
+    value_back (content.message c) (single k) h = message_back c k h.0 h.1 (content_back c h.0 h.2)
+    value_back (content.many vs) (list k) h = many_back vs k h.0 h.1
+    value_back (content.keyed ps) (map kk vk) h = map_back ps kk vk h.0 (pairs_float ps kk vk h.0 h.1) (pairs_back ps kk vk h.1)
+    value_back _ _ h = absurd h
+
+    many_back : (vs : Vals) (k : Kind) → is_default shape k (content.many vs) ≡ false → AllFit shape vs k → ValueBack (content.many vs) (list k)
+    many_back content.no_vals k n h = absurd (cc)
+    many_back (content.val v vs) k n h = list_back v vs k (no_float shape o k v h.0) (value_back v (single k) h.0) (elements_back vs k h.1)
+
+    elements_back : (vs : Vals) (k : Kind) → AllFit shape vs k → ElementsBack vs k
+    elements_back content.no_vals k h = ([], refl, refl)
+    elements_back (content.val v vs) k h = one_more v vs k (value_back v (single k) h.0) (elements_back vs k h.1)
+
+    pairs_back : (ps : Pairs) (kk vk : Kind) → PairsFit shape ps kk vk → PairsBack ps kk vk
+    pairs_back content.no_pairs kk vk h = tt
+    pairs_back (content.pair l v ps) kk vk h =
+        let it = value_back v (single vk) h.1 in
+        (key_back kk l h.0, (it.0, it.1.made, element_says shape o vk v it.0 it.1), h.2, pairs_back ps kk vk h.3)
+
+    content_back : (c : Content) (t : ℕ) → FitsAs shape c t → ContentBack c t
+    content_back (content.content fs kept) t h = content_of_lines fs kept t h (fields_back fs t h.4)
+
+    fields_back : (fs : Fields) (t : ℕ) → FieldsFit shape fs (declared_of shape t) → ValuesBack shape o (declared_of shape t) (named t) fs (fields_tell shape o fs)
+    fields_back content.no_fields t h = tt
+    fields_back (content.field n v fs) t h =
+        (refl, field_value v fs n (declared_of shape t) (value_back v) (field_of n (declared_of shape t)) refl h.0, fields_back fs t h.1)
+
+-- ---- the laws
+
+-- what stands for a tree has a canonical tree, which stands for it again
+again : (shape : Shape) (t : ℕ) (allow : Bool) (tree : Data) (c : Content) (o : SerializeOptions) → IsProper shape → IsWellNamed shape
+    → name_fault o.use_proto_field_name shape ≡ None → HasTexts tree → Stands shape t allow tree c
+    → (d : Data) × (canonical shape t c o ≡ Some d) × Stands shape t false d c
+again shape t allow tree c o proper well clean texts h =
+    let it = content_back shape proper well o clean c t (standing_fits shape t allow tree c proper well texts h) in (
+      object it.0,
+      it.1,
+      ap message_in (said_is shape false (object it.0) (one (kind.Message t))) ∙ ap (λ r. message_in (option_map (λ c. Some (content.message c)) r)) it.2,
+    )
+
+-- the one tree that is written
+of_written : (shape : Shape) (t : ℕ) (c : Content) (o : SerializeOptions) (d : Data) → (e : Data) × (canonical shape t c o ≡ Some e) × Stands shape t false e c
+    → canonical shape t c o ≡ Some d → Stands shape t false d c
+of_written shape t c o d it h =
+    let same : it.0 ≡ d = of_some it.0 d (sym it.1 ∙ h) in
+    let P : Data → Type 0 = λ x. Stands shape t false x c in
+    subst P same it.2
+
+pub standing_is_written : StandingIsWritten
+standing_is_written shape t allow tree c o proper well clean texts h =
+    let it = again shape t allow tree c o proper well clean texts h in
+    (it.0, it.1)
+
+pub canonical_stands : CanonicalStands
+canonical_stands shape t allow tree d c o proper well clean texts by_json h made =
+    let none : name_fault o.use_proto_field_name shape ≡ None = ap (λ b. name_fault b shape) by_json ∙ clean in
+    of_written shape t c o d (again shape t allow tree c o proper well none texts h) made
+
+pub written_stands : WrittenStands
+written_stands shape t allow tree d c o proper well clean texts h made =
+    of_written shape t c o d (again shape t allow tree c o proper well (fault_by_name o.use_proto_field_name shape clean) texts h) made

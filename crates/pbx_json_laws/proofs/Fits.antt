@@ -1,0 +1,72 @@
+-- What is known of a value that was read from a tree, by what was asked of the tree.
+use Rattle.std.proofs.Common.{◌≡◌, ℕ, ℤ, pos, true, false, List, [], Option, Some, None}
+use Rattle.std.specs.Str.{is_utf8}
+use Rattle.base64.specs.GeneralPurpose.{IsBytes}
+use Rattle.pbx_meaning.specs.Content as content
+use Rattle.pbx_meaning.specs.Content.{Content, Fields, Val, Vals, Pairs, Key, IsAscending}
+use Rattle.pbx_meaning.specs.Meaning.{shown, is_default}
+use Rattle.pbx_meaning.specs.Shape.{declared_of, field_of}
+use Rattle.pbx_meaning.specs.Sound.{IsNumber, IsKeyOf, IsBefore, has_one_member}
+use Rattle.pbx_meaning.specs.declared.shape.Kind.{Kind}
+use Rattle.pbx_meaning.specs.declared.shape.Kind.TheVariants as kind
+use Rattle.pbx_meaning.specs.declared.shape.FieldShape.{FieldShape}
+use Rattle.pbx_meaning.specs.declared.shape.Shape.{Shape}
+use Rattle.pbx_wkt.specs.Names.{is_well_known}
+use Rattle.pbx_json_meaning.specs.Types.{message_name}
+use Rattle.pbx_json_meaning.specs.Scalars.{is_null_value}
+use Rattle.pbx_json_meaning.specs.Asked.{Asked, field, one, Target, nothing, single, list, map, target_by, has_presence}
+
+-- `NullValue` has one value
+abbrev pub IsNull : Shape → Kind → ℤ → Type 0
+IsNull shape (kind.Enum e) z = is_null_value shape e ≡ true → z ≡ pos 0
+IsNull shape _ z = Unit {0}
+
+-- a value of a field, which is not hidden as a default
+abbrev pub FitsOption : Shape → Val → (Target → Type 0) → Option FieldShape → Type 0
+FitsOption shape v P None = ⊥
+FitsOption shape v P (Some f) = P (target_by f f.cardinality) × (shown shape (has_presence f) f.kind (Some v) ≡ Some v)
+
+abbrev mutual
+  -- a value that is read
+  pub Fits : Shape → Val → Target → Type 0
+  Fits shape (content.number z) (single k) = IsNumber k z × IsNull shape k z
+  Fits shape (content.truth b) (single k) = k ≡ kind.Bool
+  Fits shape (content.text s) (single k) = (k ≡ kind.String) × (is_utf8 s ≡ true)
+  Fits shape (content.octets b) (single k) = (k ≡ kind.Bytes) × IsBytes b
+  Fits shape (content.message c) (single k) = (t : ℕ) × (k ≡ kind.Message t) × FitsAs shape c t
+  Fits shape (content.many vs) (list k) = (is_default shape k (content.many vs) ≡ false) × AllFit shape vs k
+  Fits shape (content.keyed ps) (map kk vk) = (is_default shape vk (content.keyed ps) ≡ false) × PairsFit shape ps kk vk
+  Fits shape _ _ = ⊥
+
+  -- a message that is read
+  pub FitsAs : Shape → Content → ℕ → Type 0
+  FitsAs shape (content.content fs kept) t =
+      (kept ≡ []) × (is_well_known (message_name shape t) ≡ false) × IsAscending fs × (has_one_member (declared_of shape t) fs ≡ true)
+      × FieldsFit shape fs (declared_of shape t)
+
+  -- each value is that of the field of its number
+  pub FieldsFit : Shape → Fields → List FieldShape → Type 0
+  FieldsFit shape content.no_fields gs = Unit {0}
+  FieldsFit shape (content.field n v fs) gs = FitsOption shape v (Fits shape v) (field_of n gs) × FieldsFit shape fs gs
+
+  -- each element is
+  pub AllFit : Shape → Vals → Kind → Type 0
+  AllFit shape content.no_vals k = Unit {0}
+  AllFit shape (content.val v vs) k = Fits shape v (single k) × AllFit shape vs k
+
+  -- each entry is, and the keys ascend
+  pub PairsFit : Shape → Pairs → Kind → Kind → Type 0
+  PairsFit shape content.no_pairs kk vk = Unit {0}
+  PairsFit shape (content.pair l v ps) kk vk = IsKeyOf kk l × Fits shape v (single vk) × IsBefore l ps × PairsFit shape ps kk vk
+
+-- what is asked is answered
+abbrev pub Answers : Shape → Asked → Val → Type 0
+Answers shape (field f) v = FitsOption shape v (Fits shape v) (Some f)
+Answers shape (one k) v = Fits shape v (single k)
+
+-- a list or a map is not empty where one is asked for
+abbrev pub IsFilled : Shape → Val → Target → Type 0
+IsFilled shape v nothing = Unit {0}
+IsFilled shape v (single k) = Unit {0}
+IsFilled shape v (list k) = is_default shape k v ≡ false
+IsFilled shape v (map kk vk) = is_default shape vk v ≡ false

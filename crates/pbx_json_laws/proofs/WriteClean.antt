@@ -1,0 +1,258 @@
+-- What has a canonical tree has no fault in writing.
+use Rattle.std.proofs.Common.{◌≡◌, ◌⊎◌, inl, inr, ℕ, zero, suc, ◌&&◌, ◌||◌, ◌++◌, List, [], ◌∷◌, map as map_list, filter, Bool, true, false, if◌then◌else◌, Option, Some, None, option_map, refl, ap, sym, ◌∙◌, subst}
+use Rattle.std.specs.Prelude.{Ok, Err}
+use Rattle.std.specs.List.{list_any}
+use Rattle.std.specs.Str.{bytes_eq}
+use Rattle.serde_json.specs.Data.{Data, array, object, Members}
+use Rattle.pbx_wire.specs.declared.rec.Rec.{Rec}
+use Rattle.pbx_meaning.specs.Content as content
+use Rattle.pbx_meaning.specs.Content.{Content, Fields, Val, Vals, Pairs}
+use Rattle.pbx_meaning.specs.Content.{Key as MapKey}
+use Rattle.pbx_meaning.specs.Encoding.{type_of}
+use Rattle.pbx_meaning.specs.Shape.{declared_of, field_of, is_float}
+use Rattle.pbx_meaning.specs.declared.shape.Kind.{Kind}
+use Rattle.pbx_meaning.specs.declared.shape.FieldShape.{FieldShape}
+use Rattle.pbx_meaning.specs.declared.shape.Shape.{Shape}
+use Rattle.pbx_wkt.specs.Names.{is_well_known}
+use Rattle.pbx_json_meaning.specs.Types.{message_name}
+use Rattle.pbx_json_meaning.specs.Asked.{Asked, field, one}
+use Rattle.pbx_json_meaning.specs.Canonical.{Line, Tells, Told, key_of_field, is_kept_of, keeps_float, is_written_default, default_line, told_line, lines, members_of_lines, key_text}
+use Rattle.pbx_json_meaning.specs.Canonical.{object_tree, kind_asked, items_of, entry_line, tells, fields_tell, vals_tell, pairs_tell}
+use Rattle.pbx_json_meaning.specs.Faults.{SomeWith, OkWith}
+use Rattle.pbx_json_meaning.specs.Stands.{all_read}
+use Rattle.pbx_json_meaning.specs.WriteFaults.{Parts, leaf, elements, keyed, members, Taken, parts_of, val_at, val_under, is_under, asked_of, field_under}
+use Rattle.pbx_json_meaning.specs.WriteFaults.{into_written, key_in, value_keys, is_twice, KeyBreaks, IsKeyFault, WriteFaultAt}
+use Rattle.pbx_json_meaning.specs.declared.kind.JsonKind.{JsonKind}
+use Rattle.pbx_json_meaning.specs.declared.kind.JsonKind.TheVariants as fault
+use Rattle.pbx_json_meaning.specs.declared.options.SerializeOptions.{SerializeOptions}
+use Rattle.pbx_json_meaning.specs.declared.place.Step.{Step}
+use Rattle.pbx_json_meaning.specs.declared.place.Step.TheVariants.{Key, Index}
+use Rattle.pbx_json_laws.proofs.LinesMade.{keys_of, Added, added, never_twice}
+use Rattle.pbx_json_laws.proofs.Parts.{from_then, from_map, unless_some, of_some, neither, some_with}
+
+module _ (shape : Shape) (o : SerializeOptions) where
+  -- what a step leads to has no tree
+  abbrev IsNeverTold : Val × Asked → Type 0
+  IsNeverTold next = (d : Data) → tells shape o next.0 next.1 ≡ Some d → ⊥
+
+  -- a step that breaks a rule, or leads to what has no tree
+  abbrev IsBroken : Parts → Step → List Step → JsonKind → Type 0
+  IsBroken parts step place kind = IsKeyFault o parts step place kind ⊎ SomeWith (into_written o parts step) IsNeverTold
+
+  -- ---- lists and maps
+
+  element_told : (k : Kind) (i : ℕ) (v : Val) (vs : Vals) (ds : List Data) → val_at i vs ≡ Some v
+      → all_read (λ (t : Tells). t (one k)) (vals_tell shape o vs) ≡ Some ds → (d : Data) × (tells shape o v (one k) ≡ Some d)
+  element_told k i v content.no_vals ds g h = absurd (cc)
+  element_told k zero v (content.val w vs) ds g h =
+      let it = from_then (λ y. option_map (λ ys. y ∷ ys) (all_read (λ (t : Tells). t (one k)) (vals_tell shape o vs))) (tells shape o w (one k)) ds h in
+      (it.0, ap (λ x. tells shape o x (one k)) (sym (of_some w v g)) ∙ it.1)
+  element_told k (suc i) v (content.val w vs) ds g h =
+      let it = from_then (λ y. option_map (λ ys. y ∷ ys) (all_read (λ (t : Tells). t (one k)) (vals_tell shape o vs))) (tells shape o w (one k)) ds h in
+      let rest = from_map (λ ys. it.0 ∷ ys) (all_read (λ (t : Tells). t (one k)) (vals_tell shape o vs)) ds it.2 in
+      element_told k i v vs rest.0 g rest.1
+
+  elements_clean : (k : Kind) (vs : Vals) (ds : List Data) → all_read (λ (t : Tells). t (one k)) (vals_tell shape o vs) ≡ Some ds
+      → (step : Step) (place : List Step) (kind : JsonKind) → IsBroken (elements k vs) step place kind → ⊥
+  elements_clean k vs ds h (Key s) place kind (inl b) = b.1
+  elements_clean k vs ds h (Index i) place kind (inl b) = b
+  elements_clean k vs ds h (Key s) place kind (inr b) = b
+  elements_clean k vs ds h (Index i) place kind (inr b) = at (val_at i vs) refl b
+    where
+      at : (x : Option Val) → val_at i vs ≡ x → SomeWith (option_map (λ v. (v, one k)) x) IsNeverTold → ⊥
+      at None e b = b
+      at (Some v) e b = let it = element_told k i v vs ds e h in b it.0 it.1
+
+  entry_told : (k : Kind) (s : List ℕ) (v : Val) (ps : Pairs) (ms : Members) → val_under s ps ≡ Some v
+      → members_of_lines (map_list (entry_line k) (pairs_tell shape o ps)) ≡ Some ms → (d : Data) × (tells shape o v (one k) ≡ Some d)
+  entry_told k s v content.no_pairs ms g h = absurd (cc)
+  entry_told k s v (content.pair l w ps) ms g h = at (bytes_eq (key_text l) s) g
+      (λ q. entry_told k s v ps it.others q it.rest)
+    where
+      it : Added (key_text l, tells shape o w (one k)) (map_list (entry_line k) (pairs_tell shape o ps)) ms
+      it = added (key_text l, tells shape o w (one k)) (map_list (entry_line k) (pairs_tell shape o ps)) ms h
+
+      at : (b : Bool) → (if b then Some w else val_under s ps) ≡ Some v → (val_under s ps ≡ Some v → (d : Data) × (tells shape o v (one k) ≡ Some d))
+          → (d : Data) × (tells shape o v (one k) ≡ Some d)
+      at true q ih = (it.tree, ap (λ x. tells shape o x (one k)) (sym (of_some w v q)) ∙ it.has_tree)
+      at false q ih = ih q
+
+  keyed_clean : (k : Kind) (ps : Pairs) (ms : Members) → members_of_lines (map_list (entry_line k) (pairs_tell shape o ps)) ≡ Some ms
+      → (step : Step) (place : List Step) (kind : JsonKind) → IsBroken (keyed k ps) step place kind → ⊥
+  keyed_clean k ps ms h (Key s) place kind (inl b) = b.1
+  keyed_clean k ps ms h (Index i) place kind (inl b) = b
+  keyed_clean k ps ms h (Index i) place kind (inr b) = b
+  keyed_clean k ps ms h (Key s) place kind (inr b) = at (val_under s ps) refl b
+    where
+      at : (x : Option Val) → val_under s ps ≡ x → SomeWith (option_map (λ v. (v, one k)) x) IsNeverTold → ⊥
+      at None e b = b
+      at (Some v) e b = let it = entry_told k s v ps ms e h in b it.0 it.1
+
+  -- ---- messages
+
+  module _ (gs : List FieldShape) where
+    abbrev pub value_line : Told → Line
+    value_line t = told_line o t.tells (field_of t.number gs)
+
+    abbrev pub value_lines : Fields → List Line
+    value_lines fs = map_list value_line (fields_tell shape o fs)
+
+    -- the line of a field that has a tree
+    line_told : (t : Tells) (x : Option FieldShape) (d : Data) → (told_line o t x).1 ≡ Some d
+        → (f : FieldShape) × (x ≡ Some f) × (t (field f) ≡ Some d)
+    line_told t None d h = absurd (cc)
+    line_told t (Some f) d h = (f, refl, h)
+
+    field_told : (s : List ℕ) (next : Val × Asked) (ys : List Line) (fs : Fields) (ms : Members) → field_under o s gs fs ≡ Some next
+        → members_of_lines (value_lines fs ++ ys) ≡ Some ms → (d : Data) × (tells shape o next.0 next.1 ≡ Some d)
+    field_told s next ys content.no_fields ms g h = absurd (cc)
+    field_told s next ys (content.field n v fs) ms g h =
+        at (is_under o s (field_of n gs)) g (λ q. field_told s next ys fs it.others q it.rest)
+      where
+        head : Line
+        head = told_line o (tells shape o v) (field_of n gs)
+
+        it : Added (told_line o (tells shape o v) (field_of n gs)) (value_lines fs ++ ys) ms
+        it = added (told_line o (tells shape o v) (field_of n gs)) (value_lines fs ++ ys) ms h
+
+        own : (x : Option FieldShape) → field_of n gs ≡ x → asked_of x v ≡ Some next → (d : Data) × (tells shape o next.0 next.1 ≡ Some d)
+        own None e q = absurd (cc)
+        own (Some f) e q =
+            let line = line_told (tells shape o v) (field_of n gs) it.tree it.has_tree in
+            let same : line.0 ≡ f = of_some line.0 f (sym line.1 ∙ e) in
+            let is : (v, field f) ≡ next = of_some _ next q in
+            let P : Val × Asked → Type 0 = λ x. (d : Data) × (tells shape o x.0 x.1 ≡ Some d) in
+            subst P is (it.tree, ap (λ x. tells shape o v (field x)) (sym same) ∙ line.2)
+
+        at : (b : Bool) → (if b then asked_of (field_of n gs) v else field_under o s gs fs) ≡ Some next
+            → (field_under o s gs fs ≡ Some next → (d : Data) × (tells shape o next.0 next.1 ≡ Some d)) → (d : Data) × (tells shape o next.0 next.1 ≡ Some d)
+        at true q ih = own (field_of n gs) refl q
+        at false q ih = ih q
+
+    pub default_keys : (ds : List FieldShape) → keys_of (map_list (default_line shape o) ds) ≡ map_list (key_of_field o) ds
+    default_keys [] = refl
+    default_keys (d ∷ ds) = ap (λ x. key_of_field o d ∷ x) (default_keys ds)
+
+    -- the keys of the lines are those that are written
+    keys_are : (ds : List FieldShape) (fs : Fields) (ms : Members) → members_of_lines (value_lines fs ++ map_list (default_line shape o) ds) ≡ Some ms
+        → keys_of (value_lines fs ++ map_list (default_line shape o) ds) ≡ value_keys o gs fs ++ map_list (key_of_field o) ds
+    keys_are ds content.no_fields ms h = default_keys ds
+    keys_are ds (content.field n v fs) ms h =
+        let ys = map_list (default_line shape o) ds in
+        let it = added (told_line o (tells shape o v) (field_of n gs)) (value_lines fs ++ ys) ms h in
+        let line = line_told (tells shape o v) (field_of n gs) it.tree it.has_tree in
+        ap (λ x. (told_line o (tells shape o v) x).0 ∷ keys_of (value_lines fs ++ ys)) line.1
+        ∙ ap (λ x. key_of_field o line.0 ∷ x) (keys_are ds fs it.others it.rest)
+        ∙ ap (λ x. (key_in o x ++ value_keys o gs fs) ++ map_list (key_of_field o) ds) (sym line.1)
+
+    -- no key of a float field is at fault where none has a kept record
+    no_float_key : (kept : List Rec) (s : List ℕ) (fs : List FieldShape) → list_any (λ f. is_float f.kind && is_kept_of kept f) fs ≡ false
+        → list_any (λ f. is_float f.kind && is_kept_of kept f && bytes_eq (key_of_field o f) s) fs ≡ true → ⊥
+    no_float_key kept s [] n h = cc
+    no_float_key kept s (f ∷ fs) n h =
+        let parts = neither (is_float f.kind && is_kept_of kept f) (list_any (λ f. is_float f.kind && is_kept_of kept f) fs) n in
+        at (is_float f.kind && is_kept_of kept f) (bytes_eq (key_of_field o f) s) parts.0 h (λ q. no_float_key kept s fs parts.1 q)
+      where
+        at : (a b : Bool) → a ≡ false → ((a && b) || list_any (λ f. is_float f.kind && is_kept_of kept f && bytes_eq (key_of_field o f) s) fs) ≡ true
+            → (list_any (λ f. is_float f.kind && is_kept_of kept f && bytes_eq (key_of_field o f) s) fs ≡ true → ⊥) → ⊥
+        at true b e q ih = cc
+        at false b e q ih = ih q
+
+    members_clean : (fs : Fields) (kept : List Rec) (d : Data) → object_tree shape o gs fs kept (fields_tell shape o fs) ≡ Some d
+        → (step : Step) (place : List Step) (kind : JsonKind) → IsBroken (members gs fs kept) step place kind → ⊥
+    members_clean fs kept d h (Index i) place kind (inl b) = b
+    members_clean fs kept d h (Index i) place kind (inr b) = b
+    members_clean fs kept d h (Key s) place kind (inl b) = at kind b.1
+      where
+        free : (keeps_float gs kept ≡ false) × (option_map object (members_of_lines (lines shape o gs fs (fields_tell shape o fs))) ≡ Some d)
+        free = unless_some (keeps_float gs kept) (option_map object (members_of_lines (lines shape o gs fs (fields_tell shape o fs)))) d h
+
+        made : (ms : Members) × (members_of_lines (lines shape o gs fs (fields_tell shape o fs)) ≡ Some ms) × (object ms ≡ d)
+        made = from_map object (members_of_lines (lines shape o gs fs (fields_tell shape o fs))) d free.1
+
+        at : (kind : JsonKind) → KeyBreaks o (members gs fs kept) s kind → ⊥
+        at fault.DuplicateField k =
+            let never = never_twice s (lines shape o gs fs (fields_tell shape o fs)) made.0 made.1 in
+            let keys = keys_are (filter (is_written_default o fs) gs) fs made.0 made.1 in
+            let bad : true ≡ false = sym k ∙ ap (is_twice s) (sym keys) ∙ never in
+            cc
+        at fault.Float k = no_float_key kept s gs free.0 k
+        at _ k = k
+    members_clean fs kept d h (Key s) place kind (inr b) = at (field_under o s gs fs) refl b
+      where
+        free : (keeps_float gs kept ≡ false) × (option_map object (members_of_lines (lines shape o gs fs (fields_tell shape o fs))) ≡ Some d)
+        free = unless_some (keeps_float gs kept) (option_map object (members_of_lines (lines shape o gs fs (fields_tell shape o fs)))) d h
+
+        made : (ms : Members) × (members_of_lines (lines shape o gs fs (fields_tell shape o fs)) ≡ Some ms) × (object ms ≡ d)
+        made = from_map object (members_of_lines (lines shape o gs fs (fields_tell shape o fs))) d free.1
+
+        at : (x : Option (Val × Asked)) → field_under o s gs fs ≡ x → SomeWith x IsNeverTold → ⊥
+        at None e q = q
+        at (Some next) e q =
+            let it = field_told s next (map_list (default_line shape o) (filter (is_written_default o fs) gs)) fs made.0 e made.1 in
+            q it.0 it.1
+
+  -- ---- all values
+
+  -- the value itself breaks a rule, or what is written below it
+  abbrev IsFaulty : Taken → Type 0
+  IsFaulty t =
+      ((kind : JsonKind) × (t ≡ Err kind))
+      ⊎ ((parts : Parts) × (t ≡ Ok parts) × ((step : Step) × (place : List Step) × (kind : JsonKind) × IsBroken parts step place kind))
+
+  no_error : (t : Taken) (x : Parts) (k : JsonKind) → t ≡ Ok x → t ≡ Err k → ⊥
+  no_error t x k p q = cc
+
+  one_part : (t : Taken) (x y : Parts) → t ≡ Ok x → t ≡ Ok y → x ≡ y
+  one_part t x y p q = cc
+
+  none_below : (t : Taken) (parts : Parts) → t ≡ Ok parts → ((step : Step) (place : List Step) (kind : JsonKind) → IsBroken parts step place kind → ⊥)
+      → IsFaulty t → ⊥
+  none_below t parts e f (inl b) = no_error t parts b.0 e b.1
+  none_below t parts e f (inr b) =
+      let P : Parts → Type 0 = λ x. IsBroken x b.2.0 b.2.1 b.2.2 in
+      f b.2.0 b.2.1 b.2.2 (subst P (one_part t b.0 parts b.1 e) b.2.3)
+
+  leaf_clean : (step : Step) (place : List Step) (kind : JsonKind) → IsBroken leaf step place kind → ⊥
+  leaf_clean (Key k) place kind (inl b) = b.1
+  leaf_clean (Index i) place kind (inl b) = b
+  leaf_clean (Key k) place kind (inr b) = b
+  leaf_clean (Index i) place kind (inr b) = b
+
+  told_clean : (v : Val) (a : Asked) (d : Data) → tells shape o v a ≡ Some d → IsFaulty (parts_of shape v a) → ⊥
+  told_clean (content.number z) a d h b = none_below (Ok leaf) leaf refl leaf_clean b
+  told_clean (content.truth z) a d h b = none_below (Ok leaf) leaf refl leaf_clean b
+  told_clean (content.text z) a d h b = none_below (Ok leaf) leaf refl leaf_clean b
+  told_clean (content.octets z) a d h b = none_below (Ok leaf) leaf refl leaf_clean b
+  told_clean (content.many vs) a d h b =
+      let k = kind_asked a in
+      let it = from_map (λ ds. array (items_of ds)) (all_read (λ (t : Tells). t (one k)) (vals_tell shape o vs)) d h in
+      none_below (Ok (elements k vs)) (elements k vs) refl (elements_clean k vs it.0 it.1) b
+  told_clean (content.keyed ps) a d h b =
+      let k = kind_asked a in
+      let it = from_map object (members_of_lines (map_list (entry_line k) (pairs_tell shape o ps))) d h in
+      none_below (Ok (keyed k ps)) (keyed k ps) refl (keyed_clean k ps it.0 it.1) b
+  told_clean (content.message (content.content fs kept)) a d h b =
+      let t = type_of (kind_asked a) in
+      let gs = declared_of shape t in
+      let own = unless_some (is_well_known (message_name shape t)) (object_tree shape o gs fs kept (fields_tell shape o fs)) d h in
+      let P : Bool → Type 0 = λ x. IsFaulty (if x then Err fault.NotBuilt else Ok (members gs fs kept)) in
+      none_below (Ok (members gs fs kept)) (members gs fs kept) refl (members_clean gs fs kept d own.1) (subst P own.0 b)
+
+  taken_with : (t : Taken) (step : Step) (place : List Step) (kind : JsonKind)
+      → ((next : Val × Asked) → WriteFaultAt shape o place next.0 next.1 kind → IsNeverTold next)
+      → OkWith t (λ parts. IsKeyFault o parts step place kind ⊎ SomeWith (into_written o parts step) (λ next. WriteFaultAt shape o place next.0 next.1 kind))
+      → IsFaulty t
+  taken_with (Err e) step place kind f h = absurd h
+  taken_with (Ok parts) step place kind f h = inr (parts, refl, (step, place, kind, broken h))
+    where
+      broken : IsKeyFault o parts step place kind ⊎ SomeWith (into_written o parts step) (λ next. WriteFaultAt shape o place next.0 next.1 kind)
+          → IsBroken parts step place kind
+      broken (inl b) = inl b
+      broken (inr b) = inr (some_with (λ next. WriteFaultAt shape o place next.0 next.1 kind) IsNeverTold (into_written o parts step) f b)
+
+  -- a value with a fault at some place has no tree
+  pub untold : (place : List Step) (v : Val) (a : Asked) (kind : JsonKind) → WriteFaultAt shape o place v a kind → (d : Data) → tells shape o v a ≡ Some d → ⊥
+  untold [] v a kind h d e = told_clean v a d e (inl (kind, h))
+  untold (step ∷ place) v a kind h d e =
+      told_clean v a d e (taken_with (parts_of shape v a) step place kind (λ next g. λ x q. untold place next.0 next.1 kind g x q) h)

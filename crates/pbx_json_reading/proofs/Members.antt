@@ -1,0 +1,129 @@
+-- Objects whose keys ascend, as those of each map do.
+use Rattle.std.proofs.Common.{◌≡◌, ◌∙◌, ℕ, List, [], ◌∷◌, Bool, true, false, Ok, Err, Result, refl, sym, ap, subst, String, Global}
+use Rattle.std.proofs.Common.{inl, inr, IfOk}
+use Rattle.pbx_json_meaning.specs.declared.error.JsonError.{JsonError}
+use Rattle.pbx_json_walk.specs.Walk.{IsFaultOf}
+use Rattle.std.proofs.Common.{IfErr, ◌⊎◌, None}
+use Rattle.pbx_meaning.specs.Sound.{IsProper}
+use Rattle.pbx_codec.specs.View.{content_of}
+use Rattle.pbx_codec.specs.declared.contents.Contents.{Contents}
+use Rattle.pbx_json_meaning.specs.Stands.{Stands, content_for}
+use Rattle.pbx_json_meaning.specs.Faults.{FirstJsonFault}
+use Rattle.pbx_json_walk_laws.specs.Laws.{IsTold, MessageIsTold, IsFirstFault, FaultIsFirst}
+use Rattle.std.specs.Map.{keys_of}
+use Rattle.std.specs.String.{string_cmp}
+use Rattle.std.specs.List.Sorted.{IsStrictlySortedBy}
+use Rattle.std.specs.Ordering.{is_lt}
+use Rattle.std.specs.declared.cmp.Ordering.TheVariants.{Less}
+use Rattle.std.proofs.lemmas.Map.Keys.{sorted_head, sorted_tail}
+use Rattle.serde_json.specs.Data.{Data, null, boolean, number, string, array, object, Members, no_members, member}
+use Rattle.serde_json.specs.View.{members_view}
+use Rattle.serde_json.specs.declared.value.Value.{Value}
+use Rattle.pbx_wkt.specs.Names.{is_well_known}
+use Rattle.pbx_meaning.specs.Content.{Content}
+use Rattle.pbx_meaning.specs.Shape.{declared_of, is_float}
+use Rattle.pbx_meaning.specs.declared.shape.Kind.{Kind}
+use Rattle.pbx_meaning.specs.declared.shape.Shape.{Shape}
+use Rattle.pbx_json_meaning.specs.Types.{message_name}
+use Rattle.std.proofs.Common.{if◌then◌else◌}
+use Rattle.pbx_json_meaning.specs.declared.kind.JsonKind.TheVariants.{NotBuilt, NoMemory}
+use Rattle.pbx_json_walk.specs.Opened.{members_of_message, members_of_map, members_if_none, members_in}
+use Rattle.pbx_json_walk.specs.Walk.{Answer, answer_map, and_then, or_here, are_ascending, members_answer, message_answer, content_found, walk, start, parts, parts_in}
+use Rattle.pbx_json_walk.specs.Walk.{map_answer, map_value, walk_entries, no_entries, entries_answer}
+
+above_from_sorted : (k : String Global) (v : Value) (ms : List (String Global × Value)) → IsStrictlySortedBy string_cmp (keys_of ((k, v) ∷ ms))
+    → are_ascending (members_view ((k, v) ∷ ms)) ≡ true
+above_from_sorted k v [] h = refl
+above_from_sorted k v (m ∷ ms) h =
+    let first : string_cmp k m.0 ≡ Less = (sorted_head string_cmp k (keys_of (m ∷ ms)) h).0 in
+    let lt = ap is_lt first in
+    let rest : are_ascending (members_view (m ∷ ms)) ≡ true = above_from_sorted m.0 m.1 ms (sorted_tail string_cmp k (keys_of (m ∷ ms)) h) in
+    rw (lt, rest) refl
+
+-- the keys of a map ascend
+pub ascending : (ms : List (String Global × Value)) → IsStrictlySortedBy string_cmp (keys_of ms) → are_ascending (members_view ms) ≡ true
+ascending [] h = refl
+ascending (m ∷ ms) h = above_from_sorted m.0 m.1 ms h
+
+-- the object that is read as a message
+message_object : (shape : Shape) (allow : Bool) (t : ℕ) (d : Data) (ms : Members) → Ok ms ≡ members_of_message shape t d → parts_in shape allow d ≡ parts shape allow ms
+message_object shape allow t d ms h = at (is_well_known (message_name shape t)) d h
+  where
+    at : (b : Bool) (x : Data) → Ok ms ≡ (if b then Err NotBuilt else members_in x) → parts_in shape allow x ≡ parts shape allow ms
+    at true x e = absurd (cc)
+    at false (object ns) e = let same : ns ≡ ms = cc in ap (parts shape allow) same
+    at false null e = absurd (cc)
+    at false (boolean b) e = absurd (cc)
+    at false (number n) e = absurd (cc)
+    at false (string s) e = absurd (cc)
+    at false (array ds) e = absurd (cc)
+
+pub message_walk : (shape : Shape) (allow : Bool) (t : ℕ) (d : Data) (ms : List (String Global × Value)) → IsStrictlySortedBy string_cmp (keys_of ms)
+    → Ok (members_view ms) ≡ members_of_message shape t d
+    → message_answer shape allow t d (parts_in shape allow d) ≡ answer_map content_found (walk allow (declared_of shape t) (parts shape allow (members_view ms)) start)
+message_walk shape allow t d ms sorted h =
+    ap (λ r. and_then (or_here r) (members_answer allow (declared_of shape t) (parts_in shape allow d))) (sym h)
+    ∙ ap (λ ps. members_answer allow (declared_of shape t) ps (members_view ms)) (message_object shape allow t d (members_view ms) h)
+    ∙ rw (ascending ms sorted) refl
+
+-- the object that is read as a map
+map_object : (shape : Shape) (allow : Bool) (k : Kind) (d : Data) (ms : Members) → Ok ms ≡ members_of_map k d → parts_in shape allow d ≡ parts shape allow ms
+map_object shape allow k (object ns) ms h = at (is_float k) ns h
+  where
+    at : (b : Bool) (xs : Members) → Ok ms ≡ (if b then members_if_none xs else Ok xs) → parts shape allow xs ≡ parts shape allow ms
+    at true no_members e = let same : no_members ≡ ms = cc in ap (parts shape allow) same
+    at true (member key x xs) e = absurd (cc)
+    at false xs e = let same : xs ≡ ms = cc in ap (parts shape allow) same
+map_object shape allow k null ms h = absurd (cc)
+map_object shape allow k (boolean b) ms h = absurd (cc)
+map_object shape allow k (number n) ms h = absurd (cc)
+map_object shape allow k (string s) ms h = absurd (cc)
+map_object shape allow k (array ds) ms h = absurd (cc)
+
+pub map_walk : (shape : Shape) (allow : Bool) (kk vk : Kind) (d : Data) (ms : List (String Global × Value)) → IsStrictlySortedBy string_cmp (keys_of ms)
+    → Ok (members_view ms) ≡ members_of_map vk d
+    → map_answer kk vk d (parts_in shape allow d) ≡ answer_map map_value (walk_entries kk vk (parts shape allow (members_view ms)) no_entries)
+map_walk shape allow kk vk d ms sorted h =
+    ap (λ r. and_then (or_here r) (entries_answer kk vk (parts_in shape allow d))) (sym h)
+    ∙ ap (λ ps. entries_answer kk vk ps (members_view ms)) (map_object shape allow vk d (members_view ms) h)
+    ∙ rw (ascending ms sorted) refl
+
+-- a fault of a part is a fault of the whole
+pub fault_from : {X Y : Type 0} (a : Answer X) (b : Answer Y) (e : JsonError) → IsFaultOf a e → (a ≡ Err e → b ≡ Err e) → IsFaultOf b e
+fault_from a b e (inl n) f = inl n
+fault_from a b e (inr is) f = inr (f is)
+
+-- what follows of a value that there is
+pub on_if_ok : {T E : Type 0} (r : Result T E) (P Q : T → Type 0) → ((x : T) → P x → Q x) → IfOk r P → IfOk r Q
+on_if_ok (Ok x) P Q f h = f x h
+on_if_ok (Err e) P Q f h = tt
+
+-- ---- what the answers tell
+
+module _ (told : MessageIsTold) (shape : Shape) (t : ℕ) (allow : Bool) (d : Data) (proper : IsProper shape) where
+  is_told : (a : Answer Content) → message_answer shape allow t d (parts_in shape allow d) ≡ a → IsTold shape t allow d a
+  is_told a e = subst (λ b. IsTold shape t allow d b) e (told shape t allow d proper)
+
+  pub told_content : (r : Result Contents JsonError) → IfOk r (λ c. message_answer shape allow t d (parts_in shape allow d) ≡ Ok (content_of c))
+      → IfOk r (λ c. Stands shape t allow d (content_of c))
+  told_content (Ok c) h = is_told (Ok (content_of c)) h
+  told_content (Err e) h = tt
+
+  fault_told : (e : JsonError) → IsFaultOf (message_answer shape allow t d (parts_in shape allow d)) e → (e.kind ≡ NoMemory) ⊎ (content_for shape t allow d ≡ None)
+  fault_told e (inl n) = inl n
+  fault_told e (inr is) = is_told (Err e) is
+
+  pub told_nothing : (r : Result Contents JsonError) → IfErr r (λ e. IsFaultOf (message_answer shape allow t d (parts_in shape allow d)) e)
+      → IfErr r (λ e. (e.kind ≡ NoMemory) ⊎ (content_for shape t allow d ≡ None))
+  told_nothing (Ok c) h = tt
+  told_nothing (Err e) h = fault_told e h
+
+module _ (first : FaultIsFirst) (shape : Shape) (t : ℕ) (allow : Bool) (d : Data) (proper : IsProper shape) where
+  first_told : (e : JsonError) → IsFaultOf (message_answer shape allow t d (parts_in shape allow d)) e → (e.kind ≡ NoMemory) ⊎ FirstJsonFault shape t allow d e.place e.kind
+  first_told e (inl n) = inl n
+  first_told e (inr is) = subst (λ b. IsFirstFault shape t allow d b) is (first shape t allow d proper)
+
+  pub told_first : (r : Result Contents JsonError) → IfErr r (λ e. IsFaultOf (message_answer shape allow t d (parts_in shape allow d)) e)
+      → IfErr r (λ e. (e.kind ≡ NoMemory) ⊎ FirstJsonFault shape t allow d e.place e.kind)
+  told_first (Ok c) h = tt
+  told_first (Err e) h = first_told e h

@@ -1,0 +1,59 @@
+use Rattle.std.proofs.Common.{◌≡◌, ◌+◌, ◌*◌, [], map, drop}
+use Rattle.serde_json.specs.View.{items_view, members_view}
+use Rattle.pbx_meaning.specs.Shape.{declared_of}
+use Rattle.pbx_codec.specs.View.{val_of}
+use Rattle.pbx_field_names.specs.Index.{AreNamesIn}
+use Rattle.pbx_json_walk.specs.Walk.{walk, start, parts, walk_items, items_answers, walk_entries, no_entries}
+use Rattle.pbx_json_reading.specs.States.{state_of, entries_of}
+use Rattle.pbx_json_reading.proofs.read.+tree.Given as goal
+
+abbrev pub decreases-read_message : goal.decreases-read_message
+decreases-read_message l = 8 * l.levels
+
+abbrev pub decreases-read_value : goal.decreases-read_value
+decreases-read_value l = 8 * l.levels + 1
+
+abbrev pub decreases-read_item : goal.decreases-read_item
+decreases-read_item l = 8 * l.levels + 2
+
+abbrev pub decreases-read_entry : goal.decreases-read_entry
+decreases-read_entry l = 8 * l.levels + 2
+
+abbrev pub decreases-read_list : goal.decreases-read_list
+decreases-read_list l = 8 * l.levels + 3
+
+abbrev pub decreases-read_map : goal.decreases-read_map
+decreases-read_map l = 8 * l.levels + 3
+
+abbrev pub decreases-read_values : goal.decreases-read_values
+decreases-read_values l = 8 * l.levels + 4
+
+abbrev pub decreases-read_field : goal.decreases-read_field
+decreases-read_field l = 8 * l.levels + 5
+
+abbrev pub decreases-read_member : goal.decreases-read_member
+decreases-read_member l = 8 * l.levels + 6
+
+abbrev pub invariant-read_message-loop-key : goal.invariant-read_message-loop-key
+invariant-read_message-loop-key l = record {
+  walked :
+      walk l.reading.allow (declared_of l.reading.schema.now l.place) (parts l.reading.schema.now l.reading.allow (members_view l.initial.key-iterator)) start
+      ≡ walk l.reading.allow (declared_of l.reading.schema.now l.place) (parts l.reading.schema.now l.reading.allow (members_view l.key-iterator)) (state_of l.state);
+  names : AreNamesIn l.reading.schema.now l.names;
+}
+
+abbrev pub invariant-read_list-loop-index : goal.invariant-read_list-loop-index
+invariant-read_list-loop-index l = record {
+  walked :
+      walk_items l.kind 0 (items_answers l.reading.schema.now l.reading.allow (items_view l.items)) []
+      ≡ walk_items l.kind l.index (items_answers l.reading.schema.now l.reading.allow (items_view (drop l.index l.items))) (map val_of l.values);
+  names : AreNamesIn l.reading.schema.now l.names;
+}
+
+abbrev pub invariant-read_map-loop-key : goal.invariant-read_map-loop-key
+invariant-read_map-loop-key l = record {
+  walked :
+      walk_entries l.key_kind l.kind (parts l.reading.schema.now l.reading.allow (members_view l.initial.key-iterator)) no_entries
+      ≡ walk_entries l.key_kind l.kind (parts l.reading.schema.now l.reading.allow (members_view l.key-iterator)) (entries_of l.entries);
+  names : AreNamesIn l.reading.schema.now l.names;
+}

@@ -1,0 +1,465 @@
+ghost use Rattle.std.specs.Prelude.{◌≡◌, ◌⊎◌, None, Ok, Err, not, OnOk, IfOk, IfErr, option_map, map};
+ghost use Rattle.serde_json.specs.View.{view};
+ghost use Rattle.pbx_meaning.specs.Shape.{declared_of};
+ghost use Rattle.pbx_codec.specs.View.{content_of, val_of, key_of};
+ghost use Rattle.pbx_json_meaning.specs.Asked.{field as asked_field, one as asked_one, target_by};
+ghost use Rattle.pbx_json_meaning.specs.Names.{field_named};
+ghost use Rattle.pbx_json_meaning.specs.Stands.{Stands, content_for};
+ghost use Rattle.pbx_json_meaning.specs.Faults.{FirstJsonFault};
+ghost use Rattle.pbx_json_meaning.specs.declared.kind.JsonKind.TheVariants.{NoMemory as OutOfMemory};
+ghost use Rattle.pbx_json_meaning.specs.declared.place.Step.TheVariants.{Key as to_key};
+ghost use Rattle.pbx_field_names.specs.Index.{AreNamesIn};
+ghost use Rattle.pbx_json_walk.specs.Walk.{IsFaultOf, answers, at_step, key_judged, noted};
+ghost use Rattle.pbx_json_walk.specs.Walk.{turn, message_answer, value_answer, list_answer, map_answer, target_answer};
+ghost use Rattle.pbx_json_walk.specs.Walk.{parts_in, elements_in, entry_key, entry_turn, item_turn, with_present, with_entry, map_value};
+ghost use Rattle.pbx_json_reading.specs.States.{state_of, entries_of};
+
+use crate::defaults::shown;
+use crate::entries::MapEntries;
+use crate::fault::{at_key, at_tree, below_index, below_key};
+use crate::opened::{is_left_out, list_items, map_members, message_members};
+use crate::scalar::{read_key, read_scalar};
+use crate::state::ObjectState;
+use pbx_codec::{Contents, Held, MapKey};
+use pbx_field_names::SchemaNames;
+use pbx_json_meaning::{DeserializeOptions, JsonError, JsonKind};
+use pbx_json_walk_laws::{fault_is_first, message_is_told};
+use pbx_meaning::{Cardinality, FieldShape, Kind, Schema};
+use pbx_wire::List;
+use serde_json::Value;
+use std::alloc::Global;
+
+/// How many messages may nest: the top and 1,024 levels below it.
+const LEVELS: u32 = 1025;
+
+/// What all of a tree is read by.
+#[derive(Drop)]
+pub(crate) struct Reading<'s> {
+    alloc: Global,
+    schema: &'s Schema,
+    /// Whether keys and names of enums that name nothing are skipped.
+    allow: bool,
+}
+
+/// What the key of an object names, and whether it may be read: None where it is skipped.
+fn named_field<'s>(
+    reading: &Reading<'s>,
+    names: &mut SchemaNames,
+    place: usize,
+    key: &str,
+    state: &ObjectState,
+) -> Result<Option<&'s FieldShape>, JsonKind>
+    requires { AreNamesIn reading.now.schema.now names.old }
+    ensures ok { IfOk result (λ found. key_judged reading.now.allow
+        (field_named key.now (declared_of reading.now.schema.now place)) (state_of state.now)
+        ≡ Ok (option_map (λ f. f.now) found)) }
+    ensures err { IfErr result (λ e. (e ≡ OutOfMemory)
+        ⊎ (key_judged reading.now.allow (field_named key.now (declared_of reading.now.schema.now place)) (state_of state.now) ≡ Err e)) }
+    ensures names { AreNamesIn reading.now.schema.now names.new }
+{
+    match names.find_field(reading.alloc, reading.schema, place, key) {
+        Ok(Some(field)) => if state.is_seen(field.number) {
+            Err(JsonKind::DuplicateField)
+        } else {
+            Ok(Some(field))
+        },
+        Ok(None) => if reading.allow {
+            Ok(None)
+        } else {
+            Err(JsonKind::UnknownField)
+        },
+        Err(_) => Err(JsonKind::NoMemory),
+    }
+}
+
+/// What the key of an entry is, where no key before it was read alike.
+fn fresh_key(alloc: Global, kind: Kind, key: &str, entries: &MapEntries) -> Result<MapKey, JsonKind>
+    ensures ok { IfOk result (λ k. entry_key kind key.now (entries_of entries.now) ≡ Ok (key_of k)) }
+    ensures err { IfErr result (λ e. (e ≡ OutOfMemory) ⊎ (entry_key kind key.now (entries_of entries.now) ≡ Err e)) }
+{
+    match read_key(alloc, kind, key) {
+        Ok(read) => if entries.is_used(&read) {
+            Err(JsonKind::DuplicateKey)
+        } else {
+            Ok(read)
+        },
+        Err(kind) => Err(kind),
+    }
+}
+
+/// With what was read for the field that a key names.
+fn note_at(
+    alloc: Global,
+    key: &str,
+    state: &mut ObjectState,
+    field: &FieldShape,
+    held: Option<Held>,
+) -> Result<(), JsonError>
+    ensures ok { OnOk result (at_step (to_key key.now) (noted field.now (state_of state.old) (option_map val_of held)) ≡ Ok (state_of state.new)) }
+    ensures err { IfErr result (λ e. IsFaultOf (at_step (to_key key.now) (noted field.now (state_of state.old) (option_map val_of held))) e) }
+{
+    match state.note(alloc, field, held) {
+        Ok(()) => Ok(()),
+        Err(error) => Err(below_key(alloc, key, error)),
+    }
+}
+
+/// With an element, if it was not dropped.
+fn add_value(alloc: Global, values: &mut List<Held>, held: Option<Held>) -> Result<(), JsonError>
+    ensures ok { OnOk result (with_present (option_map val_of held) (map val_of values.old) ≡ map val_of values.new) }
+    ensures err { IfErr result (λ e. e.kind ≡ OutOfMemory) }
+{
+    match held {
+        Some(held) => match values.add(held) {
+            Ok(()) => Ok(()),
+            Err(_) => Err(at_tree(alloc, JsonKind::NoMemory)),
+        },
+        None => Ok(()),
+    }
+}
+
+/// With an entry.
+fn add_entry(
+    alloc: Global,
+    entries: &mut MapEntries,
+    key: MapKey,
+    held: Option<Held>,
+) -> Result<(), JsonError>
+    ensures ok { OnOk result (entries_of entries.new ≡ with_entry (key_of key) (entries_of entries.old) (option_map val_of held)) }
+    ensures err { IfErr result (λ e. e.kind ≡ OutOfMemory) }
+{
+    match entries.add(key, held) {
+        Ok(()) => Ok(()),
+        Err(_) => Err(at_tree(alloc, JsonKind::NoMemory)),
+    }
+}
+
+/// The entries as a value.
+fn map_held(alloc: Global, entries: MapEntries) -> Result<Option<Held>, JsonError>
+    ensures ok { IfOk result (λ r. option_map val_of r ≡ map_value (entries_of entries)) }
+    ensures err { IfErr result (λ e. e.kind ≡ OutOfMemory) }
+{
+    match entries.into_value(alloc) {
+        Ok(held) => Ok(Some(held)),
+        Err(_) => Err(at_tree(alloc, JsonKind::NoMemory)),
+    }
+}
+
+/// What a tree is as one value of a kind.
+#[cycle(tree)]
+fn read_value(
+    reading: &Reading<'_>,
+    names: &mut SchemaNames,
+    levels: u32,
+    kind: Kind,
+    tree: &Value,
+) -> Result<Option<Held>, JsonError>
+    requires { AreNamesIn reading.now.schema.now names.old }
+    ensures ok { IfOk result (λ r. value_answer reading.now.schema.now reading.now.allow kind (view tree.now)
+        (parts_in reading.now.schema.now reading.now.allow (view tree.now)) ≡ Ok (option_map val_of r)) }
+    ensures err { IfErr result (λ e. IsFaultOf (value_answer reading.now.schema.now reading.now.allow kind (view tree.now)
+        (parts_in reading.now.schema.now reading.now.allow (view tree.now))) e) }
+    ensures names { AreNamesIn reading.now.schema.now names.new }
+{
+    match kind {
+        Kind::Message(place) => match read_message(reading, names, levels, place, tree) {
+            Ok(contents) => Ok(Some(Held::Message(contents))),
+            Err(error) => Err(error),
+        },
+        _ => match read_scalar(
+            reading.alloc,
+            reading.schema,
+            names,
+            reading.allow,
+            kind,
+            tree,
+        ) {
+            Ok(held) => Ok(held),
+            Err(rule) => Err(at_tree(reading.alloc, rule)),
+        },
+    }
+}
+
+/// What a tree is as a message of the type at a place.
+#[cycle(tree)]
+fn read_message(
+    reading: &Reading<'_>,
+    names: &mut SchemaNames,
+    levels: u32,
+    place: usize,
+    tree: &Value,
+) -> Result<Contents, JsonError>
+    requires { AreNamesIn reading.now.schema.now names.old }
+    ensures ok { IfOk result (λ r. message_answer reading.now.schema.now reading.now.allow place (view tree.now)
+        (parts_in reading.now.schema.now reading.now.allow (view tree.now)) ≡ Ok (content_of r)) }
+    ensures err { IfErr result (λ e. IsFaultOf (message_answer reading.now.schema.now reading.now.allow place (view tree.now)
+        (parts_in reading.now.schema.now reading.now.allow (view tree.now))) e) }
+    ensures names { AreNamesIn reading.now.schema.now names.new }
+{
+    if levels == 0 {
+        return Err(at_tree(reading.alloc, JsonKind::NoMemory));
+    }
+    let members = match message_members(reading.schema, place, tree) {
+        Ok(members) => members,
+        Err(rule) => return Err(at_tree(reading.alloc, rule)),
+    };
+    let mut state = ObjectState::new(reading.alloc);
+    for (key, member) in members.iter() {
+        if let Err(error) = read_member(
+            reading,
+            names,
+            levels - 1,
+            place,
+            key.as_str(),
+            member,
+            &mut state,
+        ) {
+            drop(state);
+            return Err(error);
+        }
+    }
+    state.into_contents(reading.alloc)
+}
+
+/// What one key of an object of fields adds.
+#[cycle(tree)]
+fn read_member(
+    reading: &Reading<'_>,
+    names: &mut SchemaNames,
+    levels: u32,
+    place: usize,
+    key: &str,
+    tree: &Value,
+    state: &mut ObjectState,
+) -> Result<(), JsonError>
+    requires { AreNamesIn reading.now.schema.now names.old }
+    ensures ok { OnOk result (at_step (to_key key.now) (turn reading.now.allow
+        (field_named key.now (declared_of reading.now.schema.now place)) (answers reading.now.schema.now reading.now.allow
+        (view tree.now)) (state_of state.old)) ≡ Ok (state_of state.new)) }
+    ensures err { IfErr result (λ e. IsFaultOf (at_step (to_key key.now) (turn reading.now.allow
+        (field_named key.now (declared_of reading.now.schema.now place)) (answers reading.now.schema.now reading.now.allow
+        (view tree.now)) (state_of state.old))) e) }
+    ensures names { AreNamesIn reading.now.schema.now names.new }
+{
+    match named_field(reading, names, place, key, state) {
+        Ok(Some(field)) => match read_field(reading, names, levels, field, tree) {
+            Ok(held) => note_at(reading.alloc, key, state, field, held),
+            Err(error) => Err(below_key(reading.alloc, key, error)),
+        },
+        Ok(None) => Ok(()),
+        Err(rule) => Err(at_key(reading.alloc, key, rule)),
+    }
+}
+
+/// What a tree is for a field: None where the field is absent.
+#[cycle(tree)]
+fn read_field(
+    reading: &Reading<'_>,
+    names: &mut SchemaNames,
+    levels: u32,
+    field: &FieldShape,
+    tree: &Value,
+) -> Result<Option<Held>, JsonError>
+    requires { AreNamesIn reading.now.schema.now names.old }
+    ensures ok { IfOk result (λ r. answers reading.now.schema.now reading.now.allow (view tree.now) (asked_field field.now)
+        ≡ Ok (option_map val_of r)) }
+    ensures err { IfErr result (λ e. IsFaultOf (answers reading.now.schema.now reading.now.allow (view tree.now) (asked_field field.now)) e) }
+    ensures names { AreNamesIn reading.now.schema.now names.new }
+{
+    if is_left_out(reading.schema, field, tree) {
+        return Ok(None);
+    }
+    match read_values(reading, names, levels, field, tree) {
+        Ok(held) => Ok(shown(reading.schema, field, held)),
+        Err(error) => Err(error),
+    }
+}
+
+/// What a tree is as the values that a field may have.
+#[cycle(tree)]
+fn read_values(
+    reading: &Reading<'_>,
+    names: &mut SchemaNames,
+    levels: u32,
+    field: &FieldShape,
+    tree: &Value,
+) -> Result<Option<Held>, JsonError>
+    requires { AreNamesIn reading.now.schema.now names.old }
+    ensures ok { IfOk result (λ r. target_answer reading.now.schema.now reading.now.allow (target_by field.now field.now.cardinality)
+        (view tree.now) (elements_in reading.now.schema.now reading.now.allow (view tree.now))
+        (parts_in reading.now.schema.now reading.now.allow (view tree.now)) ≡ Ok (option_map val_of r)) }
+    ensures err { IfErr result (λ e. IsFaultOf (target_answer reading.now.schema.now reading.now.allow (target_by field.now field.now.cardinality)
+        (view tree.now) (elements_in reading.now.schema.now reading.now.allow (view tree.now))
+        (parts_in reading.now.schema.now reading.now.allow (view tree.now))) e) }
+    ensures names { AreNamesIn reading.now.schema.now names.new }
+{
+    match field.cardinality {
+        Cardinality::Singular => read_value(reading, names, levels, field.kind, tree),
+        Cardinality::Repeated => read_list(reading, names, levels, field.kind, tree),
+        Cardinality::Map(key) => read_map(reading, names, levels, key, field.kind, tree),
+    }
+}
+
+/// What a tree is as a list.
+#[cycle(tree)]
+fn read_list(
+    reading: &Reading<'_>,
+    names: &mut SchemaNames,
+    levels: u32,
+    kind: Kind,
+    tree: &Value,
+) -> Result<Option<Held>, JsonError>
+    requires { AreNamesIn reading.now.schema.now names.old }
+    ensures ok { IfOk result (λ r. list_answer kind (view tree.now) (elements_in reading.now.schema.now reading.now.allow (view tree.now))
+        ≡ Ok (option_map val_of r)) }
+    ensures err { IfErr result (λ e. IsFaultOf (list_answer kind (view tree.now) (elements_in reading.now.schema.now reading.now.allow
+        (view tree.now))) e) }
+    ensures names { AreNamesIn reading.now.schema.now names.new }
+{
+    let items = match list_items(kind, tree) {
+        Ok(items) => items,
+        Err(rule) => return Err(at_tree(reading.alloc, rule)),
+    };
+    let mut values = List::new(reading.alloc);
+    for index in 0..items.len() {
+        if let Err(error) = read_item(
+            reading,
+            names,
+            levels,
+            kind,
+            index,
+            &items[index],
+            &mut values,
+        ) {
+            drop(values);
+            return Err(error);
+        }
+    }
+    Ok(Some(Held::Many(values)))
+}
+
+/// What one element of a list adds.
+#[cycle(tree)]
+fn read_item(
+    reading: &Reading<'_>,
+    names: &mut SchemaNames,
+    levels: u32,
+    kind: Kind,
+    index: usize,
+    tree: &Value,
+    values: &mut List<Held>,
+) -> Result<(), JsonError>
+    requires { AreNamesIn reading.now.schema.now names.old }
+    ensures ok { OnOk result (item_turn kind index (answers reading.now.schema.now reading.now.allow (view tree.now)) (map val_of values.old)
+        ≡ Ok (map val_of values.new)) }
+    ensures err { IfErr result (λ e. IsFaultOf (item_turn kind index (answers reading.now.schema.now reading.now.allow
+        (view tree.now)) (map val_of values.old)) e) }
+    ensures names { AreNamesIn reading.now.schema.now names.new }
+{
+    match read_value(reading, names, levels, kind, tree) {
+        Ok(held) => add_value(reading.alloc, values, held),
+        Err(error) => Err(below_index(reading.alloc, index, error)),
+    }
+}
+
+/// What a tree is as a map.
+#[cycle(tree)]
+fn read_map(
+    reading: &Reading<'_>,
+    names: &mut SchemaNames,
+    levels: u32,
+    key_kind: Kind,
+    kind: Kind,
+    tree: &Value,
+) -> Result<Option<Held>, JsonError>
+    requires { AreNamesIn reading.now.schema.now names.old }
+    ensures ok { IfOk result (λ r. map_answer key_kind kind (view tree.now) (parts_in reading.now.schema.now reading.now.allow (view tree.now))
+        ≡ Ok (option_map val_of r)) }
+    ensures err { IfErr result (λ e. IsFaultOf (map_answer key_kind kind (view tree.now) (parts_in reading.now.schema.now reading.now.allow
+        (view tree.now))) e) }
+    ensures names { AreNamesIn reading.now.schema.now names.new }
+{
+    let members = match map_members(kind, tree) {
+        Ok(members) => members,
+        Err(rule) => return Err(at_tree(reading.alloc, rule)),
+    };
+    let mut entries = MapEntries::new(reading.alloc);
+    for (key, member) in members.iter() {
+        if let Err(error) = read_entry(
+            reading,
+            names,
+            levels,
+            key_kind,
+            kind,
+            key.as_str(),
+            member,
+            &mut entries,
+        ) {
+            drop(entries);
+            return Err(error);
+        }
+    }
+    map_held(reading.alloc, entries)
+}
+
+/// What one key of an object of entries adds.
+#[cycle(tree)]
+fn read_entry(
+    reading: &Reading<'_>,
+    names: &mut SchemaNames,
+    levels: u32,
+    key_kind: Kind,
+    kind: Kind,
+    key: &str,
+    tree: &Value,
+    entries: &mut MapEntries,
+) -> Result<(), JsonError>
+    requires { AreNamesIn reading.now.schema.now names.old }
+    ensures ok { OnOk result (at_step (to_key key.now) (entry_turn key_kind kind key.now (answers reading.now.schema.now reading.now.allow
+        (view tree.now)) (entries_of entries.old)) ≡ Ok (entries_of entries.new)) }
+    ensures err { IfErr result (λ e. IsFaultOf (at_step (to_key key.now) (entry_turn key_kind kind key.now
+        (answers reading.now.schema.now reading.now.allow (view tree.now)) (entries_of entries.old))) e) }
+    ensures names { AreNamesIn reading.now.schema.now names.new }
+{
+    match fresh_key(reading.alloc, key_kind, key, entries) {
+        Ok(read) => match read_value(reading, names, levels, kind, tree) {
+            Ok(held) => add_entry(reading.alloc, entries, read, held),
+            Err(error) => {
+                drop(read);
+                Err(below_key(reading.alloc, key, error))
+            }
+        },
+        Err(rule) => Err(at_key(reading.alloc, key, rule)),
+    }
+}
+
+/// The content that a tree stands for, as a message of the type at a place of the schema; a place outside the schema is a type
+/// without fields.
+///
+/// An error tells the first fault of the tree, in the order of places, or want of memory. The stack is memory too: where messages nest
+/// more than 1,024 levels deep, that is the answer.
+pub fn read_content(
+    alloc: Global,
+    schema: &Schema,
+    place: usize,
+    tree: &Value,
+    options: &DeserializeOptions,
+) -> Result<Contents, JsonError>
+    ensures stands { IfOk result (λ c. Stands schema.now place (not options.now.deny_unknown_fields) (view tree.now) (content_of c)) }
+    ensures fault { IfErr result (λ e. (e.kind ≡ OutOfMemory) ⊎ FirstJsonFault schema.now place (not options.now.deny_unknown_fields)
+        (view tree.now) e.place e.kind) }
+    ensures refused { IfErr result (λ e. (e.kind ≡ OutOfMemory) ⊎ (content_for schema.now place (not options.now.deny_unknown_fields)
+        (view tree.now) ≡ None)) }
+{
+    // What the proof cites: a schema is proper, and what the answers are.
+    schema.shape();
+    fault_is_first();
+    message_is_told();
+    let mut names = SchemaNames::new(alloc, schema);
+    let reading = Reading {
+        alloc,
+        schema,
+        allow: !options.deny_unknown_fields,
+    };
+    read_message(&reading, &mut names, LEVELS, place, tree)
+}

@@ -1,0 +1,96 @@
+//! What the words ask for.
+
+use crate::faults::fault;
+use crate::stop::Stop;
+use pbx_desc::Message;
+use pbx_json::{
+    DeserializeOptions, JsonMessage, NameFault, SerializeOptions, check_names, fits_levels,
+};
+use pbx_link::{DescriptorPool, MessageDescriptor};
+use pbx_message::DynamicMessage;
+use serde_json::Value;
+use std::alloc::Global;
+use test_rows::Row;
+
+/// The type that the row names.
+pub(crate) fn type_of(pool: &DescriptorPool, row: &Row) -> Result<MessageDescriptor, Stop> {
+    pool.get_message_by_name(row.text(1))
+        .ok_or(Stop::NoSuchWord)
+}
+
+/// The message that a JSON text stands for.
+fn message_of(
+    alloc: Global,
+    pool: &DescriptorPool,
+    row: &Row,
+    text: &str,
+    options: &DeserializeOptions,
+) -> Result<DynamicMessage, Stop> {
+    let desc = type_of(pool, row)?;
+    let Ok(tree) = Value::from_str(alloc, text) else {
+        return Err(Stop::NoSuchWord);
+    };
+    DynamicMessage::deserialize_with_options(alloc, desc, &tree, options).map_err(|error| fault(
+        alloc, error,
+    ))
+}
+
+fn text_of(
+    alloc: Global,
+    message: &DynamicMessage,
+    options: &SerializeOptions,
+) -> Result<String, Stop> {
+    match message.serialize_with_options(alloc, options) {
+        Ok(tree) => Ok(tree.to_string(alloc)?),
+        Err(error) => Err(fault(alloc, error)),
+    }
+}
+
+/// The bytes and the text of the message that a text stands for.
+pub(crate) fn read(alloc: Global, pool: &DescriptorPool, row: &Row) -> Result<String, Stop> {
+    let options = DeserializeOptions::new().deny_unknown_fields(row.text(2) != "allow");
+    let message = message_of(alloc, pool, row, row.text(3), &options)?;
+    let bytes = message.encode_to_vec(alloc)?;
+    let digits = hex::encode(alloc, bytes.as_slice())?;
+    let text = text_of(alloc, &message, &SerializeOptions::new())?;
+    Ok(format!(in alloc; "{digits} {text}")?)
+}
+
+/// The text of the message that bytes mean, under options by letters.
+pub(crate) fn written(alloc: Global, pool: &DescriptorPool, row: &Row) -> Result<String, Stop> {
+    let desc = type_of(pool, row)?;
+    let bytes = hex::decode(alloc, row.text(3))?;
+    let Ok(message) = DynamicMessage::decode(alloc, desc, bytes.as_slice()) else {
+        return Err(Stop::NoSuchWord);
+    };
+    let letters = row.text(2);
+    let options = SerializeOptions::new()
+        .stringify_64_bit_integers(!letters.contains('s'))
+        .use_enum_numbers(letters.contains('e'))
+        .use_proto_field_name(letters.contains('p'))
+        .skip_default_fields(!letters.contains('d'));
+    text_of(alloc, &message, &options)
+}
+
+/// Whether the message that a text stands for nests few levels.
+pub(crate) fn levels(alloc: Global, pool: &DescriptorPool, row: &Row) -> Result<String, Stop> {
+    let message = message_of(alloc, pool, row, row.text(2), &DeserializeOptions::new())?;
+    let word = if fits_levels(alloc, &message)? {
+        "fits"
+    } else {
+        "too deep"
+    };
+    Ok(String::from_str(alloc, word)?)
+}
+
+/// The first message with a key that has two meanings, and the key.
+pub(crate) fn names(alloc: Global, pool: &DescriptorPool) -> Result<String, Stop> {
+    match check_names(alloc, pool) {
+        Ok(()) => Ok(String::from_str(alloc, "clear")?),
+        Err(NameFault::JsonNames { message, key }) => {
+            let (message, key) = (message.as_str(), key.as_str());
+            Ok(format!(in alloc; "{message} {key}")?)
+        }
+        Err(NameFault::NoMemory) => Err(Stop::NoMemory),
+    }
+}

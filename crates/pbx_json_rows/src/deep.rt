@@ -1,0 +1,73 @@
+//! Trees that nest deeper than any text that is read.
+
+use crate::faults::fault;
+use crate::stop::Stop;
+use pbx_json::{JsonMessage, fits_levels};
+use pbx_link::MessageDescriptor;
+use pbx_message::DynamicMessage;
+use serde_json::{Map, Value};
+use std::alloc::Global;
+
+/// An object under the key `c` of another one, and so on, so many times.
+fn nested(alloc: Global, count: u64) -> Result<Value, Stop> {
+    let mut tree = Value::Object(Map::new(alloc));
+    for _ in 0..count {
+        let mut members = Map::new(alloc);
+        let _ = members.insert(String::from_str(alloc, "c")?, tree)?;
+        tree = Value::Object(members);
+    }
+    Ok(tree)
+}
+
+/// Lets such a tree go from its root on, since to drop it whole takes a stack as deep as the tree.
+fn unwind(count: u64, tree: Value) {
+    let mut left = tree;
+    for _ in 0..count {
+        let Value::Object(mut members) = left else {
+            return;
+        };
+        let Some(inner) = members.remove("c") else {
+            return;
+        };
+        left = inner;
+    }
+}
+
+/// What comes of writing the message.
+fn rewritten(alloc: Global, message: &DynamicMessage) -> &'static str {
+    match message.serialize(alloc) {
+        Ok(_) => "written",
+        Err(_) => "not written",
+    }
+}
+
+/// What comes of reading the tree as a message of the type, and of writing that.
+fn came(alloc: Global, desc: MessageDescriptor, tree: &Value) -> Result<String, Stop> {
+    let message = match DynamicMessage::deserialize(alloc, desc, tree) {
+        Ok(message) => message,
+        Err(error) => return refusal(alloc, fault(alloc, error)),
+    };
+    let word = if fits_levels(alloc, &message)? {
+        "fits"
+    } else {
+        "too deep"
+    };
+    let written = rewritten(alloc, &message);
+    Ok(format!(in alloc; "{word}, {written}")?)
+}
+
+/// Want of memory is what is asked for here.
+fn refusal(alloc: Global, stop: Stop) -> Result<String, Stop> {
+    match stop {
+        Stop::NoMemory => Ok(String::from_str(alloc, "no memory")?),
+        stop => Err(stop),
+    }
+}
+
+/// What comes of reading a tree of so many levels as a message of the type.
+pub(crate) fn deep(alloc: Global, desc: MessageDescriptor, count: u64) -> Result<String, Stop> {
+    let tree = nested(alloc, count)?;
+    let told = came(alloc, desc, &tree);
+    unwind(count, tree);
+    told
+}

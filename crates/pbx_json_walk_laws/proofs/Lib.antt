@@ -1,0 +1,15 @@
+pub mod Agree
+pub mod FieldsLemmas
+pub mod Extensional
+pub mod Putting
+pub mod Rebuilt
+pub mod Tests
+pub mod Walked
+pub mod Maps
+pub mod Trees
+pub mod Told
+pub mod Faults
+pub mod Keyed
+pub mod MemberFaults
+pub mod EntryFaults
+pub mod TreeFaults

@@ -1,0 +1,76 @@
+-- What the functions of the writer say where they write no tree.
+use Rattle.std.specs.Prelude.{◌≡◌, ◌⊎◌, ℕ, List, [], ◌∷◌, ◌++◌, reverse, true, false, Some, None, Result, Ok, Err}
+use Rattle.serde_json.specs.Data.{Members}
+use Rattle.serde_json.specs.declared.value.Value.{Value}
+use Rattle.pbx_meaning.specs.Content.{Fields, Val, number, truth, text, octets, message, many, keyed}
+use Rattle.pbx_meaning.specs.Sound.{IsNumber, IsSound, AreElements, ArePairs}
+use Rattle.pbx_wire.specs.declared.rec.Rec.{Rec}
+use Rattle.pbx_meaning.specs.Shape.{field_of, is_float}
+use Rattle.pbx_meaning.specs.declared.shape.FieldShape.{FieldShape}
+use Rattle.pbx_meaning.specs.declared.shape.Kind.{Kind}
+use Rattle.pbx_meaning.specs.declared.shape.Kind.TheVariants as kind
+use Rattle.pbx_meaning.specs.declared.shape.Shape.{Shape}
+use Rattle.pbx_json_meaning.specs.Asked.{one}
+use Rattle.pbx_json_meaning.specs.Canonical.{tells, has_key, is_kept_of, is_written_default, key_of_field}
+use Rattle.pbx_json_meaning.specs.WriteFaults.{WriteFaultAt}
+use Rattle.pbx_json_meaning.specs.declared.error.JsonError.{JsonError}
+use Rattle.pbx_json_meaning.specs.declared.kind.JsonKind.{JsonKind}
+use Rattle.pbx_json_meaning.specs.declared.kind.JsonKind.TheVariants as fault
+use Rattle.pbx_json_meaning.specs.declared.options.SerializeOptions.{SerializeOptions}
+use Rattle.pbx_json_meaning.specs.declared.place.Step.{Step}
+use Rattle.pbx_json_meaning.specs.declared.place.Step.TheVariants.{Key}
+use Rattle.pbx_json_writing.specs.declared.refusal.Refusal.{Refusal}
+use Rattle.pbx_json_writing.specs.declared.refusal.Refusal.TheVariants as refused
+
+-- a value of the kind, as a field or an element holds it
+abbrev pub Holds : Shape → Kind → Val → Type 0
+Holds shape k (number z) = IsNumber k z
+Holds shape k (truth b) = k ≡ kind.Bool
+Holds shape k (text s) = k ≡ kind.String
+Holds shape k (octets b) = k ≡ kind.Bytes
+Holds shape k (message c) = (t : ℕ) × (k ≡ kind.Message t) × IsSound shape t c
+Holds shape k (many vs) = AreElements shape k vs
+Holds shape k (keyed ps) = (key : Kind) × ArePairs shape key k ps
+
+-- The value has no tree as one of the kind, unless memory ran out; and where it is one of the kind, the rule is broken where the steps come from.
+abbrev pub Refused : Shape → SerializeOptions → Val → Kind → Refusal → Type 0
+Refused shape o v k refused.Memory = Unit {0}
+Refused shape o v k (refused.Rule rule steps) = (tells shape o v (one k) ≡ None) × (Holds shape k v → WriteFaultAt shape o (reverse steps) v (one k) rule)
+
+-- the same whatever the shape and the options
+abbrev pub RefusedAnyhow : Val → Kind → Refusal → Type 0
+RefusedAnyhow v k r = (shape : Shape) (o : SerializeOptions) → Refused shape o v k r
+
+-- the refusal of what stands a step above, unless memory ran out
+abbrev pub IsLifted : Step → Refusal → Refusal → Type 0
+IsLifted step below refused.Memory = Unit {0}
+IsLifted step below (refused.Rule rule steps) = (inner : List Step) × (below ≡ refused.Rule rule inner) × (steps ≡ inner ++ step ∷ [])
+
+-- the error that callers see
+abbrev pub IsTold : Refusal → JsonError → Type 0
+IsTold refused.Memory e = e.kind ≡ fault.NoMemory
+IsTold (refused.Rule rule steps) e = (e.kind ≡ fault.NoMemory) ⊎ ((e.kind ≡ rule) × (e.place ≡ reverse steps))
+
+-- a rule that a key breaks, unless memory ran out
+abbrev pub IsAtKey : List ℕ → JsonKind → Refusal → Type 0
+IsAtKey key rule refused.Memory = Unit {0}
+IsAtKey key rule (refused.Rule r steps) = (r ≡ rule) × (steps ≡ Key key ∷ [])
+
+-- a float field with a kept record
+abbrev pub IsKeptFloat : List FieldShape → List Rec → FieldShape → Type 0
+IsKeptFloat gs kept f = (field_of f.number gs ≡ Some f) × (is_float f.kind ≡ true) × (is_kept_of kept f ≡ true)
+
+-- the refusal of what stands a step above a value that is written or refused, unless memory ran out
+abbrev pub IsPassedOn : Step → Result Value Refusal → Refusal → Type 0
+IsPassedOn step (Ok tree) r = r ≡ refused.Memory
+IsPassedOn step (Err below) r = IsLifted step below r
+
+-- why a member is not put to others: its key is there, or it has no tree
+abbrev pub IsMemberRefused : List ℕ → Result Value Refusal → Members → Refusal → Type 0
+IsMemberRefused key written ms r =
+    ((has_key key ms ≡ true) × IsAtKey key fault.DuplicateField r) ⊎ ((has_key key ms ≡ false) × IsPassedOn (Key key) written r)
+
+-- why a field without a value is not put to others: its key is there, or memory ran out
+abbrev pub IsDefaultRefused : SerializeOptions → Fields → FieldShape → Members → Refusal → Type 0
+IsDefaultRefused o fs f ms r =
+    ((is_written_default o fs f ≡ true) × (has_key (key_of_field o f) ms ≡ true) × IsAtKey (key_of_field o f) fault.DuplicateField r) ⊎ (r ≡ refused.Memory)

@@ -1,0 +1,165 @@
+ghost use Rattle.std.specs.Prelude.{◌≡◌, [], ◌∷◌, Some, false, IfOk, IfErr, OnOk};
+ghost use Rattle.serde_json.specs.View.{view, members_view};
+ghost use Rattle.pbx_wkt.specs.Names.{is_well_known};
+ghost use Rattle.pbx_meaning.specs.Content.{fields, kept, message};
+ghost use Rattle.pbx_meaning.specs.Encoding.{type_of};
+ghost use Rattle.pbx_meaning.specs.Meaning.{zero_of};
+ghost use Rattle.pbx_meaning.specs.Shape.{declared_of as declared_of_type};
+ghost use Rattle.pbx_codec.specs.View.{content_of};
+ghost use Rattle.pbx_json_meaning.specs.Types.{message_name};
+ghost use Rattle.pbx_json_meaning.specs.Asked.{one, has_presence as has_presence_of};
+ghost use Rattle.pbx_json_meaning.specs.Canonical.{default_by, default_tree as default_tree_of, is_written_default as is_written_default_of};
+ghost use Rattle.pbx_json_meaning.specs.Canonical.{tells, keeps_float};
+ghost use Rattle.pbx_json_writing.specs.Lines.{with_lines, default_lines, field_members};
+ghost use Rattle.pbx_json_writing.specs.Refusals.{Refused, IsDefaultRefused};
+ghost use Rattle.pbx_json_writing.specs.declared.refusal.Refusal.TheVariants as refused;
+
+use crate::enums::default_number;
+use crate::fields::{declared_of, is_float, key_of_field, message_type};
+use crate::members::add_member;
+use crate::refusal::Refusal;
+use crate::scalars::{base64_tree, enum_tree, integer_tree, is_integer};
+use pbx_codec::Contents;
+use pbx_json_meaning::SerializeOptions;
+use pbx_meaning::{Cardinality, FieldShape, Kind, Schema};
+use pbx_wire::NoMemory;
+use serde_json::{Map, Value};
+use std::alloc::Global;
+
+/// Whether the field's default is told apart from no value.
+fn has_presence(field: &FieldShape) -> bool
+    ensures { result ≡ has_presence_of field.now }
+{
+    match field.cardinality {
+        Cardinality::Singular => field.presence || matches!(field.kind, Kind::Message(_)),
+        Cardinality::Repeated | Cardinality::Map(_) => false,
+    }
+}
+
+/// Whether the field is written though it has no value.
+fn is_written_default(options: &SerializeOptions, contents: &Contents, field: &FieldShape) -> bool
+    ensures { result ≡ is_written_default_of options.now (fields (content_of contents.now)) field.now }
+{
+    !options.skip_default_fields
+        && !has_presence(field)
+        && !is_float(field.kind)
+        && !field.is_extension
+        && contents.get(field.number).is_none()
+}
+
+/// The default of a kind; of messages and floats none is written.
+fn zero_tree(
+    alloc: Global,
+    schema: &Schema,
+    options: &SerializeOptions,
+    kind: Kind,
+) -> Result<Value, NoMemory>
+    ensures { IfOk result (λ tree. default_by schema.now options.now kind (zero_of schema.now kind) ≡ Some (view tree)) }
+{
+    if is_integer(kind) {
+        return integer_tree(alloc, options, kind, 0);
+    }
+    match kind {
+        Kind::Bool => Ok(Value::Bool(false)),
+        Kind::String => Ok(Value::String(String::new(alloc))),
+        Kind::Bytes => base64_tree(alloc, &[]),
+        Kind::Enum(place) => enum_tree(
+            alloc,
+            schema,
+            options,
+            place,
+            i128::from(default_number(schema, place)),
+        ),
+        _ => Err(NoMemory),
+    }
+}
+
+/// What is written of a field without a value: its default, an empty array or an empty object.
+fn default_tree(
+    alloc: Global,
+    schema: &Schema,
+    options: &SerializeOptions,
+    field: &FieldShape,
+) -> Result<Value, Refusal>
+    ensures written { IfOk result (λ tree. default_tree_of schema.now options.now field.now field.now.cardinality ≡ Some (view tree)) }
+    ensures refused { IfErr result (λ r. r ≡ refused.Memory) }
+{
+    match field.cardinality {
+        Cardinality::Singular => match zero_tree(alloc, schema, options, field.kind) {
+            Ok(tree) => Ok(tree),
+            Err(NoMemory) => Err(Refusal::Memory),
+        },
+        Cardinality::Repeated => Ok(Value::Array(Vec::new(alloc))),
+        Cardinality::Map(_) => Ok(Value::Object(Map::new(alloc))),
+    }
+}
+
+/// Adds the field, if it is written though it has no value.
+fn add_default(
+    alloc: Global,
+    schema: &Schema,
+    options: &SerializeOptions,
+    contents: &Contents,
+    field: &FieldShape,
+    map: &mut Map<String, Value>,
+) -> Result<(), Refusal>
+    ensures written { OnOk result (with_lines (default_lines schema.now options.now (fields (content_of contents.now)) (field.now ∷ []))
+        (Some (members_view map.old.entries)) ≡ Some (members_view map.new.entries)) }
+    ensures refused { IfErr result (IsDefaultRefused options.now (fields (content_of contents.now)) field.now (members_view map.old.entries)) }
+{
+    if !is_written_default(options, contents, field) {
+        return Ok(());
+    }
+    let written = default_tree(alloc, schema, options, field);
+    add_member(alloc, key_of_field(options, field), written, map)
+}
+
+/// Adds the fields that are written though they have no value, where defaults are not skipped.
+pub(crate) fn add_defaults(
+    alloc: Global,
+    schema: &Schema,
+    options: &SerializeOptions,
+    kind: Kind,
+    contents: &Contents,
+    map: &mut Map<String, Value>,
+) -> Result<(), Refusal>
+    requires plain { is_well_known (message_name schema.now (type_of kind)) ≡ false }
+    requires fields { field_members schema.now options.now (declared_of_type schema.now (type_of kind)) (content_of contents.now)
+        ≡ Some (members_view map.old.entries) }
+    ensures written { OnOk result
+        (with_lines (default_lines schema.now options.now (fields (content_of contents.now)) (declared_of_type schema.now (type_of kind)))
+        (Some (members_view map.old.entries)) ≡ Some (members_view map.new.entries)) }
+    ensures refused { IfErr result (Refused schema.now options.now (message (content_of contents.now)) kind) }
+{
+    if options.skip_default_fields {
+        return Ok(());
+    }
+    for field in declared_of(schema, message_type(kind)) {
+        if let Err(refusal) = add_default(alloc, schema, options, contents, field, map) {
+            return Err(refusal);
+        }
+    }
+    Ok(())
+}
+
+/// The object of a message whose fields with values are these members.
+pub(crate) fn with_defaults(
+    alloc: Global,
+    schema: &Schema,
+    options: &SerializeOptions,
+    kind: Kind,
+    contents: &Contents,
+    mut map: Map<String, Value>,
+) -> Result<Value, Refusal>
+    requires plain { is_well_known (message_name schema.now (type_of kind)) ≡ false }
+    requires whole { keeps_float (declared_of_type schema.now (type_of kind)) (kept (content_of contents.now)) ≡ false }
+    requires fields { field_members schema.now options.now (declared_of_type schema.now (type_of kind)) (content_of contents.now)
+        ≡ Some (members_view map.entries) }
+    ensures written { IfOk result (λ tree. tells schema.now options.now (message (content_of contents.now)) (one kind) ≡ Some (view tree)) }
+    ensures refused { IfErr result (Refused schema.now options.now (message (content_of contents.now)) kind) }
+{
+    match add_defaults(alloc, schema, options, kind, contents, &mut map) {
+        Ok(()) => Ok(Value::Object(map)),
+        Err(refusal) => Err(refusal),
+    }
+}

@@ -1,0 +1,211 @@
+ghost use Rattle.std.specs.Prelude.{◌≡◌, ◌⊎◌, Some, None, map as map_list, false, IfOk, IfErr};
+ghost use Rattle.serde_json.specs.View.{view, members_view};
+ghost use Rattle.pbx_wkt.specs.Names.{is_well_known};
+ghost use Rattle.pbx_meaning.specs.Content.{message, many as many_of, keyed, vals_of, pairs_of};
+ghost use Rattle.pbx_meaning.specs.Encoding.{type_of};
+ghost use Rattle.pbx_meaning.specs.Shape.{declared_of};
+ghost use Rattle.pbx_meaning.specs.Sound.{IsSound};
+ghost use Rattle.pbx_codec.specs.View.{val_of, content_of, pair_of};
+ghost use Rattle.pbx_json_meaning.specs.Types.{message_name};
+ghost use Rattle.pbx_json_meaning.specs.Asked.{one};
+ghost use Rattle.pbx_json_meaning.specs.Canonical.{tells, canonical};
+ghost use Rattle.pbx_json_meaning.specs.WriteFaults.{WriteFault};
+ghost use Rattle.pbx_json_meaning.specs.declared.kind.JsonKind.TheVariants as fault;
+ghost use Rattle.pbx_json_writing.specs.Indexes.{AreIndexes};
+ghost use Rattle.pbx_json_writing.specs.Lines.{field_members};
+ghost use Rattle.pbx_json_writing.specs.Refusals.{Refused};
+
+use crate::defaults::with_defaults;
+use crate::enums::Indexes;
+use crate::fields::{field_numbered, is_plain_message, key_of_field, message_type};
+use crate::members::{add_item, add_member};
+use crate::refusal::Refusal;
+use crate::scalars::{key_text, scalar_tree};
+use pbx_codec::{Contents, Held, Pair};
+use pbx_json_meaning::{JsonError, JsonKind, SerializeOptions};
+use pbx_meaning::{Kind, Schema};
+use pbx_wire::List;
+use serde_json::{Map, Value};
+use std::alloc::Global;
+
+/// How many messages, lists and maps may stand inside one another: room for 1,024 levels of messages in lists or maps.
+const DEEPEST: u32 = 2049;
+
+/// A value as one of a kind, where the stack holds `room` levels.
+#[cycle(write)]
+fn held_tree(
+    held: &Held,
+    alloc: Global,
+    schema: &Schema,
+    options: &SerializeOptions,
+    indexes: &mut Indexes,
+    kind: Kind,
+    room: u32,
+) -> Result<Value, Refusal>
+    requires { AreIndexes schema.now indexes.old }
+    ensures written { IfOk result (λ tree. tells schema.now options.now (val_of held.now) (one kind) ≡ Some (view tree)) }
+    ensures refused { IfErr result (Refused schema.now options.now (val_of held.now) kind) }
+    ensures known { AreIndexes schema.now indexes.new }
+{
+    match held {
+        Held::Message(contents) => message_tree(
+            contents, alloc, schema, options, indexes, kind, room,
+        ),
+        Held::Many(many) => array_tree(many, alloc, schema, options, indexes, kind, room),
+        Held::Pairs(pairs) => entries_tree(pairs, alloc, schema, options, indexes, kind, room),
+        _ => scalar_tree(held, alloc, schema, options, indexes, kind),
+    }
+}
+
+/// The elements of a list.
+#[cycle(write)]
+fn array_tree(
+    many: &List<Held>,
+    alloc: Global,
+    schema: &Schema,
+    options: &SerializeOptions,
+    indexes: &mut Indexes,
+    kind: Kind,
+    room: u32,
+) -> Result<Value, Refusal>
+    requires { AreIndexes schema.now indexes.old }
+    ensures written { IfOk result (λ tree. tells schema.now options.now (many_of (vals_of (map_list val_of many.now))) (one kind) ≡ Some (view tree)) }
+    ensures refused { IfErr result (Refused schema.now options.now (many_of (vals_of (map_list val_of many.now))) kind) }
+    ensures known { AreIndexes schema.now indexes.new }
+{
+    if room == 0 {
+        return Err(Refusal::Memory);
+    }
+    let mut items = Vec::new(alloc);
+    for held in many.as_slice() {
+        let written = held_tree(held, alloc, schema, options, indexes, kind, room - 1);
+        if let Err(refusal) = add_item(written, &mut items) {
+            return Err(refusal);
+        }
+    }
+    Ok(Value::Array(items))
+}
+
+/// The entries of a map.
+#[cycle(write)]
+fn entries_tree(
+    pairs: &List<Pair>,
+    alloc: Global,
+    schema: &Schema,
+    options: &SerializeOptions,
+    indexes: &mut Indexes,
+    kind: Kind,
+    room: u32,
+) -> Result<Value, Refusal>
+    requires { AreIndexes schema.now indexes.old }
+    ensures written { IfOk result (λ tree. tells schema.now options.now (keyed (pairs_of (map_list pair_of pairs.now))) (one kind) ≡ Some (view tree)) }
+    ensures refused { IfErr result (Refused schema.now options.now (keyed (pairs_of (map_list pair_of pairs.now))) kind) }
+    ensures known { AreIndexes schema.now indexes.new }
+{
+    if room == 0 {
+        return Err(Refusal::Memory);
+    }
+    let mut map = Map::new(alloc);
+    for pair in pairs.as_slice() {
+        let Ok(key) = key_text(alloc, &pair.key) else {
+            return Err(Refusal::Memory);
+        };
+        let written = held_tree(&pair.held, alloc, schema, options, indexes, kind, room - 1);
+        if let Err(refusal) = add_member(alloc, key.as_str(), written, &mut map) {
+            return Err(refusal);
+        }
+    }
+    Ok(Value::Object(map))
+}
+
+/// The fields of a message that have a value.
+#[cycle(write)]
+fn field_map(
+    contents: &Contents,
+    alloc: Global,
+    schema: &Schema,
+    options: &SerializeOptions,
+    indexes: &mut Indexes,
+    kind: Kind,
+    room: u32,
+) -> Result<Map<String, Value>, Refusal>
+    requires plain { is_well_known (message_name schema.now (type_of kind)) ≡ false }
+    requires known { AreIndexes schema.now indexes.old }
+    ensures written { IfOk result (λ map. field_members schema.now options.now (declared_of schema.now (type_of kind)) (content_of contents.now)
+        ≡ Some (members_view map.entries)) }
+    ensures refused { IfErr result (Refused schema.now options.now (message (content_of contents.now)) kind) }
+    ensures known { AreIndexes schema.now indexes.new }
+{
+    let type_at = message_type(kind);
+    let mut map = Map::new(alloc);
+    for field in contents.fields.as_slice() {
+        let Some(found) = field_numbered(schema, type_at, field.0) else {
+            return Err(Refusal::here(alloc, JsonKind::WrongKind));
+        };
+        let written = held_tree(&field.1, alloc, schema, options, indexes, found.kind, room);
+        if let Err(refusal) = add_member(alloc, key_of_field(options, found), written, &mut map) {
+            return Err(refusal);
+        }
+    }
+    Ok(map)
+}
+
+/// A message as one of a kind.
+#[cycle(write)]
+fn message_tree(
+    contents: &Contents,
+    alloc: Global,
+    schema: &Schema,
+    options: &SerializeOptions,
+    indexes: &mut Indexes,
+    kind: Kind,
+    room: u32,
+) -> Result<Value, Refusal>
+    requires { AreIndexes schema.now indexes.old }
+    ensures written { IfOk result (λ tree. tells schema.now options.now (message (content_of contents.now)) (one kind) ≡ Some (view tree)) }
+    ensures refused { IfErr result (Refused schema.now options.now (message (content_of contents.now)) kind) }
+    ensures known { AreIndexes schema.now indexes.new }
+{
+    if room == 0 {
+        return Err(Refusal::Memory);
+    }
+    if let Err(refusal) = is_plain_message(alloc, schema, options, kind, contents) {
+        return Err(refusal);
+    }
+    match field_map(contents, alloc, schema, options, indexes, kind, room - 1) {
+        Ok(map) => with_defaults(alloc, schema, options, kind, contents, map),
+        Err(refusal) => Err(refusal),
+    }
+}
+
+/// The canonical tree of a content as a message of the type at a place of the schema.
+///
+/// A content that no message of the type may have can lack a tree with no rule broken; the error then has some kind and
+/// place. The stack is memory too: where messages, lists and maps stand inside one another more than 2,049 deep, as they
+/// do not where messages nest at most 1,024 levels, that is `NoMemory`.
+pub fn write_content(
+    alloc: Global,
+    schema: &Schema,
+    place: usize,
+    content: &Contents,
+    options: &SerializeOptions,
+) -> Result<Value, JsonError>
+    ensures written { IfOk result (λ tree. canonical schema.now place (content_of content.now) options.now ≡ Some (view tree)) }
+    ensures refused { IfErr result (λ e. (e.kind ≡ fault.NoMemory) ⊎ (canonical schema.now place (content_of content.now) options.now ≡ None)) }
+    ensures fault { IsSound schema.now place (content_of content.now)
+        → IfErr result (λ e. (e.kind ≡ fault.NoMemory) ⊎ WriteFault schema.now place (content_of content.now) options.now e.place e.kind) }
+{
+    let mut indexes = Indexes::new(alloc);
+    match message_tree(
+        content,
+        alloc,
+        schema,
+        options,
+        &mut indexes,
+        Kind::Message(place),
+        DEEPEST,
+    ) {
+        Ok(tree) => Ok(tree),
+        Err(refusal) => Err(refusal.told(alloc)),
+    }
+}
