@@ -5,4 +5,5 @@ pub mod Class
 pub mod Outcome
 pub mod Stops
 pub mod Parts
+pub mod Input
 pub mod Laws

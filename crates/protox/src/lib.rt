@@ -7,6 +7,7 @@
 
 mod carry;
 mod error;
+mod input_tree;
 mod json_line;
 mod laws;
 mod plan;

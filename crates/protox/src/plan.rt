@@ -7,8 +7,9 @@ ghost use Rattle.protox.specs.Parts.{IsJsonStop, IsInputStop, IsFileStop, IsStop
 ghost use Rattle.protox.specs.Stops.{PlanStops, Caused};
 
 use crate::error::TopError;
+use crate::input_tree::InputTree;
 use crate::stop::{Object, Refusal, Stop};
-use crate::transcode::{Attempt, Transcoded, compile_and_transcode};
+use crate::transcode::{Attempt, Transcoded, transcode_files};
 use pbx_json_meaning::canonical_is_plain;
 use pbx_wire::{Blob, NoMemory, Text, Texts};
 use protox_file::IncludeFileResolver;
@@ -121,10 +122,10 @@ fn paths_of(alloc: Global, file: &str) -> Result<Texts, NoMemory>
 }
 
 /// Compiles the file in the folder `.` with all that it imports, and transcodes the tree as a message of the type.
-fn compile<D: Disk>(alloc: Global, type_name: &str, file: &str, disk: D, tree: &Value) -> Planned<D>
+fn compile<D: Disk>(alloc: Global, type_name: &str, file: &str, disk: D, tree: Value) -> Planned<D>
     ensures done { IsTrue (D.tells disk) →
-        IfOk result.result (λ ready. Gives type_name.now file.now (D.holds disk) (view tree.now) ready.wire (string_bytes ready.text)) }
-    ensures stop { IsTrue (D.tells disk) → IfErr result.result (IsFileStop type_name.now file.now (D.holds disk) (view tree.now)) }
+        IfOk result.result (λ ready. Gives type_name.now file.now (D.holds disk) (view tree) ready.wire (string_bytes ready.text)) }
+    ensures stop { IsTrue (D.tells disk) → IfErr result.result (IsFileStop type_name.now file.now (D.holds disk) (view tree)) }
     ensures cause { IfErr result.result (Caused (Rose (D.faults disk) (D.faults result.disk) (D.at_end result.disk)) ⊥ ⊥) }
     ensures later { D.faults disk ≤ D.faults result.disk }
     ensures keeps_tells { D.tells result.disk ≡ D.tells disk }
@@ -143,7 +144,8 @@ fn compile<D: Disk>(alloc: Global, type_name: &str, file: &str, disk: D, tree: &
         };
     };
     let files = IncludeFileResolver::new(folder, disk);
-    let Attempt { resolver, result } = compile_and_transcode(alloc, files, &paths, type_name, tree);
+    let tree = InputTree::Owned(tree);
+    let Attempt { resolver, result } = transcode_files(alloc, files, &paths, type_name, tree);
     let disk = resolver.into_disk();
     match result {
         Ok(done) => {
@@ -184,7 +186,7 @@ pub(crate) fn plan<D: Disk, S: Source>(
     ensures keeps_holds { IsTrue (D.tells disk) → D.holds result.disk ≡ D.holds disk }
 {
     match read_tree(alloc, input) {
-        Ok(tree) => compile(alloc, type_name, file, disk, &tree),
+        Ok(tree) => compile(alloc, type_name, file, disk, tree),
         Err(stop) => Planned {
             disk,
             result: Err(stop),

@@ -3,18 +3,22 @@
 ghost use Rattle.std.specs.Prelude.{◌≡◌, ◌≤◌, ◌⊎◌, [], IfOk, IfErr, OnOk, IsTrue, List};
 ghost use Rattle.serde_json.specs.View.{view};
 ghost use Rattle.pbx_json_meaning.specs.Canonical.{canonical};
-ghost use Rattle.pbx_json_meaning.specs.Options.{default_writing};
+ghost use Rattle.pbx_json_meaning.specs.Options.{default_reading, default_writing};
+ghost use Rattle.pbx_json_meaning.specs.Trees.{HasTexts};
 ghost use Rattle.pbx_pool_laws.specs.Pool.{ArePooled};
 ghost use Rattle.pbx_described.specs.Descriptors.{message_of_name};
 ghost use Rattle.pbx_described.specs.Shapes.{shape_of, place_of};
+ghost use Rattle.pbx_message.specs.Trees.{IsRead};
 ghost use Rattle.protox_io.specs.Count.{Rose};
 ghost use Rattle.protox_compile.specs.Walk.{Done, records};
 ghost use Rattle.protox_compile.specs.Compiled.{IsOrdered};
 ghost use Rattle.protox_compile.specs.State.{Keeps};
+ghost use Rattle.protox.specs.Input.{data_of};
 ghost use Rattle.protox.specs.Parts.{IsClear, IsNotClear, IsNotTold, IsNamed, IsNotNamed, IsNotWritten, IsWire, IsWritten};
 ghost use Rattle.protox.specs.Top.{ForFiles, HaveClearNames, IsTranscoded, IsRefused, Refuses, IsCaused, Transcodes};
 
 use crate::error::{TopError, file_error, json_error, names_error};
+use crate::input_tree::InputTree;
 use crate::set::set_of;
 use pbx_desc::Message;
 use pbx_json::{JsonMessage, check_names, fits_levels};
@@ -80,24 +84,42 @@ fn write_both(alloc: Global, message: &DynamicMessage) -> Result<(Blob, Value), 
     }
 }
 
+/// The message of the type that the tree stands for; an own tree is let go.
+fn message_of(
+    alloc: Global,
+    desc: MessageDescriptor,
+    tree: InputTree<'_>,
+) -> Result<DynamicMessage, TopError>
+    ensures texts { HasTexts (data_of tree.entry) }
+    ensures of { IfOk result (λ m. m.of ≡ desc) }
+    ensures read { IfOk result (λ m. IsRead desc default_reading (data_of tree.entry) m.content) }
+    ensures err { IfErr result (IsNotTold desc (data_of tree.entry)) }
+{
+    let value = tree.as_value();
+    values_have_texts(value);
+    match DynamicMessage::deserialize(alloc, desc, value) {
+        Ok(message) => Ok(message),
+        Err(error) => Err(json_error(error)),
+    }
+}
+
 /// The wire bytes of the message of the type that the tree stands for, and its canonical tree.
 fn transcode_as(
     alloc: Global,
     desc: MessageDescriptor,
-    tree: &Value,
+    tree: InputTree<'_>,
 ) -> Result<(Blob, Value), TopError>
     ensures ok { IsClear (shape_of desc.pool) →
-        IfOk result (λ done. Transcodes (shape_of desc.pool) (place_of desc) (view tree.now) done.0 (view done.1)) }
-    ensures err { IsClear (shape_of desc.pool) → IfErr result (IsNotTold desc (view tree.now)) }
+        IfOk result (λ done. Transcodes (shape_of desc.pool) (place_of desc) (data_of tree.entry) done.0 (view done.1)) }
+    ensures err { IsClear (shape_of desc.pool) → IfErr result (IsNotTold desc (data_of tree.entry)) }
 {
     // What the message is written as stands for it, and decodes to it.
     canonical_stands();
     standing_is_written();
     encoding_decodes();
-    values_have_texts(tree);
-    let message = match DynamicMessage::deserialize(alloc, desc, tree) {
+    let message = match message_of(alloc, desc, tree) {
         Ok(message) => message,
-        Err(error) => return Err(json_error(error)),
+        Err(error) => return Err(error),
     };
     // What it holds may be held by a message of its type.
     let _sound = message.descriptor();
@@ -130,10 +152,10 @@ fn transcode_named(
     alloc: Global,
     pool: &DescriptorPool,
     type_name: &str,
-    tree: &Value,
+    tree: InputTree<'_>,
 ) -> Result<(Blob, Value), TopError>
-    ensures ok { IsClear (shape_of pool.now) → IfOk result (λ done. IsNamed pool.now type_name.now (view tree.now) done.0 (view done.1)) }
-    ensures err { IsClear (shape_of pool.now) → IfErr result (IsNotNamed pool.now type_name.now (view tree.now)) }
+    ensures ok { IsClear (shape_of pool.now) → IfOk result (λ done. IsNamed pool.now type_name.now (data_of tree.entry) done.0 (view done.1)) }
+    ensures err { IsClear (shape_of pool.now) → IfErr result (IsNotNamed pool.now type_name.now (data_of tree.entry)) }
 {
     // The message is one of this pool's.
     kinds_have_types();
@@ -149,10 +171,10 @@ fn transcode_in(
     alloc: Global,
     pool: &DescriptorPool,
     type_name: &str,
-    tree: &Value,
+    tree: InputTree<'_>,
 ) -> Result<Transcoded, TopError>
-    ensures ok { IfOk result (λ done. IsTranscoded type_name.now (view tree.now) pool.now done.set done.wire (view done.tree)) }
-    ensures err { IfErr result (IsRefused type_name.now (view tree.now) pool.now) }
+    ensures ok { IfOk result (λ done. IsTranscoded type_name.now (data_of tree.entry) pool.now done.set done.wire (view done.tree)) }
+    ensures err { IfErr result (IsRefused type_name.now (data_of tree.entry) pool.now) }
 {
     let set = match set_of(alloc, pool) {
         Ok(set) => set,
@@ -165,6 +187,53 @@ fn transcode_in(
     match transcode_named(alloc, pool, type_name, tree) {
         Ok((wire, tree)) => Ok(Transcoded { set, wire, tree }),
         Err(error) => Err(error),
+    }
+}
+
+/// As `compile_and_transcode`; an own tree is let go once it is read.
+pub(crate) fn transcode_files<R: FileResolver>(
+    alloc: Global,
+    resolver: R,
+    paths: &Texts,
+    type_name: &str,
+    tree: InputTree<'_>,
+) -> Attempt<R>
+    // Over a resolver that tells, the files are the closure of the paths.
+    ensures ok { IsTrue (R.tells resolver) → IfOk result.result (λ done. ForFiles (R.files resolver) (R.resolves resolver) paths.now
+        (λ files. IsTranscoded type_name.now (data_of tree.entry) files done.set done.wire (view done.tree))) }
+    ensures err { IsTrue (R.tells resolver) → IfErr result.result (Refuses (R.files resolver) (R.resolves resolver) paths.now type_name.now (data_of tree.entry)) }
+    ensures cause { IfErr result.result (IsCaused (Rose (R.faults resolver) (R.faults result.resolver) (R.at_end result.resolver))) }
+
+    // Over every resolver, the files stand in order, each once and behind its imports, and each is linked among those before it.
+    ensures ordered { IfOk result.result
+        (λ done. (files : List Done) × IsOrdered [] files × ArePooled [] (records files)
+        × IsTranscoded type_name.now (data_of tree.entry) (records files) done.set done.wire (view done.tree)) }
+    ensures later { R.faults resolver ≤ R.faults result.resolver }
+    ensures keeps { Keeps R.tells R.files R.resolves R.disk resolver result.resolver }
+{
+    let mut compiler = match Compiler::with_file_resolver(alloc, resolver) {
+        Ok(compiler) => compiler,
+        Err(resolver) => {
+            return Attempt {
+                resolver,
+                result: Err(TopError::NoMemory),
+            };
+        }
+    };
+    match compiler.open_files(paths) {
+        Ok(()) => {}
+        Err(error) => {
+            return Attempt {
+                resolver: compiler.into_resolver(),
+                result: Err(file_error(error)),
+            };
+        }
+    }
+    let pool = compiler.descriptor_pool();
+    let result = transcode_in(alloc, &pool, type_name, tree);
+    Attempt {
+        resolver: compiler.into_resolver(),
+        result,
     }
 }
 
@@ -196,28 +265,5 @@ pub fn compile_and_transcode<R: FileResolver>(
     ensures later { R.faults resolver ≤ R.faults result.resolver }
     ensures keeps { Keeps R.tells R.files R.resolves R.disk resolver result.resolver }
 {
-    let mut compiler = match Compiler::with_file_resolver(alloc, resolver) {
-        Ok(compiler) => compiler,
-        Err(resolver) => {
-            return Attempt {
-                resolver,
-                result: Err(TopError::NoMemory),
-            };
-        }
-    };
-    match compiler.open_files(paths) {
-        Ok(()) => {}
-        Err(error) => {
-            return Attempt {
-                resolver: compiler.into_resolver(),
-                result: Err(file_error(error)),
-            };
-        }
-    }
-    let pool = compiler.descriptor_pool();
-    let result = transcode_in(alloc, &pool, type_name, tree);
-    Attempt {
-        resolver: compiler.into_resolver(),
-        result,
-    }
+    transcode_files(alloc, resolver, paths, type_name, InputTree::Borrowed(tree))
 }

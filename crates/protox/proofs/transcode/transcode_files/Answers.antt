@@ -1,17 +1,18 @@
 use Rattle.serde_json.specs.View.{view}
 use Rattle.protox_io.specs.Count.{Rose}
+use Rattle.protox.specs.Input.{data_of}
 use Rattle.protox.proofs.Judged.{stopped, accepted, all_refused, all_given, all_pooled, of_disk, resolver_kept, resolver_same, walk_caused, pool_caused}
 use Rattle.protox.proofs.Transcoding.{ok_then, err_then}
 use Rattle.std.proofs.Common.{ap, subst, sym}
 use Rattle.protox.specs.Top.{IsCaused, Refuses, of_error}
 use Rattle.protox.specs.declared.error.TopError.{TopError}
-use Rattle.protox.proofs.transcode.compile_and_transcode.Goals as goal
+use Rattle.protox.proofs.transcode.transcode_files.Goals as goal
 
 pub returns-in-Err-open_files-clause-err : goal.returns-in-Err-open_files-clause-err
 returns-in-Err-open_files-clause-err g c tells =
-    let P : TopError → Type 0 = λ e. Refuses (g.R.FileResolver.files c.args.resolver) (g.R.FileResolver.resolves c.args.resolver) c.args.paths.now c.args.type_name.now (view c.args.tree.now) e in
+    let P : TopError → Type 0 = λ e. Refuses (g.R.FileResolver.files c.args.resolver) (g.R.FileResolver.resolves c.args.resolver) c.args.paths.now c.args.type_name.now (data_of c.args.tree) e in
     subst P (sym c.file_error.ensures)
-    (stopped g.R.FileResolver.tells g.R.FileResolver.files g.R.FileResolver.resolves c.args.resolver c.in-Ok.compiler c.args.paths.now c.open_files.new.self.done c.args.type_name.now (view c.args.tree.now) c.in-Err-open_files.error
+    (stopped g.R.FileResolver.tells g.R.FileResolver.files g.R.FileResolver.resolves c.args.resolver c.in-Ok.compiler c.args.paths.now c.open_files.new.self.done c.args.type_name.now (data_of c.args.tree) c.in-Err-open_files.error
     c.in-Ok.ensures.ok c.in-Err-open_files.ensures.err tells)
 
 pub returns-clause-ok : goal.returns-clause-ok
@@ -19,7 +20,7 @@ returns-clause-ok g c tells =
     ok_then c.transcode_in-result.result
     (λ done h. all_given (g.R.FileResolver.files c.args.resolver) (g.R.FileResolver.resolves c.args.resolver) c.args.paths.now c.open_files.new.self.done
     (accepted g.R.FileResolver.tells g.R.FileResolver.files g.R.FileResolver.resolves c.args.resolver c.in-Ok.compiler c.args.paths.now c.open_files.new.self.done c.in-Ok.ensures.ok c.in-Ok-open_files.ensures.ok tells)
-    c.descriptor_pool-pool.result c.descriptor_pool-pool.ensures.pool c.args.type_name.now (view c.args.tree.now) done.set done.wire (view done.tree) h)
+    c.descriptor_pool-pool.result c.descriptor_pool-pool.ensures.pool c.args.type_name.now (data_of c.args.tree) done.set done.wire (view done.tree) h)
     c.transcode_in-result.ensures.ok
 
 pub returns-clause-err : goal.returns-clause-err
@@ -27,7 +28,7 @@ returns-clause-err g c tells =
     err_then c.transcode_in-result.result
     (λ error h. all_refused (g.R.FileResolver.files c.args.resolver) (g.R.FileResolver.resolves c.args.resolver) c.args.paths.now c.open_files.new.self.done
     (accepted g.R.FileResolver.tells g.R.FileResolver.files g.R.FileResolver.resolves c.args.resolver c.in-Ok.compiler c.args.paths.now c.open_files.new.self.done c.in-Ok.ensures.ok c.in-Ok-open_files.ensures.ok tells)
-    c.descriptor_pool-pool.result c.descriptor_pool-pool.ensures.pool c.args.type_name.now (view c.args.tree.now) error h)
+    c.descriptor_pool-pool.result c.descriptor_pool-pool.ensures.pool c.args.type_name.now (data_of c.args.tree) error h)
     c.transcode_in-result.ensures.err
 
 pub returns-in-Err-clause-keeps : goal.returns-in-Err-clause-keeps
@@ -53,11 +54,11 @@ returns-in-Err-open_files-clause-cause g c =
 pub returns-clause-cause : goal.returns-clause-cause
 returns-clause-cause g c =
     err_then c.transcode_in-result.result
-    (λ error h. pool_caused _ c.args.type_name.now (view c.args.tree.now) c.descriptor_pool-pool.result error h) c.transcode_in-result.ensures.err
+    (λ error h. pool_caused _ c.args.type_name.now (data_of c.args.tree) c.descriptor_pool-pool.result error h) c.transcode_in-result.ensures.err
 
 pub returns-clause-ordered : goal.returns-clause-ordered
 returns-clause-ordered g c =
     ok_then c.transcode_in-result.result
-    (λ done h. all_pooled c.args.type_name.now (view c.args.tree.now) c.open_files.new.self.done c.descriptor_pool-pool.result done.set done.wire (view done.tree) c.descriptor_pool-pool.ensures.pool
+    (λ done h. all_pooled c.args.type_name.now (data_of c.args.tree) c.open_files.new.self.done c.descriptor_pool-pool.result done.set done.wire (view done.tree) c.descriptor_pool-pool.ensures.pool
     c.descriptor_pool-pool.ensures.ordered c.descriptor_pool-pool.ensures.pooled h)
     c.transcode_in-result.ensures.ok
