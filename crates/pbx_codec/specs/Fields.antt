@@ -26,6 +26,7 @@ field_like v = record {
   oneof = v.oneof;
   packed = false;
   default = None;
+  entry = None;
 }
 
 -- the fields of a message type, or of an entry of a map

@@ -1,5 +1,5 @@
 -- What rows of the table stand for.
-use Rattle.std.specs.Prelude.{map}
+use Rattle.std.specs.Prelude.{map, false}
 use Rattle.pbx_meaning.specs.declared.shape.FieldShape.{FieldShape}
 use Rattle.pbx_meaning.specs.declared.shape.MessageShape.{MessageShape}
 use Rattle.pbx_desc_shape.specs.declared.table.Form.{Form}
@@ -20,4 +20,4 @@ row_field r = field_of_form r.4 r
 
 -- the type of a row
 abbrev pub row_type : TypeRow → MessageShape
-row_type r = record { full_name = r.0.now; fields = map row_field r.1.now; keeps_order = r.2 }
+row_type r = record { full_name = r.0.now; fields = map row_field r.1.now; keeps_order = r.2; proto3 = false }

@@ -20,6 +20,7 @@ one_field n name json k = record {
   oneof = None;
   packed = false;
   default = None;
+  entry = None;
 }
 
 -- a field that is a list
@@ -35,6 +36,7 @@ list_field n name json k = record {
   oneof = None;
   packed = false;
   default = None;
+  entry = None;
 }
 
 -- a list of numbers that is written as one record (Protocol Buffers "Encoding": Packed Repeated Fields)
@@ -50,6 +52,7 @@ packed_field n name json k = record {
   oneof = None;
   packed = true;
   default = None;
+  entry = None;
 }
 
 -- the fields of FileDescriptorSet
@@ -188,13 +191,13 @@ location_fields =
     ∷ list_field 6 (codes "leading_detached_comments") (codes "leadingDetachedComments") kind.String
     ∷ []
 
--- a type of which the order of kept records of different numbers is no part of a content
+-- a type, of a proto2 file, of which the order of kept records of different numbers is no part of a content
 abbrev pub message_shape : List ℕ → List FieldShape → MessageShape
-message_shape name fields = record { full_name = name; fields = fields; keeps_order = false }
+message_shape name fields = record { full_name = name; fields = fields; keeps_order = false; proto3 = false }
 
 -- a type of options: no field is read, and the order of all records is a part of the content
 abbrev pub options_shape : List ℕ → MessageShape
-options_shape name = record { full_name = name; fields = []; keeps_order = true }
+options_shape name = record { full_name = name; fields = []; keeps_order = true; proto3 = false }
 
 -- The types by their places: 0 FileDescriptorSet, 1 FileDescriptorProto, 2 DescriptorProto, 3 FieldDescriptorProto, 4 DescriptorProto.ExtensionRange,
 -- 5 DescriptorProto.ReservedRange, 6 OneofDescriptorProto, 7 EnumDescriptorProto, 8 EnumDescriptorProto.EnumReservedRange,

@@ -27,6 +27,7 @@ fn field(alloc: Global, row: &FieldRow) -> Result<FieldShape, NoMemory>
         oneof: None,
         packed,
         default: None,
+        entry: None,
     })
 }
 
@@ -42,6 +43,7 @@ fn message(alloc: Global, row: &TypeRow) -> Result<MessageShape, NoMemory>
         full_name: Text::from_str(alloc, full_name)?,
         fields,
         keeps_order,
+        proto3: false,
     })
 }
 

@@ -17,7 +17,7 @@ use Rattle.pbx_desc_records.specs.declared.field.FieldDescriptorProto.{FieldDesc
 use Rattle.pbx_desc_records.specs.declared.message.DescriptorProto.{DescriptorProto}
 use Rattle.pbx_desc_records.specs.declared.file.FileDescriptorProto.{FileDescriptorProto}
 use Rattle.pbx_definitions.specs.Names.{text_or_empty}
-use Rattle.pbx_definitions.specs.Says.{number_or_zero, signed_or_zero, is_repeated}
+use Rattle.pbx_definitions.specs.Says.{number_or_zero, signed_or_zero, is_repeated, is_proto3}
 use Rattle.pbx_definitions.specs.Definitions.{message_name, enum_name, field_name}
 use Rattle.pbx_described.specs.Descriptors.{Described, number_of_field, all_messages, all_enums, fields_of_message, extensions_of_message, extension_json_name}
 use Rattle.pbx_described.specs.Descriptors.{values_of_enum, message_referred, referred, is_map, is_packed, has_presence, extension_has_presence, with_number}
@@ -90,6 +90,10 @@ value_kind x = if is_map x then entry_kind 2 (type_of_field x) else kind_of x
 abbrev pub cardinality_of : Described FieldDescriptorProto → Cardinality
 cardinality_of x = if is_map x then Map (entry_kind 1 (type_of_field x)) else (if is_repeated x.part.item then Repeated else Singular)
 
+-- of a map the place of the type of its entries
+abbrev pub entry_place : Described FieldDescriptorProto → Option ℕ
+entry_place x = if is_map x then Some (place_of_message x.pool x.part.item.type_name) else None
+
 -- ---- fields, messages, enums
 
 -- a field of a message
@@ -105,6 +109,7 @@ field_shape x = record {
   oneof = index_if x.part.item.oneof_index;
   packed = is_packed x;
   default = x.part.item.default_value;
+  entry = entry_place x;
 }
 
 -- an extension goes by its full name
@@ -123,6 +128,7 @@ message_shape d = record {
   full_name = message_name d.part;
   fields = map field_shape (fields_of_message d) ++ map extension_shape (extensions_of_message d);
   keeps_order = false;
+  proto3 = is_proto3 d.file;
 }
 
 -- a value of an enum

@@ -40,6 +40,7 @@ single n k = record {
   oneof = None;
   packed = false;
   default = None;
+  entry = None;
 }
 
 abbrev listed : ℕ → Kind → FieldShape
@@ -61,12 +62,13 @@ row = record {
       ∷ listed 8 kind.Sfixed32 ∷ single 7 (kind.Enum 0) ∷ listed 6 kind.Int32 ∷ single 5 kind.Bool ∷ single 4 kind.Sint32
       ∷ record (single 3 (kind.Message 0)) { presence = true } ∷ single 2 kind.String ∷ single 1 kind.Int32 ∷ [];
   keeps_order = false;
+  proto3 = true;
 }
 
 -- an enum whose first value has the number 2
 abbrev shape : Shape
 shape = record {
-  messages = row ∷ record { full_name = []; fields = []; keeps_order = true } ∷ [];
+  messages = row ∷ record { full_name = []; fields = []; keeps_order = true; proto3 = false } ∷ [];
   enums = record { full_name = []; values = record { name = []; number = pos 2 } ∷ [] } ∷ [];
 }
 
@@ -383,7 +385,7 @@ all_meant = refl
 
 abbrev entries_shape : Shape
 entries_shape = record {
-  messages = record { full_name = []; fields = mapped 7 kind.Int32 (kind.Enum 0) ∷ mapped 6 kind.String (kind.Message 0) ∷ []; keeps_order = false } ∷ [];
+  messages = record { full_name = []; fields = mapped 7 kind.Int32 (kind.Enum 0) ∷ mapped 6 kind.String (kind.Message 0) ∷ []; keeps_order = false; proto3 = false } ∷ [];
   enums = record { full_name = []; values = record { name = []; number = pos 2 } ∷ [] } ∷ [];
 }
 

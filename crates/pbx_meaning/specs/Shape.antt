@@ -86,6 +86,7 @@ entry_field n name k = record {
   oneof = None;
   packed = false;
   default = None;
+  entry = None;
 }
 
 -- the fields of an entry of a map whose keys and values are of these kinds (Protocol Buffers "Encoding": Maps)

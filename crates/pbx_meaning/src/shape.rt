@@ -81,6 +81,8 @@ pub struct FieldShape {
     pub packed: bool,
     /// The declared default in the words of the source, of proto2 alone.
     pub default: Option<Text>,
+    /// Of a map the type of its entries, by its place in `Shape::messages`.
+    pub entry: Option<usize>,
 }
 
 /// A message type.
@@ -92,6 +94,8 @@ pub struct MessageShape {
     pub fields: List<FieldShape>,
     /// Whether the order of kept records of different numbers is a part of the content, as it is of options.
     pub keeps_order: bool,
+    /// Whether the type stands in a file of proto3.
+    pub proto3: bool,
 }
 
 /// A value of an enum.

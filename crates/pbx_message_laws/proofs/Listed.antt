@@ -79,7 +79,7 @@ from-by_number (f ∷ fs) g c = at (from-inserted f g (by_number fs) c) (from-by
 
 -- the shape with the one type alone
 abbrev alone : Shape → ℕ → Shape
-alone shape t = record { messages = record { full_name = []; fields = declared_of shape t; keeps_order = false } ∷ []; enums = [] }
+alone shape t = record { messages = record { full_name = []; fields = declared_of shape t; keeps_order = false; proto3 = false } ∷ []; enums = [] }
 
 only_proper : (shape : Shape) (t : ℕ) → AreProper (declared_of shape t) → (s : ℕ) → AreProper (declared_of (alone shape t) s)
 unfolding IsDistinct

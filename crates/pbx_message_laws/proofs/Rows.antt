@@ -27,6 +27,7 @@ single n k = record {
   oneof = None;
   packed = false;
   default = None;
+  entry = None;
 }
 
 abbrev member : ℕ → FieldShape

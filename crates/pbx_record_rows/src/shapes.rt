@@ -102,6 +102,7 @@ fn field(alloc: Global, row: &FieldRow) -> Result<FieldShape, NoMemory> {
         },
         packed: true,
         default: None,
+        entry: None,
     })
 }
 
@@ -127,6 +128,7 @@ pub(crate) fn schema_named(alloc: Global, name: &str) -> Result<Schema, Stop> {
         full_name,
         fields,
         keeps_order: name == "options-in-order",
+        proto3: true,
     })?;
     let shape = Shape {
         messages,

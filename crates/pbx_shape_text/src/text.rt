@@ -84,6 +84,7 @@ fn field(alloc: Global, text: &str) -> Result<FieldShape, ShapeTextError> {
         oneof,
         packed,
         default: None,
+        entry: None,
     })
 }
 
@@ -102,6 +103,7 @@ fn message(alloc: Global, text: &str) -> Result<MessageShape, ShapeTextError> {
         full_name: Text::from_str(alloc, "")?,
         fields,
         keeps_order,
+        proto3: true,
     })
 }
 

@@ -124,7 +124,7 @@ module _ (xs : List (Described FieldDescriptorProto)) (x : Described FieldDescri
   own = map field_shape (fields_of_message d)
 
   abbrev with_fields : List FieldShape → MessageShape
-  with_fields fs = record { full_name = message_name d.part; fields = fs; keeps_order = false }
+  with_fields fs = record { full_name = message_name d.part; fields = fs; keeps_order = false; proto3 = is_proto3 d.file }
 
   pushed : (b : Bool) → extends ≡ b → extending d (xs ++ x ∷ []) ≡ extending d xs ++ cond b (x ∷ []) []
   pushed b w =

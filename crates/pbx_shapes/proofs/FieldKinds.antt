@@ -15,8 +15,9 @@ use Rattle.pbx_pooled.specs.Pooled.{by_file}
 use Rattle.pbx_pool.specs.Places.{place_with_file}
 use Rattle.pbx_pool.proofs.Found.{told_from, stands_at, no_place}
 use Rattle.pbx_described.specs.Descriptors.{Described, described, all_parts, message_of_name, message_referred, referred, is_entry_described, fields_of_message, with_number}
-use Rattle.pbx_described.specs.Shapes.{kind_of, part_kind, entry_kind, value_kind, cardinality_of, field_shape, extension_shape, value_shape, enum_shape}
-use Rattle.pbx_shapes.specs.Items.{message_item, item_at, item_kind, if_entry, entry_of, item_kind_if, item_numbered, item_entry_kind, value_kind_by, cardinality_by, item_kinds, item_shape, part_shape, item_value, part_enum}
+use Rattle.pbx_described.specs.Shapes.{place_of_message, kind_of, part_kind, entry_kind, value_kind, cardinality_of, entry_place, field_shape, extension_shape, value_shape, enum_shape}
+use Rattle.pbx_shapes.specs.declared.kinds.FieldType.{FieldType}
+use Rattle.pbx_shapes.specs.Items.{message_item, item_at, item_kind, if_entry, entry_of, item_kind_if, item_numbered, item_entry_kind, value_kind_by, cardinality_by, entry_place_by, item_type, item_shape, part_shape, item_value, part_enum}
 use Rattle.pbx_described.proofs.Lists.{File, parts_back}
 use Rattle.pbx_shapes.proofs.Lists.{find_mapped, items_of_parts, mapped_items, has_pool}
 
@@ -128,25 +129,36 @@ module _ (pool : List File) (f : File) (p : Part FieldDescriptorProto) where
       at true = ap Map (in_entry 1 m ∙ ap (λ (fs : List File). item_entry_kind fs 1 m.part.item) (h m refl))
       at false = sym (ap (λ (b : Bool). if b then Repeated else Singular) w)
 
-  value_same : value_kind (described pool f p) ≡ (item_kinds pool item).0
-  unfolding item_kinds entry_of message_item
-  value_same = value_by (is_repeated item) type (referred_pool pool item.type_name)
+  entry_at : (r : Bool) (o : Option (Described DescriptorProto))
+      → (if (r && is_entry_described o) then Some (place_of_message pool item.type_name) else None) ≡ entry_place_by pool item (entry r o)
+  entry_at false o = refl
+  entry_at true None = refl
+  entry_at true (Some m) = at (is_entry m.part.item)
+    where
+      at : (b : Bool) → (if b then Some (place_of_message pool item.type_name) else None) ≡ entry_place_by pool item (if b then Some m.part.item else None)
+      at true = refl
+      at false = refl
 
-  cardinality_same : cardinality_of (described pool f p) ≡ (item_kinds pool item).1
-  unfolding item_kinds entry_of message_item
-  cardinality_same = cardinality_at (is_repeated item) type refl (referred_pool pool item.type_name)
+  abbrev typed : FieldType
+  typed = record { kind = value_kind (described pool f p); cardinality = cardinality_of (described pool f p); entry = entry_place (described pool f p) }
+
+  type_same : typed ≡ item_type pool item
+  unfolding item_type entry_of message_item
+  type_same =
+      ap (λ (k : Kind). record typed { kind = k }) (value_by (is_repeated item) type (referred_pool pool item.type_name))
+      ∙ ap (λ (c : Cardinality). record typed { kind = value_kind_by pool item (entry_of pool item); cardinality = c })
+      (cardinality_at (is_repeated item) type refl (referred_pool pool item.type_name))
+      ∙ ap (λ (e : Option ℕ).
+      record { kind = value_kind_by pool item (entry_of pool item); cardinality = cardinality_by pool item (entry_of pool item); entry = e })
+      (entry_at (is_repeated item) type)
 
   pub field_same : field_shape (described pool f p) ≡ item_shape pool (is_proto3 f) item
   unfolding item_shape
-  field_same =
-      ap (λ (k : Kind). record (field_shape (described pool f p)) { kind = k }) value_same
-      ∙ ap (λ (c : Cardinality). record (field_shape (described pool f p)) { kind = (item_kinds pool item).0; cardinality = c }) cardinality_same
+  field_same = ap (λ (t : FieldType). record (field_shape (described pool f p)) { kind = t.kind; cardinality = t.cardinality; entry = t.entry }) type_same
 
   pub extension_same : extension_shape (described pool f p) ≡ part_shape pool (is_proto3 f) p
   unfolding part_shape
-  extension_same =
-      ap (λ (k : Kind). record (extension_shape (described pool f p)) { kind = k }) value_same
-      ∙ ap (λ (c : Cardinality). record (extension_shape (described pool f p)) { kind = (item_kinds pool item).0; cardinality = c }) cardinality_same
+  extension_same = ap (λ (t : FieldType). record (extension_shape (described pool f p)) { kind = t.kind; cardinality = t.cardinality; entry = t.entry }) type_same
 
 pub enum_same : (pool : List File) (f : File) (p : Part EnumDescriptorProto) → enum_shape (described pool f p) ≡ part_enum p
 unfolding part_enum

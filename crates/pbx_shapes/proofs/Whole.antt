@@ -48,7 +48,7 @@ part_there {X} (p ∷ ps) i o lt is none =
 own_message : (pool : List File) (f : File) (p : Part DescriptorProto) → shape_with [] (described pool f p) ≡ own_shape pool (is_proto3 f) p
 unfolding shape_with own_shape
 own_message pool f p =
-    ap (λ (fs : List FieldShape). record { full_name = message_name p; fields = fs; keeps_order = false })
+    ap (λ (fs : List FieldShape). record { full_name = message_name p; fields = fs; keeps_order = false; proto3 = is_proto3 f })
     (append-nil (map field_shape (fields_of_message (described pool f p)))
     ∙ mapped_items pool f field_shape (item_shape pool (is_proto3 f)) (field_same pool f) (fields_in p)
     ∙ ap (map (item_shape pool (is_proto3 f))) (items_of_parts (message_name p) p.place 2 (own_fields p.item)))

@@ -7,6 +7,7 @@ use Rattle.pbx_desc_records.specs.declared.file.FileDescriptorProto.{FileDescrip
 use Rattle.pbx_desc_records.specs.declared.message.DescriptorProto.{DescriptorProto}
 use Rattle.pbx_definitions.specs.Names.{is_named, dotted}
 use Rattle.pbx_definitions.specs.Definitions.{message_name}
+use Rattle.pbx_definitions.specs.Says.{is_proto3}
 use Rattle.pbx_described.specs.Descriptors.{Described, all_messages, fields_of_message}
 use Rattle.pbx_pool_laws.specs.Pool.{ArePooled}
 use Rattle.pbx_described.specs.Shapes.{field_shape, extension_shape}
@@ -22,6 +23,7 @@ shape_with xs d = record {
   full_name = message_name d.part;
   fields = map field_shape (fields_of_message d) ++ map extension_shape (extending d xs);
   keeps_order = false;
+  proto3 = is_proto3 d.file;
 }
 
 -- all messages with these extensions

@@ -17,7 +17,8 @@ use Rattle.pbx_definitions.specs.Names.{text_or_empty}
 use Rattle.pbx_definitions.specs.Definitions.{Part, messages, message_name, enum_name, field_name}
 use Rattle.pbx_definitions.specs.Says.{number_or_zero, signed_or_zero, is_number, is_repeated, is_entry, own_fields, option_bool}
 use Rattle.pbx_described.specs.Descriptors.{Described, message_referred, is_packable, packed_by}
-use Rattle.pbx_described.specs.Shapes.{index_if, kind_by}
+use Rattle.pbx_described.specs.Shapes.{index_if, kind_by, place_of_message}
+use Rattle.pbx_shapes.specs.declared.kinds.FieldType.{FieldType}
 
 -- ---- kinds
 
@@ -66,9 +67,18 @@ abbrev pub cardinality_by : List FileDescriptorProto → FieldDescriptorProto �
 cardinality_by pool x None = if is_repeated x then Repeated else Singular
 cardinality_by pool x (Some entry) = Map (item_entry_kind pool 1 entry)
 
--- the kind of a value, and how many there are
-unfoldable pub item_kinds : List FileDescriptorProto → FieldDescriptorProto → Kind × Cardinality
-item_kinds pool x = (value_kind_by pool x (entry_of pool x), cardinality_by pool x (entry_of pool x))
+-- the place of the type of the entries of a map with this entry
+abbrev pub entry_place_by : List FileDescriptorProto → FieldDescriptorProto → Option DescriptorProto → Option ℕ
+entry_place_by pool x None = None
+entry_place_by pool x (Some entry) = Some (place_of_message pool x.type_name)
+
+-- the kind of a value, how many there are, and of a map the place of the type of its entries
+unfoldable pub item_type : List FileDescriptorProto → FieldDescriptorProto → FieldType
+item_type pool x = record {
+  kind = value_kind_by pool x (entry_of pool x);
+  cardinality = cardinality_by pool x (entry_of pool x);
+  entry = entry_place_by pool x (entry_of pool x);
+}
 
 -- ---- fields
 
@@ -87,12 +97,13 @@ item_shape pool proto3 x = record {
   name = text_or_empty x.name;
   json_name = text_or_empty x.json_name;
   is_extension = false;
-  kind = (item_kinds pool x).0;
-  cardinality = (item_kinds pool x).1;
+  kind = (item_type pool x).kind;
+  cardinality = (item_type pool x).cardinality;
   presence = item_presence proto3 x;
   oneof = index_if x.oneof_index;
   packed = item_packed proto3 x;
   default = x.default_value;
+  entry = (item_type pool x).entry;
 }
 
 -- an extension
@@ -102,23 +113,29 @@ part_shape pool proto3 p = record {
   name = field_name p;
   json_name = 91 ∷ field_name p ++ 93 ∷ [];
   is_extension = true;
-  kind = (item_kinds pool p.item).0;
-  cardinality = (item_kinds pool p.item).1;
+  kind = (item_type pool p.item).kind;
+  cardinality = (item_type pool p.item).cardinality;
   presence = not (is_repeated p.item);
   oneof = None;
   packed = item_packed proto3 p.item;
   default = p.item.default_value;
+  entry = (item_type pool p.item).entry;
 }
 
 -- ---- messages and enums
 
 -- a message with its own fields alone
 unfoldable pub own_shape : List FileDescriptorProto → Bool → Part DescriptorProto → MessageShape
-own_shape pool proto3 p = record { full_name = message_name p; fields = map (item_shape pool proto3) (own_fields p.item); keeps_order = false }
+own_shape pool proto3 p = record {
+  full_name = message_name p;
+  fields = map (item_shape pool proto3) (own_fields p.item);
+  keeps_order = false;
+  proto3 = proto3;
+}
 
 -- the message with one more field
 abbrev pub with_field : FieldShape → MessageShape → MessageShape
-with_field x m = record { full_name = m.full_name; fields = m.fields ++ x ∷ []; keeps_order = m.keeps_order }
+with_field x m = record { full_name = m.full_name; fields = m.fields ++ x ∷ []; keeps_order = m.keeps_order; proto3 = m.proto3 }
 
 -- a value of an enum
 abbrev pub item_value : EnumValueDescriptorProto → EnumValueShape

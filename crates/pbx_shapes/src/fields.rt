@@ -2,7 +2,7 @@
 ghost use Rattle.std.specs.Prelude.{◌≡◌, IfOk, map};
 ghost use Rattle.pbx_shapes.specs.Items.{item_shape, part_shape};
 
-use crate::kinds::kinds;
+use crate::kinds::{FieldType, field_type};
 use crate::records::{has_presence, index_if, is_packed, is_repeated, option_copy, text_copy};
 use crate::types::Types;
 use pbx_definitions::{PartRef, name_in, number_or_zero, text_or_empty};
@@ -21,7 +21,11 @@ fn field_shape(
 ) -> Result<FieldShape, NoMemory>
     ensures { IfOk result (λ shape. shape ≡ item_shape types.now proto3 field.now) }
 {
-    let (kind, cardinality) = kinds(types, field);
+    let FieldType {
+        kind,
+        cardinality,
+        entry,
+    } = field_type(types, field);
     Ok(FieldShape {
         number: number_or_zero(field.number),
         name: text_copy(alloc, &field.name)?,
@@ -33,6 +37,7 @@ fn field_shape(
         oneof: index_if(field.oneof_index),
         packed: is_packed(proto3, field),
         default: option_copy(alloc, &field.default_value)?,
+        entry,
     })
 }
 
@@ -63,7 +68,11 @@ pub(crate) fn extension_shape(
     ensures { IfOk result (λ shape. shape ≡ part_shape types.now proto3 part.now) }
 {
     let field = part.item();
-    let (kind, cardinality) = kinds(types, field);
+    let FieldType {
+        kind,
+        cardinality,
+        entry,
+    } = field_type(types, field);
     let name = name_in(alloc, part.scope(), text_or_empty(&field.name))?;
     let json_name = Text::between(alloc, "[", &name, "]")?;
     Ok(FieldShape {
@@ -77,5 +86,6 @@ pub(crate) fn extension_shape(
         oneof: None,
         packed: is_packed(proto3, field),
         default: option_copy(alloc, &field.default_value)?,
+        entry,
     })
 }

@@ -2,7 +2,7 @@
 ghost use Rattle.std.specs.Prelude.{◌≡◌, option_copied};
 ghost use Rattle.pbx_definitions.specs.Says.{own_fields};
 ghost use Rattle.pbx_described.specs.Shapes.{scalar_kind as scalar_kind_of, kind_by as kind_by_of};
-ghost use Rattle.pbx_shapes.specs.Items.{item_kind, entry_of as entry_of_item, item_numbered, item_entry_kind, item_kinds};
+ghost use Rattle.pbx_shapes.specs.Items.{item_kind, entry_of as entry_of_item, item_numbered, item_entry_kind, item_type};
 
 use crate::records::{is_entry, is_number, is_repeated};
 use crate::types::Types;
@@ -10,6 +10,13 @@ use pbx_definitions::number_or_zero;
 use pbx_desc_records::{DescriptorProto, FieldDescriptorProto};
 use pbx_meaning::{Cardinality, Kind};
 use pbx_wire::Text;
+
+/// What the values of a field are, how many there are, and of a map the place of the type of its entries.
+pub(crate) struct FieldType {
+    pub(crate) kind: Kind,
+    pub(crate) cardinality: Cardinality,
+    pub(crate) entry: Option<usize>,
+}
 
 /// The scalar of a number of `FieldDescriptorProto.Type`; 10, 11 and 14 are no scalars.
 fn scalar_kind(number: u32) -> Kind
@@ -85,17 +92,26 @@ fn entry_kind(types: &Types<'_>, entry: &DescriptorProto, number: u8) -> Kind
     }
 }
 
-/// The kind of the values of a field, and how many there are.
-#[tactic(auto, unfolding(crate::specs::Items::item_kinds))]
-pub(crate) fn kinds(types: &Types<'_>, field: &FieldDescriptorProto) -> (Kind, Cardinality)
-    ensures { result ≡ item_kinds types.now field.now }
+/// The type of a field; of a map it tells the type of its entries.
+#[tactic(auto, unfolding(crate::specs::Items::item_type))]
+pub(crate) fn field_type(types: &Types<'_>, field: &FieldDescriptorProto) -> FieldType
+    ensures { result ≡ item_type types.now field.now }
 {
     match entry_of(types, field) {
-        Some(entry) => (
-            entry_kind(types, entry, 2),
-            Cardinality::Map(entry_kind(types, entry, 1)),
-        ),
-        None if is_repeated(field) => (kind_of(types, field), Cardinality::Repeated),
-        None => (kind_of(types, field), Cardinality::Singular),
+        Some(entry) => FieldType {
+            kind: entry_kind(types, entry, 2),
+            cardinality: Cardinality::Map(entry_kind(types, entry, 1)),
+            entry: Some(types.place_of_message(&field.type_name)),
+        },
+        None if is_repeated(field) => FieldType {
+            kind: kind_of(types, field),
+            cardinality: Cardinality::Repeated,
+            entry: None,
+        },
+        None => FieldType {
+            kind: kind_of(types, field),
+            cardinality: Cardinality::Singular,
+            entry: None,
+        },
     }
 }

@@ -32,6 +32,7 @@ fn message_shape(
         full_name,
         fields,
         keeps_order: false,
+        proto3,
     })
 }
 
