@@ -16,3 +16,6 @@ pub mod Symbols
 pub mod Groups
 pub mod Padding
 pub mod Writing
+pub mod Ranges
+pub mod MaskTexts
+pub mod Rewritten

@@ -44,7 +44,7 @@ all_high c h =
           high 128 (c % 64) (omega arith),
         ) refl
 
-high_snake : (b : ℕ) → is_high b ≡ true → snake_char b ≡ b ∷ []
+pub high_snake : (b : ℕ) → is_high b ≡ true → snake_char b ≡ b ∷ []
 high_snake b h =
     let low : nat_le 65 b ≡ true = grind (arith, nat_tests, h) in
     let past : nat_le b 90 ≡ false = grind (arith, nat_tests, h) in

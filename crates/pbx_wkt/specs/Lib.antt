@@ -1,1 +1,5 @@
 pub mod Names
+pub mod Types
+pub mod Known
+pub mod Shapes
+pub mod Rows

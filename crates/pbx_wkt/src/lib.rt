@@ -4,6 +4,15 @@
 ghost use Rattle.std.specs.Prelude.{◌≡◌};
 ghost use Rattle.pbx_wkt.specs.Names.{is_well_known};
 
+mod form;
+mod place;
+mod row;
+mod shape;
+mod table;
+
+pub use form::Form;
+pub use shape::{form_of, type_has_shape};
+
 /// Whether a full name, without a leading dot, is that of one of the seventeen message types in
 /// `google.protobuf` that JSON has a form of its own for.
 #[tactic(auto, unfolding(crate::specs::Names::is_well_known))]
