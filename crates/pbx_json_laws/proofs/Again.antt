@@ -1,5 +1,5 @@
 -- All that was read of a tree has a canonical tree, which reads back as the same.
-use Rattle.std.proofs.Common.{◌≡◌, ℕ, ◌&&◌, List, [], ◌∷◌, map as map_list, Bool, true, false, Option, Some, None, option_map, option_and_then, refl, ap, sym, ◌∙◌, subst}
+use Rattle.std.proofs.Common.{◌≡◌, inl, inr, ℕ, List, [], ◌∷◌, map as map_list, Bool, true, false, Option, Some, None, option_map, option_and_then, refl, ap, sym, ◌∙◌, subst}
 use Rattle.pbx_wire.specs.declared.rec.Rec.{Rec}
 use Rattle.serde_json.specs.Data.{Data, array, object, item, Members, no_members, member}
 use Rattle.pbx_meaning.specs.Content as content
@@ -11,26 +11,33 @@ use Rattle.pbx_meaning.specs.declared.shape.Kind.{Kind}
 use Rattle.pbx_meaning.specs.declared.shape.Kind.TheVariants as kind
 use Rattle.pbx_meaning.specs.declared.shape.FieldShape.{FieldShape}
 use Rattle.pbx_meaning.specs.declared.shape.Shape.{Shape}
+use Rattle.pbx_wkt.specs.Shapes.{form_of}
+use Rattle.pbx_wkt.specs.declared.form.Form.{Form}
+use Rattle.pbx_wkt.specs.declared.form.Form.TheVariants as forms
+use Rattle.pbx_json_meaning.specs.Forms.{is_object_form, skips}
 use Rattle.pbx_json_meaning.specs.Asked.{field, one, Target, single, list, map, target_by}
 use Rattle.pbx_json_meaning.specs.Names.{field_named}
-use Rattle.pbx_json_meaning.specs.Canonical.{canonical, key_of_field, Tells, keeps_float}
+use Rattle.pbx_json_meaning.specs.Canonical.{canonical, key_of_field, Tells}
 use Rattle.pbx_json_meaning.specs.Canonical.{items_of, entry_line, tells, content_tree, fields_tell, vals_tell, pairs_tell}
 use Rattle.pbx_json_meaning.specs.Clash.{name_fault}
 use Rattle.pbx_json_meaning.specs.Laws.{StandingIsWritten, CanonicalStands, WrittenStands}
 use Rattle.pbx_json_meaning.specs.Named.{IsWellNamed}
 use Rattle.pbx_json_meaning.specs.Trees.{HasTexts}
-use Rattle.pbx_json_meaning.specs.Stands.{Stands, message_in, pairs_of, if_differ, Says, all_read, present, entries_read, message_as, map_as, said}
+use Rattle.pbx_json_meaning.specs.Stands.{Stands, message_in, pairs_of, if_differ, Says, all_read, present, entries_read, own_as, message_as, map_as, said}
 use Rattle.pbx_json_meaning.specs.Stands.{items_said, entries_said}
 use Rattle.pbx_json_meaning.specs.declared.options.SerializeOptions.{SerializeOptions}
 use Rattle.pbx_json_laws.proofs.EntriesBack.{LinesSay, ReadsAs, lines_read}
-use Rattle.pbx_json_laws.proofs.Fits.{Fits, FitsAs, FieldsFit, AllFit, PairsFit, FitsOption}
+use Rattle.pbx_json_laws.proofs.Fits.{Fits, FitsAs, IsOwnRead, FieldsFit, AllFit, PairsFit, FitsOption}
 use Rattle.pbx_json_laws.proofs.LinesBack.{ValuesBack, lines_back}
 use Rattle.pbx_json_laws.proofs.NamesBack.{key_names, fault_by_name}
 use Rattle.pbx_json_laws.proofs.ScalarsBack.{number_back, truth_back, text_as_is, bytes_back, key_back, no_null}
 use Rattle.pbx_json_laws.proofs.Back.{kind_by, tells_kind, IsBack, element_says, field_says, scalar_is_back, no_float}
 use Rattle.pbx_json_laws.proofs.DefaultsBack.{default_back}
+use Rattle.pbx_json_laws.proofs.FormsBack.{is_held, form_back}
+use Rattle.pbx_json_laws.proofs.OwnBack.{none_kept, ContentBack, FieldBack, FirstBack, several_back, value_back_of}
+use Rattle.pbx_json_laws.proofs.Numbers.{field_of-by_number}
 use Rattle.pbx_json_laws.proofs.FitTrees.{standing_fits}
-use Rattle.pbx_json_laws.proofs.Read.{said_is}
+use Rattle.pbx_json_laws.proofs.Read.{said_is, items_in, entries_in}
 use Rattle.pbx_json_laws.proofs.Parts.{of_some}
 use Rattle.pbx_json_laws.proofs.FitSound.{no_number}
 
@@ -40,28 +47,58 @@ module _ (shape : Shape) (proper : IsProper shape) (well : IsWellNamed shape) (o
 
   -- ---- messages
 
-  abbrev ContentBack : Content → ℕ → Type 0
-  ContentBack c t = (ms : Members) × (content_tree shape o c t ≡ Some (object ms)) × (message_as shape false t (object ms) (entries_said shape false ms) ≡ Some c)
+  -- what is written is read with unknown keys denied
+  denied : (form : Form) → skips form false ≡ false
+  denied forms.Empty = refl
+  denied _ = refl
 
-  none_kept : (gs : List FieldShape) → keeps_float gs [] ≡ false
-  none_kept [] = refl
-  none_kept (f ∷ gs) = rw (at (is_float f.kind), none_kept gs) refl
-    where
-      at : (b : Bool) → (b && false) ≡ false
-      at true = refl
-      at false = refl
-
-  content_of_lines : (fs : Fields) (kept : List Rec) (t : ℕ) → FitsAs shape (content.content fs kept) t
-      → ValuesBack shape o (declared_of shape t) (named t) fs (fields_tell shape o fs) → ContentBack (content.content fs kept) t
-  content_of_lines fs kept t h back =
+  object_of_lines : (fs : Fields) (t : ℕ) → is_object_form (form_of shape t) ≡ true → FitsAs shape (content.content fs []) t
+      → ValuesBack shape o (declared_of shape t) (named t) fs (fields_tell shape o fs) → ContentBack shape o t (content.content fs [])
+  object_of_lines fs t is h back =
       let gs = declared_of shape t in
       let it = lines_back shape o gs (named t) (proper.types t) fs h.2 h.3 (fields_tell shape o fs) back (λ f e w. default_back shape proper well o fs f w) in
-      let bare : kept ≡ [] = h.0 in
       let made : content_tree shape o (content.content fs []) t ≡ Some (object it.0) =
-      rw (h.1, none_kept gs) (ap (λ r. option_map object r) it.1) in
-      let says : message_as shape false t (object it.0) (entries_said shape false it.0) ≡ Some (content.content fs []) = rw h.1 it.2 in
-      let P : List Rec → Type 0 = λ k. ContentBack (content.content fs k) t in
-      subst P (sym bare) (it.0, made, says)
+      rw (is, none_kept gs) (ap (λ r. option_map object r) it.1) in
+      let says : message_as shape false t (object it.0) [] (entries_said shape false it.0) ≡ Some (content.content fs []) =
+      rw (is, denied (form_of shape t)) it.2 in
+      (object it.0, made, says, λ e. absurd (no_null (object it.0) (λ x. x) e))
+
+  -- a message that is told by a text or a scalar
+  form_at_once : (fs : Fields) (kept : List Rec) (t : ℕ) → is_object_form (form_of shape t) ≡ false → is_held (form_of shape t) ≡ false
+      → FitsAs shape (content.content fs kept) t → ContentBack shape o t (content.content fs kept)
+  form_at_once fs kept t is at h =
+      let it = form_back shape proper well o t (form_of shape t) (content.content fs kept) refl is at h.1 in (
+        it.tree,
+        rw is (it.made kept (fields_tell shape o fs)),
+        rw is (ap (λ r. own_as shape r it.tree (items_in shape false it.tree) (entries_in shape false it.tree)) it.back),
+        λ e. absurd (it.not_null e),
+      )
+
+  -- a message that is told by the value of one field
+  form_held : (form : Form) (c : Content) (t : ℕ) → form_of shape t ≡ form → is_held form ≡ true → IsOwnRead shape t form c → FirstBack shape o t c
+      → ContentBack shape o t c
+  form_held forms.Struct c t is at (x, e) first =
+      let P : Content → Type 0 = λ y. FirstBack shape o t y → ContentBack shape o t y in
+      subst P e (several_back shape o t forms.Struct (inl refl) is x) first
+  form_held forms.ListValue c t is at (x, e) first =
+      let P : Content → Type 0 = λ y. FirstBack shape o t y → ContentBack shape o t y in
+      subst P e (several_back shape o t forms.ListValue (inr refl) is x) first
+  form_held forms.Value c t is at (x, e) first =
+      let P : Content → Type 0 = λ y. FirstBack shape o t y → ContentBack shape o t y in
+      subst P e (value_back_of shape o t is x) first
+  form_held _ c t is at own first = absurd (cc)
+
+  content_of_lines : (fs : Fields) (kept : List Rec) (t : ℕ) → FitsAs shape (content.content fs kept) t
+      → ValuesBack shape o (declared_of shape t) (named t) fs (fields_tell shape o fs) → FirstBack shape o t (content.content fs kept)
+      → ContentBack shape o t (content.content fs kept)
+  content_of_lines fs kept t h back first = at (is_object_form (form_of shape t)) refl (is_held (form_of shape t)) refl
+    where
+      at : (b : Bool) → is_object_form (form_of shape t) ≡ b → (a : Bool) → is_held (form_of shape t) ≡ a → ContentBack shape o t (content.content fs kept)
+      at true e a q =
+          let P : List Rec → Type 0 = λ k. FitsAs shape (content.content fs k) t → ContentBack shape o t (content.content fs k) in
+          subst P (sym h.0) (λ g. object_of_lines fs t e g back) h
+      at false e true q = form_held (form_of shape t) (content.content fs kept) t refl q h.1 first
+      at false e false q = form_at_once fs kept t e q h
 
   -- ---- lists and maps
 
@@ -138,15 +175,15 @@ module _ (shape : Shape) (proper : IsProper shape) (well : IsWellNamed shape) (o
 
   -- ---- all values
 
-  message_back : (c : Content) (k : Kind) (t : ℕ) → k ≡ kind.Message t → ContentBack c t → ValueBack (content.message c) (single k)
+  message_back : (c : Content) (k : Kind) (t : ℕ) → k ≡ kind.Message t → ContentBack shape o t c → ValueBack (content.message c) (single k)
   message_back c k t e it =
       let P : Kind → Type 0 = λ x. ValueBack (content.message c) (single x) in
       subst P (sym e) (
-        object it.0,
+        it.0,
         record {
           made = it.1;
           says = ap (λ r. option_map (λ c. Some (content.message c)) r) it.2;
-          null_ok = λ q. absurd (no_null (object it.0) (λ x. x) q);
+          null_ok = it.3;
         },
       )
 
@@ -165,6 +202,13 @@ module _ (shape : Shape) (proper : IsProper shape) (well : IsWellNamed shape) (o
           field_says shape o f (Some v) it.0 it.1.says it.1.null_ok (Some v) h.1,
         ),
       )
+
+  first_value : (v : Val) (n t : ℕ) → ((tg : Target) → Fits shape v tg → ValueBack v tg) → FitsOption shape v (Fits shape v) (field_of n (declared_of shape t))
+      → FieldBack shape o t n v
+  first_value v n t back h f there =
+      let P : Option FieldShape → Type 0 = λ x. FitsOption shape v (Fits shape v) x in
+      let own : FitsOption shape v (Fits shape v) (Some f) = subst P (sym (field_of-by_number n (declared_of shape t)) ∙ there) h in
+      (own.1, back (target_by f f.cardinality) own.0)
 
   mutual
     value_back : (v : Val) (tg : Target) → Fits shape v tg → ValueBack v tg
@@ -199,10 +243,15 @@ module _ (shape : Shape) (proper : IsProper shape) (well : IsWellNamed shape) (o
         let it = value_back v (single vk) h.1 in
         (key_back kk l h.0, (it.0, it.1.made, element_says shape o vk v it.0 it.1), h.2, pairs_back ps kk vk h.3)
 
-    content_back : (c : Content) (t : ℕ) → FitsAs shape c t → ContentBack c t
-    content_back (content.content fs kept) t h = content_of_lines fs kept t h (fields_back fs t h.4)
+    content_back : (c : Content) (t : ℕ) → FitsAs shape c t → ContentBack shape o t c
+    content_back (content.content fs kept) t h = content_of_lines fs kept t h (fields_back fs t h.4) (first_back fs kept t h.4)
 
-    fields_back : (fs : Fields) (t : ℕ) → FieldsFit shape fs (declared_of shape t) → ValuesBack shape o (declared_of shape t) (named t) fs (fields_tell shape o fs)
+    first_back : (fs : Fields) (kept : List Rec) (t : ℕ) → FieldsFit shape fs (declared_of shape t) → FirstBack shape o t (content.content fs kept)
+    first_back content.no_fields kept t h = tt
+    first_back (content.field n v fs) kept t h = first_value v n t (value_back v) h.0
+
+    fields_back : (fs : Fields) (t : ℕ) → FieldsFit shape fs (declared_of shape t)
+        → ValuesBack shape o (declared_of shape t) (named t) fs (fields_tell shape o fs)
     fields_back content.no_fields t h = tt
     fields_back (content.field n v fs) t h =
         (refl, field_value v fs n (declared_of shape t) (value_back v) (field_of n (declared_of shape t)) refl h.0, fields_back fs t h.1)
@@ -215,9 +264,9 @@ again : (shape : Shape) (t : ℕ) (allow : Bool) (tree : Data) (c : Content) (o 
     → (d : Data) × (canonical shape t c o ≡ Some d) × Stands shape t false d c
 again shape t allow tree c o proper well clean texts h =
     let it = content_back shape proper well o clean c t (standing_fits shape t allow tree c proper well texts h) in (
-      object it.0,
+      it.0,
       it.1,
-      ap message_in (said_is shape false (object it.0) (one (kind.Message t))) ∙ ap (λ r. message_in (option_map (λ c. Some (content.message c)) r)) it.2,
+      ap message_in (said_is shape false it.0 (one (kind.Message t))) ∙ ap (λ r. message_in (option_map (λ c. Some (content.message c)) r)) it.2,
     )
 
 -- the one tree that is written

@@ -14,11 +14,11 @@ use Rattle.pbx_meaning.specs.declared.shape.Shape.{Shape}
 use Rattle.pbx_json_meaning.specs.Asked.{field, one, Target, nothing, single, list, map, target, target_by, null_target, has_presence, reads_null}
 use Rattle.pbx_json_meaning.specs.Canonical.{tells}
 use Rattle.pbx_json_meaning.specs.Scalars.{scalar_read}
-use Rattle.pbx_json_meaning.specs.Stands.{Entry, ok_of, value_as, said}
+use Rattle.pbx_json_meaning.specs.Stands.{Says, Entry, ok_of, value_as, said}
 use Rattle.pbx_json_meaning.specs.declared.options.SerializeOptions.{SerializeOptions}
 use Rattle.pbx_json_laws.proofs.Fits.{Fits}
 use Rattle.pbx_json_laws.proofs.ScalarsBack.{ScalarBack}
-use Rattle.pbx_json_laws.proofs.Read.{entries_in, says_as, said_is}
+use Rattle.pbx_json_laws.proofs.Read.{items_in, entries_in, says_as, said_is}
 
 -- null is read as one of these
 abbrev pub ReadsNull : Shape → Target → Type 0
@@ -83,15 +83,16 @@ module _ (shape : Shape) (o : SerializeOptions) where
 
   -- ---- scalars
 
-  value_is : (k : Kind) → ((t : ℕ) → k ≡ kind.Message t → ⊥) → (d : Data) (es : List Entry) → value_as shape false k d es ≡ ok_of (scalar_read shape false k d)
-  value_is (kind.Message t) n d es = absurd (n t refl)
-  value_is _ n d es = refl
+  value_is : (k : Kind) → ((t : ℕ) → k ≡ kind.Message t → ⊥) → (d : Data) (items : List Says) (es : List Entry)
+      → value_as shape false k d items es ≡ ok_of (scalar_read shape false k d)
+  value_is (kind.Message t) n d items es = absurd (n t refl)
+  value_is _ n d items es = refl
 
   pub scalar_is_back : (k : Kind) (v : Val) (d : Data) → ((t : ℕ) → k ≡ kind.Message t → ⊥) → ScalarBack shape k v (tells shape o v (one k)) d
       → IsBack shape o (single k) v d
   scalar_is_back k v d n b = record {
     made = b.made;
-    says = value_is k n d (entries_in shape false d) ∙ ap (λ r. ok_of r) b.back;
+    says = value_is k n d (items_in shape false d) (entries_in shape false d) ∙ ap (λ r. ok_of r) b.back;
     null_ok = b.null_ok;
   }
 

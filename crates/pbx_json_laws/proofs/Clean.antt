@@ -10,15 +10,15 @@ use Rattle.pbx_meaning.specs.Shape.{declared_of, is_float}
 use Rattle.pbx_meaning.specs.Sound.{IsProper}
 use Rattle.pbx_meaning.specs.declared.shape.Kind.{Kind}
 use Rattle.pbx_meaning.specs.declared.shape.Kind.TheVariants as kind
+use Rattle.pbx_meaning.specs.declared.shape.FieldShape.{FieldShape}
 use Rattle.pbx_meaning.specs.declared.shape.Shape.{Shape}
-use Rattle.pbx_wkt.specs.Names.{is_well_known}
-use Rattle.pbx_json_meaning.specs.Types.{message_name}
 use Rattle.pbx_json_meaning.specs.Asked.{Asked, field, one, Target, nothing, single, list, map, target, has_presence}
-use Rattle.pbx_json_meaning.specs.Faults.{Inside, leaf, elements, keyed, members, Opened, as_leaf, object_opened, message_opened, single_opened}
+use Rattle.pbx_json_meaning.specs.Faults.{Inside, leaf, elements, keyed, members, Opened, as_leaf, object_opened, list_opened, map_opened, own_opened, message_opened, single_opened}
 use Rattle.pbx_json_meaning.specs.Faults.{opened_as, opened, into, reads_alike, is_second_alike, KeyBreaks, IsKeyFault, FaultAt, SomeWith, OkWith}
+use Rattle.pbx_json_meaning.specs.Forms.{is_object_type, skips_keys, own_read, Own, whole, a_list, a_map}
 use Rattle.pbx_json_meaning.specs.Scalars.{scalar_read, key_read}
 use Rattle.pbx_json_meaning.specs.Stands.{present, pairs_of, Reading, Says, Entry, ok_of, all_read, is_alike, all_differ, entry_read, if_differ, entries_read, elements_read, message_of, object_of}
-use Rattle.pbx_json_meaning.specs.Stands.{message_as, value_as, list_as, map_as, shown_for, said, items_said, entries_said}
+use Rattle.pbx_json_meaning.specs.Stands.{own_as, message_as, value_as, list_as, map_as, shown_for, said, items_said, entries_said}
 use Rattle.pbx_json_meaning.specs.declared.kind.JsonKind.{JsonKind}
 use Rattle.pbx_json_meaning.specs.declared.kind.JsonKind.TheVariants as fault
 use Rattle.pbx_json_meaning.specs.declared.place.Step.{Step}
@@ -210,35 +210,11 @@ module _ (shape : Shape) (allow : Bool) where
         let P : Inside → Type 0 = λ x. IsBroken shape allow x b.2.0 b.2.1 b.2.2 in
         f b.2.0 b.2.1 b.2.2 (subst P (one_inside o b.0 inside b.1 e) b.2.3)
 
-    value_clean : (r : Result (Option Val) JsonKind) (x : Option Val) → ok_of r ≡ Some x → IsFaulty (as_leaf r) → ⊥
+    value_clean : {X : Type 0} (r : Result X JsonKind) (x : X) → ok_of r ≡ Some x → IsFaulty (as_leaf r) → ⊥
     value_clean (Err k) x h b = (cc)
     value_clean (Ok y) x h b = none_inside (Ok leaf) leaf refl leaf_clean b
 
-    message_faulty : (t : ℕ) (d : Data) (c : Content) → message_as shape allow t d (entries_in shape allow d) ≡ Some c → IsFaulty (message_opened shape allow t d) → ⊥
-    message_faulty t d c h b =
-        let own = unless_some (is_well_known (message_name shape t)) (object_of (message_of allow (declared_of shape t)) d (entries_in shape allow d)) c h in
-        let P : Bool → Type 0 = λ x. IsFaulty (if x then Err fault.NotBuilt else object_opened (λ ms. Ok (members allow (declared_of shape t) ms)) d) in
-        at d own.1 (subst P own.0 b)
-      where
-        at : (d : Data) → object_of (message_of allow (declared_of shape t)) d (entries_in shape allow d) ≡ Some c
-            → IsFaulty (object_opened (λ ms. Ok (members allow (declared_of shape t) ms)) d) → ⊥
-        at (object ms) h b =
-            none_inside (Ok (members allow (declared_of shape t) ms)) (members allow (declared_of shape t) ms) refl
-            (members_clean shape allow (declared_of shape t) (proper.types t) ms c h) b
-        at null h b = cc
-        at (boolean x) h b = cc
-        at (number n) h b = cc
-        at (string s) h b = cc
-        at (array ds) h b = cc
-
-    single_faulty : (k : Kind) (d : Data) (r : Option Val) → value_as shape allow k d (entries_in shape allow d) ≡ Some r → IsFaulty (single_opened shape allow k d) → ⊥
-    single_faulty (kind.Message t) d r h b =
-        let it = from_map (λ c. Some (content.message c)) (message_as shape allow t d (entries_in shape allow d)) r h in
-        message_faulty t d it.0 it.1 b
-    single_faulty kind.Int32 d r h b = value_clean (scalar_read shape allow kind.Int32 d) r h b
-    single_faulty k d r h b = value_clean (scalar_read shape allow k d) r h b
-
-    list_faulty : (k : Kind) (d : Data) (r : Option Val) → list_as k d (items_in shape allow d) ≡ Some r → IsFaulty (opened_as shape allow (list k) d) → ⊥
+    list_faulty : (k : Kind) (d : Data) (r : Option Val) → list_as k d (items_in shape allow d) ≡ Some r → IsFaulty (list_opened k d) → ⊥
     list_faulty k (array no_items) r h b = none_inside (Ok leaf) leaf refl leaf_clean b
     list_faulty k (array (item e es)) r h b =
         let it = unless_some (is_float k) (elements_read k (items_said shape allow (item e es))) r h in
@@ -251,7 +227,7 @@ module _ (shape : Shape) (allow : Bool) where
     list_faulty k (string s) r h b = cc
     list_faulty k (object ms) r h b = cc
 
-    map_faulty : (kk vk : Kind) (d : Data) (r : Option Val) → map_as kk vk d (entries_in shape allow d) ≡ Some r → IsFaulty (opened_as shape allow (map kk vk) d) → ⊥
+    map_faulty : (kk vk : Kind) (d : Data) (r : Option Val) → map_as kk vk d (entries_in shape allow d) ≡ Some r → IsFaulty (map_opened kk vk d) → ⊥
     map_faulty kk vk (object no_members) r h b = none_inside (Ok leaf) leaf refl leaf_clean b
     map_faulty kk vk (object (member k e ms)) r h b =
         let it = unless_some (is_float vk) (entries_read kk vk (entries_said shape allow (member k e ms))) r h in
@@ -265,6 +241,52 @@ module _ (shape : Shape) (allow : Bool) where
     map_faulty kk vk (number n) r h b = cc
     map_faulty kk vk (string s) r h b = cc
     map_faulty kk vk (array ds) r h b = cc
+
+    own_faulty : (r : Result Own JsonKind) (d : Data) (c : Content) → own_as shape r d (items_in shape allow d) (entries_in shape allow d) ≡ Some c
+        → IsFaulty (own_opened r d) → ⊥
+    own_faulty (Err k) d c h b = cc
+    own_faulty (Ok (whole e)) d c h b = none_inside (Ok leaf) leaf refl leaf_clean b
+    own_faulty (Ok (a_list k wrap)) d c h b =
+        let it = from_map wrap (option_map (shown shape false k) (list_as k d (items_in shape allow d))) c h in
+        let found = from_map (shown shape false k) (list_as k d (items_in shape allow d)) it.0 it.1 in
+        list_faulty k d found.0 found.1 b
+    own_faulty (Ok (a_map k wrap)) d c h b =
+        let it = from_map wrap (option_map (shown shape false k) (map_as kind.String k d (entries_in shape allow d))) c h in
+        let found = from_map (shown shape false k) (map_as kind.String k d (entries_in shape allow d)) it.0 it.1 in
+        map_faulty kind.String k d found.0 found.1 b
+
+    message_faulty : (t : ℕ) (d : Data) (c : Content) → message_as shape allow t d (items_in shape allow d) (entries_in shape allow d) ≡ Some c
+        → IsFaulty (message_opened shape allow t d) → ⊥
+    message_faulty t d c h b = either (is_object_type shape t) h b
+      where
+        fs : List FieldShape
+        fs = declared_of shape t
+
+        object_faulty : (d : Data) → object_of (message_of (skips_keys shape allow t) fs) d (entries_in shape allow d) ≡ Some c
+            → IsFaulty (object_opened (λ ms. Ok (members (skips_keys shape allow t) fs ms)) d) → ⊥
+        object_faulty (object ms) h b =
+            none_inside (Ok (members (skips_keys shape allow t) fs ms)) (members (skips_keys shape allow t) fs ms) refl
+            (members_clean shape allow (skips_keys shape allow t) fs (proper.types t) ms c h) b
+        object_faulty null h b = cc
+        object_faulty (boolean x) h b = cc
+        object_faulty (number n) h b = cc
+        object_faulty (string s) h b = cc
+        object_faulty (array ds) h b = cc
+
+        either : (x : Bool)
+            → (if x then object_of (message_of (skips_keys shape allow t) fs) d (entries_in shape allow d)
+            else own_as shape (own_read shape allow t d) d (items_in shape allow d) (entries_in shape allow d)) ≡ Some c
+            → IsFaulty (if x then object_opened (λ ms. Ok (members (skips_keys shape allow t) fs ms)) d else own_opened (own_read shape allow t d) d) → ⊥
+        either true h b = object_faulty d h b
+        either false h b = own_faulty (own_read shape allow t d) d c h b
+
+    single_faulty : (k : Kind) (d : Data) (r : Option Val) → value_as shape allow k d (items_in shape allow d) (entries_in shape allow d) ≡ Some r
+        → IsFaulty (single_opened shape allow k d) → ⊥
+    single_faulty (kind.Message t) d r h b =
+        let it = from_map (λ c. Some (content.message c)) (message_as shape allow t d (items_in shape allow d) (entries_in shape allow d)) r h in
+        message_faulty t d it.0 it.1 b
+    single_faulty kind.Int32 d r h b = value_clean (scalar_read shape allow kind.Int32 d) r h b
+    single_faulty k d r h b = value_clean (scalar_read shape allow k d) r h b
 
     faulty_as : (tg : Target) (d : Data) (r : Option Val) → says_as shape allow d tg ≡ Some r → IsFaulty (opened_as shape allow tg d) → ⊥
     faulty_as nothing d r h b = none_inside (Ok leaf) leaf refl leaf_clean b

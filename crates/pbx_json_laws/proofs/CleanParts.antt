@@ -90,18 +90,18 @@ module _ (shape : Shape) (allow : Bool) where
 
   -- ---- the fields of an object
 
-  module _ (fs : List FieldShape) (proper : AreProper fs) where
+  module _ (skips : Bool) (fs : List FieldShape) (proper : AreProper fs) where
     abbrev told_at : ℕ → Members → List Reading
     told_at n ms = told fs n (entries_said shape allow ms)
 
-    known_in : (k : List ℕ) (d : Data) (ms : Members) → all_known allow fs (entries_said shape allow ms) ≡ true → In k d ms
-        → is_known_key allow (field_named k fs) ≡ true
+    known_in : (k : List ℕ) (d : Data) (ms : Members) → all_known skips fs (entries_said shape allow ms) ≡ true → In k d ms
+        → is_known_key skips (field_named k fs) ≡ true
     known_in k d no_members a i = absurd i
     known_in k d (member l e ms) a (inl i) =
-        ap (λ x. is_known_key allow (field_named x fs)) (sym i.0)
-        ∙ (both (is_known_key allow (field_named l fs)) (all_known allow fs (entries_said shape allow ms)) a).0
+        ap (λ x. is_known_key skips (field_named x fs)) (sym i.0)
+        ∙ (both (is_known_key skips (field_named l fs)) (all_known skips fs (entries_said shape allow ms)) a).0
     known_in k d (member l e ms) a (inr i) =
-        known_in k d ms (both (is_known_key allow (field_named l fs)) (all_known allow fs (entries_said shape allow ms)) a).1 i
+        known_in k d ms (both (is_known_key skips (field_named l fs)) (all_known skips fs (entries_said shape allow ms)) a).1 i
 
     -- what a key's tree says is told for its field
     told_in : (k : List ℕ) (d : Data) (f : FieldShape) (n : ℕ) → field_named k fs ≡ Some f → (f.number == n) ≡ true → (ms : Members) → In k d ms
@@ -131,13 +131,13 @@ module _ (shape : Shape) (allow : Bool) where
     -- what a message is read from
     record IsRead (ms : Members) : Type 0 where
       found : Fields
-      known : all_known allow fs (entries_said shape allow ms) ≡ true
+      known : all_known skips fs (entries_said shape allow ms) ≡ true
       gathers : gathered (λ n. only (told_at n ms)) fs ≡ Some found
       single : has_one_member fs found ≡ true
 
-    read_from : (ms : Members) (c : Content) → message_of allow fs (entries_said shape allow ms) ≡ Some c → IsRead ms
+    read_from : (ms : Members) (c : Content) → message_of skips fs (entries_said shape allow ms) ≡ Some c → IsRead ms
     read_from ms c h =
-        let known = if_some (all_known allow fs (entries_said shape allow ms)) (option_and_then (if_oneofs fs) (gathered (λ n. only (told_at n ms)) fs)) c h in
+        let known = if_some (all_known skips fs (entries_said shape allow ms)) (option_and_then (if_oneofs fs) (gathered (λ n. only (told_at n ms)) fs)) c h in
         let found = from_then (if_oneofs fs) (gathered (λ n. only (told_at n ms)) fs) c known.1 in
         let made = if_some (has_one_member fs found.0) (Some (content.content found.0 [])) c found.2 in
         record { found = found.0; known = known.0; gathers = found.1; single = made.0 }
@@ -207,10 +207,10 @@ module _ (shape : Shape) (allow : Bool) where
           at : has_value shape allow d f ≡ true → Lesser (λ m. is_rival_with_value shape allow f m.1 (field_named m.0 fs)) k ms → ⊥
           at v it = deep it (field_named it.key fs) refl v it.passes
 
-      no_key_fault : (k : List ℕ) (d : Data) → get_member k ms ≡ Some d → (kind : JsonKind) → KeyBreaks shape allow (members allow fs ms) k kind → ⊥
+      no_key_fault : (k : List ℕ) (d : Data) → get_member k ms ≡ Some d → (kind : JsonKind) → KeyBreaks shape allow (members skips fs ms) k kind → ⊥
       no_key_fault k d there fault.UnknownField h =
           let known = known_in k d ms r.known (got_in k d ms there) in
-          let bad : true ≡ false = sym known ∙ ap (is_known_key allow) h.0 ∙ h.1 in
+          let bad : true ≡ false = sym known ∙ ap (is_known_key skips) h.0 ∙ h.1 in
           (cc)
       no_key_fault k d there fault.DuplicateField h = no_second_key k d (got_in k d ms there) h
       no_key_fault k d there fault.OneofTwice h =
@@ -218,8 +218,8 @@ module _ (shape : Shape) (allow : Bool) where
           (ap (is_second_member shape allow fs ms k (field_named k fs)) (sym there) ∙ h)
       no_key_fault k d there _ h = absurd h
 
-    pub members_clean : (ms : Members) (c : Content) → message_of allow fs (entries_said shape allow ms) ≡ Some c → (step : Step) (place : List Step) (kind : JsonKind)
-        → IsBroken (members allow fs ms) step place kind → ⊥
+    pub members_clean : (ms : Members) (c : Content) → message_of skips fs (entries_said shape allow ms) ≡ Some c → (step : Step) (place : List Step) (kind : JsonKind)
+        → IsBroken (members skips fs ms) step place kind → ⊥
     members_clean ms c h (Index i) place kind (inl b) = b
     members_clean ms c h (Index i) place kind (inr b) = b
     members_clean ms c h (Key k) place kind (inl b) =

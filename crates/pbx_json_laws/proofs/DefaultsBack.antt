@@ -19,7 +19,7 @@ use Rattle.pbx_meaning.specs.declared.shape.Shape.{Shape}
 use Rattle.pbx_json_meaning.specs.Asked.{field, Target, single, list, map, target_by, has_presence, presence_by}
 use Rattle.pbx_json_meaning.specs.Canonical.{is_written_default, default_tree, default_by}
 use Rattle.pbx_json_meaning.specs.Named.{IsWellNamed}
-use Rattle.pbx_json_meaning.specs.Types.{enum_name}
+use Rattle.pbx_wkt.specs.Types.{enum_name}
 use Rattle.pbx_json_meaning.specs.Stands.{ok_of, is_there, said}
 use Rattle.pbx_json_meaning.specs.declared.options.SerializeOptions.{SerializeOptions}
 use Rattle.pbx_json_laws.proofs.Fits.{IsNull}
@@ -50,10 +50,10 @@ module _ (shape : Shape) (proper : IsProper shape) (well : IsWellNamed shape) (o
   no_bytes i = omega arith
 
   -- the tree of a kind's default
-  abbrev ZeroBack : Kind → Type 0
+  abbrev pub ZeroBack : Kind → Type 0
   ZeroBack k = (d : Data) × ScalarBack shape k (zero_of shape k) (default_by shape o k (zero_of shape k)) d
 
-  zero_back : (k : Kind) → is_float k ≡ false → ((t : ℕ) → k ≡ kind.Message t → ⊥) → ZeroBack k
+  pub zero_back : (k : Kind) → is_float k ≡ false → ((t : ℕ) → k ≡ kind.Message t → ⊥) → ZeroBack k
   zero_back kind.Double f n = absurd (cc)
   zero_back kind.Float f n = absurd (cc)
   zero_back (kind.Message t) f n = absurd (n t refl)

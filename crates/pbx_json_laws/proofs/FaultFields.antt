@@ -28,7 +28,7 @@ use Rattle.pbx_json_laws.proofs.Parts.{both, found_passes, of_some}
 use Rattle.pbx_json_laws.proofs.Puts.{has-get}
 
 -- the first field that fails
-failing : (p : FieldShape → Bool) (fs : List FieldShape) → list_all p fs ≡ false → (f : FieldShape) × (find (λ x. not (p x)) fs ≡ Some f)
+pub failing : (p : FieldShape → Bool) (fs : List FieldShape) → list_all p fs ≡ false → (f : FieldShape) × (find (λ x. not (p x)) fs ≡ Some f)
 failing p [] h = absurd (cc)
 failing p (x ∷ fs) h = at (p x) h (failing p fs)
   where
@@ -49,7 +49,7 @@ is_some_value : (o : Option Val) → is_there o ≡ true → (v : Val) × (o ≡
 is_some_value None h = absurd (cc)
 is_some_value (Some v) h = (v, refl)
 
-module _ (shape : Shape) (allow : Bool) (fs : List FieldShape) (proper : AreProper fs) where
+module _ (shape : Shape) (allow skips : Bool) (fs : List FieldShape) (proper : AreProper fs) where
   abbrev told_at : ℕ → Members → List Reading
   told_at n ms = told fs n (entries_said shape allow ms)
 
@@ -148,32 +148,32 @@ module _ (shape : Shape) (allow : Bool) (fs : List FieldShape) (proper : AreProp
       at (Some f) e h ih = deep f e (f.number == n) refl h ih
 
   -- a key that names nothing
-  unknown_there : (ms : Members) → all_known allow fs (entries_said shape allow ms) ≡ false
-      → (k : List ℕ) × (d : Data) × In k d ms × (field_named k fs ≡ None) × (allow ≡ false)
+  unknown_there : (ms : Members) → all_known skips fs (entries_said shape allow ms) ≡ false
+      → (k : List ℕ) × (d : Data) × In k d ms × (field_named k fs ≡ None) × (skips ≡ false)
   unknown_there no_members h = absurd (cc)
   unknown_there (member k d ms) h = at (field_named k fs) refl h (λ q. behind (unknown_there ms q))
     where
-      behind : (l : List ℕ) × (e : Data) × In l e ms × (field_named l fs ≡ None) × (allow ≡ false)
-          → (l : List ℕ) × (e : Data) × In l e (member k d ms) × (field_named l fs ≡ None) × (allow ≡ false)
+      behind : (l : List ℕ) × (e : Data) × In l e ms × (field_named l fs ≡ None) × (skips ≡ false)
+          → (l : List ℕ) × (e : Data) × In l e (member k d ms) × (field_named l fs ≡ None) × (skips ≡ false)
       behind it = (it.0, it.1, inr it.2, it.3, it.4)
 
       cases : (a b : Bool) → (a && b) ≡ false → (a ≡ false) ⊎ (b ≡ false)
       cases true b h = inr h
       cases false b h = inl refl
 
-      either : field_named k fs ≡ None → (allow ≡ false) ⊎ (all_known allow fs (entries_said shape allow ms) ≡ false)
-          → (all_known allow fs (entries_said shape allow ms) ≡ false
-          → (l : List ℕ) × (e : Data) × In l e (member k d ms) × (field_named l fs ≡ None) × (allow ≡ false))
-          → (l : List ℕ) × (e : Data) × In l e (member k d ms) × (field_named l fs ≡ None) × (allow ≡ false)
+      either : field_named k fs ≡ None → (skips ≡ false) ⊎ (all_known skips fs (entries_said shape allow ms) ≡ false)
+          → (all_known skips fs (entries_said shape allow ms) ≡ false
+          → (l : List ℕ) × (e : Data) × In l e (member k d ms) × (field_named l fs ≡ None) × (skips ≡ false))
+          → (l : List ℕ) × (e : Data) × In l e (member k d ms) × (field_named l fs ≡ None) × (skips ≡ false)
       either e (inl a) ih = (k, d, inl (refl, refl), e, a)
       either e (inr a) ih = ih a
 
-      at : (o : Option FieldShape) → field_named k fs ≡ o → (is_known_key allow o && all_known allow fs (entries_said shape allow ms)) ≡ false
-          → (all_known allow fs (entries_said shape allow ms) ≡ false
-          → (l : List ℕ) × (e : Data) × In l e (member k d ms) × (field_named l fs ≡ None) × (allow ≡ false))
-          → (l : List ℕ) × (e : Data) × In l e (member k d ms) × (field_named l fs ≡ None) × (allow ≡ false)
+      at : (o : Option FieldShape) → field_named k fs ≡ o → (is_known_key skips o && all_known skips fs (entries_said shape allow ms)) ≡ false
+          → (all_known skips fs (entries_said shape allow ms) ≡ false
+          → (l : List ℕ) × (e : Data) × In l e (member k d ms) × (field_named l fs ≡ None) × (skips ≡ false))
+          → (l : List ℕ) × (e : Data) × In l e (member k d ms) × (field_named l fs ≡ None) × (skips ≡ false)
       at (Some f) e q ih = ih q
-      at None e q ih = either e (cases allow (all_known allow fs (entries_said shape allow ms)) q) ih
+      at None e q ih = either e (cases skips (all_known skips fs (entries_said shape allow ms)) q) ih
 
   -- a number of which nothing is gathered
   ungathered : (says : ℕ → Reading) (gs : List FieldShape) → gathered says gs ≡ None → (n : ℕ) × (says n ≡ None)
@@ -190,16 +190,16 @@ module _ (shape : Shape) (allow : Bool) (fs : List FieldShape) (proper : AreProp
 
   module _ (ms : Members) (up : AreAscendingKeys ms) (g : MembersFaulty shape allow ms) where
     abbrev Fault : Type 0
-    Fault = FaultIn shape allow (members allow fs ms)
+    Fault = FaultIn shape allow (members skips fs ms)
 
-    at_key : (k : List ℕ) (d : Data) → In k d ms → (kind : JsonKind) → KeyBreaks shape allow (members allow fs ms) k kind → Fault
+    at_key : (k : List ℕ) (d : Data) → In k d ms → (kind : JsonKind) → KeyBreaks shape allow (members skips fs ms) k kind → Fault
     at_key k d i kind b = (Key k, [], kind, inl (refl, there_from (get_member k ms) d (in_got k d ms up i), b))
 
     below_key : (k : List ℕ) (d : Data) (f : FieldShape) → In k d ms → field_named k fs ≡ Some f → said shape allow d (field f) ≡ None → Fault
     below_key k d f i e h =
         let it = faulty_in shape allow k d ms g i (field f) h in
         let P : Option (Data × Asked) → Type 0 = λ o. SomeWith o (λ next. FaultAt shape allow it.0 next.0 next.1 it.1) in
-        let is : into (members allow fs ms) (Key k) ≡ Some (d, field f) = rw (e, in_got k d ms up i) refl in
+        let is : into (members skips fs ms) (Key k) ≡ Some (d, field f) = rw (e, in_got k d ms up i) refl in
         (Key k, it.0, it.1, inr (subst P (sym is) it.2))
 
     same_numbers : (n a b : ℕ) → (a == n) ≡ true → (b == n) ≡ true → (a == b) ≡ true
@@ -296,21 +296,21 @@ module _ (shape : Shape) (allow : Bool) (fs : List FieldShape) (proper : AreProp
             deep (inl less) = rivals h f b.value a.value (other_swaps f h other) b.key a.key b.tree a.tree b.there a.there less b.named a.named b.says a.says
             deep (inr less) = rivals f h a.value b.value other a.key b.key a.tree b.tree a.there b.there less a.named b.named a.says b.says
 
-    pub members_fault : message_of allow fs (entries_said shape allow ms) ≡ None → Fault
-    members_fault h = known (all_known allow fs (entries_said shape allow ms)) refl h
+    pub members_fault : message_of skips fs (entries_said shape allow ms) ≡ None → Fault
+    members_fault h = known (all_known skips fs (entries_said shape allow ms)) refl h
       where
         single : (found : Fields) → (b : Bool) → (if b then Some (content.content found []) else None) ≡ None → b ≡ false
         single found true q = absurd (cc)
         single found false q = refl
 
-        unknown : all_known allow fs (entries_said shape allow ms) ≡ false → Fault
+        unknown : all_known skips fs (entries_said shape allow ms) ≡ false → Fault
         unknown e = let it = unknown_there ms e in at_key it.0 it.1 it.2 fault.UnknownField (it.3, it.4)
 
         gathers : (o : Option Fields) → gathered (λ n. only (told_at n ms)) fs ≡ o → option_and_then (if_oneofs fs) o ≡ None → Fault
         gathers None e q = let it = ungathered (λ n. only (told_at n ms)) fs e in untold_fault it.0 (untold it.0 ms up it.1)
         gathers (Some found) e q = oneof_fault found e (single found (has_one_member fs found) q)
 
-        known : (b : Bool) → all_known allow fs (entries_said shape allow ms) ≡ b
+        known : (b : Bool) → all_known skips fs (entries_said shape allow ms) ≡ b
             → (if b then option_and_then (if_oneofs fs) (gathered (λ n. only (told_at n ms)) fs) else None) ≡ None → Fault
         known false e q = unknown e
         known true e q = gathers (gathered (λ n. only (told_at n ms)) fs) refl q

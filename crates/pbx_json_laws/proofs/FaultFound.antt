@@ -1,5 +1,5 @@
 -- A tree that is not read has a fault, so a message stands for a tree exactly where the tree has none.
-use Rattle.std.proofs.Common.{◌≡◌, ◌⊎◌, inl, inr, ℕ, List, [], ◌∷◌, Bool, true, false, if◌then◌else◌, Option, Some, None, refl, ap, sym, ◌∙◌, subst}
+use Rattle.std.proofs.Common.{◌≡◌, ◌⊎◌, inl, inr, ℕ, List, [], ◌∷◌, Bool, true, false, if◌then◌else◌, Option, Some, None, option_map, refl, ap, sym, ◌∙◌, subst}
 use Rattle.std.specs.Prelude.{Result, Ok, Err}
 use Rattle.serde_json.specs.Data.{Data, null, boolean, number, string, array, object, Items, no_items, item, Members, no_members, member}
 use Rattle.pbx_meaning.specs.Content as content
@@ -9,16 +9,16 @@ use Rattle.pbx_meaning.specs.Shape.{declared_of, is_float}
 use Rattle.pbx_meaning.specs.Sound.{IsProper}
 use Rattle.pbx_meaning.specs.declared.shape.Kind.{Kind}
 use Rattle.pbx_meaning.specs.declared.shape.Kind.TheVariants as kind
+use Rattle.pbx_meaning.specs.declared.shape.FieldShape.{FieldShape}
 use Rattle.pbx_meaning.specs.declared.shape.Shape.{Shape}
-use Rattle.pbx_wkt.specs.Names.{is_well_known}
-use Rattle.pbx_json_meaning.specs.Types.{message_name}
 use Rattle.pbx_json_meaning.specs.Asked.{Asked, field, one, root, Target, nothing, single, list, map, target, has_presence}
-use Rattle.pbx_json_meaning.specs.Faults.{Inside, elements, keyed, members, Opened, as_leaf, object_opened, message_opened, single_opened, unless_float}
+use Rattle.pbx_json_meaning.specs.Faults.{Inside, elements, keyed, members, Opened, as_leaf, object_opened, list_opened, map_opened, own_opened, message_opened, single_opened, unless_float}
 use Rattle.pbx_json_meaning.specs.Faults.{opened_as, opened, into, IsKeyFault, FaultAt, SomeWith, OkWith, JsonFault}
+use Rattle.pbx_json_meaning.specs.Forms.{is_object_type, skips_keys, own_read, Own, whole, a_list, a_map}
 use Rattle.pbx_json_meaning.specs.Laws.{StandsWithoutFault}
 use Rattle.pbx_json_meaning.specs.Scalars.{scalar_read}
 use Rattle.pbx_json_meaning.specs.Stands.{Reading, Says, ok_of, all_read, present, elements_read, entries_read, message_of, object_of, as_message, message_in, message_as, value_as}
-use Rattle.pbx_json_meaning.specs.Stands.{list_as, map_as, shown_for, said, items_said, entries_said, Stands}
+use Rattle.pbx_json_meaning.specs.Stands.{own_as, list_as, map_as, shown_for, said, items_said, entries_said, Stands}
 use Rattle.pbx_json_meaning.specs.Trees.{AreAscendingKeys, IsOrdered, AreOrdered, AreOrderedMembers}
 use Rattle.pbx_json_meaning.specs.declared.kind.JsonKind.{JsonKind}
 use Rattle.pbx_json_meaning.specs.declared.kind.JsonKind.TheVariants as fault
@@ -42,31 +42,9 @@ module _ (shape : Shape) (allow : Bool) (proper : IsProper shape) where
   IsInside (array ds) = ItemsFaulty shape allow ds
   IsInside (object ms) = AreAscendingKeys ms × MembersFaulty shape allow ms
 
-  value_fault : (r : Result (Option Val) JsonKind) → ok_of r ≡ None → FaultsOf (as_leaf r)
+  value_fault : {X : Type 0} (r : Result X JsonKind) → ok_of r ≡ None → FaultsOf (as_leaf r)
   value_fault (Err e) h = inl (e, refl)
   value_fault (Ok x) h = absurd (cc)
-
-  message_fault : (t : ℕ) (d : Data) → IsInside d → message_as shape allow t d (entries_in shape allow d) ≡ None → FaultsOf (message_opened shape allow t d)
-  message_fault t d g h = at (is_well_known (message_name shape t)) h
-    where
-      opens : (d : Data) → IsInside d → object_of (message_of allow (declared_of shape t)) d (entries_in shape allow d) ≡ None
-          → FaultsOf (object_opened (λ ms. Ok (members allow (declared_of shape t) ms)) d)
-      opens (object ms) g h = inr (members allow (declared_of shape t) ms, refl, members_fault shape allow (declared_of shape t) (proper.types t) ms g.0 g.1 h)
-      opens null g h = inl (fault.WrongKind, refl)
-      opens (boolean b) g h = inl (fault.WrongKind, refl)
-      opens (number n) g h = inl (fault.WrongKind, refl)
-      opens (string s) g h = inl (fault.WrongKind, refl)
-      opens (array ds) g h = inl (fault.WrongKind, refl)
-
-      at : (b : Bool) → (if b then None else object_of (message_of allow (declared_of shape t)) d (entries_in shape allow d)) ≡ None
-          → FaultsOf (if b then Err fault.NotBuilt else object_opened (λ ms. Ok (members allow (declared_of shape t) ms)) d)
-      at true k = inl (fault.NotBuilt, refl)
-      at false k = opens d g k
-
-  single_fault : (k : Kind) (d : Data) → IsInside d → value_as shape allow k d (entries_in shape allow d) ≡ None → FaultsOf (single_opened shape allow k d)
-  single_fault (kind.Message t) d g h = message_fault t d g (map_none (λ c. Some (content.message c)) (message_as shape allow t d (entries_in shape allow d)) h)
-  single_fault kind.Int32 d g h = value_fault (scalar_read shape allow kind.Int32 d) h
-  single_fault k d g h = value_fault (scalar_read shape allow k d) h
 
   -- no array and no object
   wrong : (k : Kind) → FaultsOf (unless_float k (Err fault.WrongKind))
@@ -85,7 +63,7 @@ module _ (shape : Shape) (allow : Bool) (proper : IsProper shape) where
       at true q = inl (fault.Float, refl)
       at false q = inr (inside, refl, f q)
 
-  list_fault : (k : Kind) (d : Data) → IsInside d → list_as k d (items_in shape allow d) ≡ None → FaultsOf (opened_as shape allow (list k) d)
+  list_fault : (k : Kind) (d : Data) → IsInside d → list_as k d (items_in shape allow d) ≡ None → FaultsOf (list_opened k d)
   list_fault k (array no_items) g h = absurd (cc)
   list_fault k (array (item e es)) g h =
       unless_fault k (elements_read k (items_said shape allow (item e es))) (elements k (item e es))
@@ -97,7 +75,7 @@ module _ (shape : Shape) (allow : Bool) (proper : IsProper shape) where
   list_fault k (string s) g h = wrong k
   list_fault k (object ms) g h = wrong k
 
-  map_fault : (kk vk : Kind) (d : Data) → IsInside d → map_as kk vk d (entries_in shape allow d) ≡ None → FaultsOf (opened_as shape allow (map kk vk) d)
+  map_fault : (kk vk : Kind) (d : Data) → IsInside d → map_as kk vk d (entries_in shape allow d) ≡ None → FaultsOf (map_opened kk vk d)
   map_fault kk vk (object no_members) g h = absurd (cc)
   map_fault kk vk (object (member k e ms)) g h =
       unless_fault vk (entries_read kk vk (entries_said shape allow (member k e ms))) (keyed kk vk (member k e ms))
@@ -107,6 +85,48 @@ module _ (shape : Shape) (allow : Bool) (proper : IsProper shape) where
   map_fault kk vk (number n) g h = wrong vk
   map_fault kk vk (string s) g h = wrong vk
   map_fault kk vk (array ds) g h = wrong vk
+
+  own_fault : (r : Result Own JsonKind) (d : Data) → IsInside d → own_as shape r d (items_in shape allow d) (entries_in shape allow d) ≡ None
+      → FaultsOf (own_opened r d)
+  own_fault (Err k) d g h = inl (k, refl)
+  own_fault (Ok (whole c)) d g h = absurd (cc)
+  own_fault (Ok (a_list k wrap)) d g h =
+      list_fault k d g (map_none (shown shape false k) (list_as k d (items_in shape allow d))
+      (map_none wrap (option_map (shown shape false k) (list_as k d (items_in shape allow d))) h))
+  own_fault (Ok (a_map k wrap)) d g h =
+      map_fault kind.String k d g (map_none (shown shape false k) (map_as kind.String k d (entries_in shape allow d))
+      (map_none wrap (option_map (shown shape false k) (map_as kind.String k d (entries_in shape allow d))) h))
+
+  message_fault : (t : ℕ) (d : Data) → IsInside d → message_as shape allow t d (items_in shape allow d) (entries_in shape allow d) ≡ None
+      → FaultsOf (message_opened shape allow t d)
+  message_fault t d g h = either (is_object_type shape t) h
+    where
+      fs : List FieldShape
+      fs = declared_of shape t
+
+      opens : (d : Data) → IsInside d → object_of (message_of (skips_keys shape allow t) fs) d (entries_in shape allow d) ≡ None
+          → FaultsOf (object_opened (λ ms. Ok (members (skips_keys shape allow t) fs ms)) d)
+      opens (object ms) g h =
+          inr (members (skips_keys shape allow t) fs ms, refl, members_fault shape allow (skips_keys shape allow t) fs (proper.types t) ms g.0 g.1 h)
+      opens null g h = inl (fault.WrongKind, refl)
+      opens (boolean b) g h = inl (fault.WrongKind, refl)
+      opens (number n) g h = inl (fault.WrongKind, refl)
+      opens (string s) g h = inl (fault.WrongKind, refl)
+      opens (array ds) g h = inl (fault.WrongKind, refl)
+
+      either : (b : Bool)
+          → (if b then object_of (message_of (skips_keys shape allow t) fs) d (entries_in shape allow d)
+          else own_as shape (own_read shape allow t d) d (items_in shape allow d) (entries_in shape allow d)) ≡ None
+          → FaultsOf (if b then object_opened (λ ms. Ok (members (skips_keys shape allow t) fs ms)) d else own_opened (own_read shape allow t d) d)
+      either true k = opens d g k
+      either false k = own_fault (own_read shape allow t d) d g k
+
+  single_fault : (k : Kind) (d : Data) → IsInside d → value_as shape allow k d (items_in shape allow d) (entries_in shape allow d) ≡ None
+      → FaultsOf (single_opened shape allow k d)
+  single_fault (kind.Message t) d g h =
+      message_fault t d g (map_none (λ c. Some (content.message c)) (message_as shape allow t d (items_in shape allow d) (entries_in shape allow d)) h)
+  single_fault kind.Int32 d g h = value_fault (scalar_read shape allow kind.Int32 d) h
+  single_fault k d g h = value_fault (scalar_read shape allow k d) h
 
   fault_as : (tg : Target) (d : Data) → IsInside d → says_as shape allow d tg ≡ None → FaultsOf (opened_as shape allow tg d)
   fault_as nothing d g h = absurd (cc)
@@ -169,14 +189,14 @@ stands_without_fault shape t allow tree proper ordered = (clean, found)
         let value = read (said shape allow tree (root t)) it.0 it.1 in
         faulty shape allow proper place tree (root t) kind h value.0 value.1
 
-    is : said shape allow tree (root t) ≡ as_message (message_as shape allow t tree (entries_in shape allow tree))
+    is : said shape allow tree (root t) ≡ as_message (message_as shape allow t tree (items_in shape allow tree) (entries_in shape allow tree))
     is = said_is shape allow tree (root t)
 
     found : ((place : List Step) (kind : JsonKind) → ¬ JsonFault shape t allow tree place kind) → (c : Content) × Stands shape t allow tree c
-    found f = at (message_or_none (message_as shape allow t tree (entries_in shape allow tree)))
+    found f = at (message_or_none (message_as shape allow t tree (items_in shape allow tree) (entries_in shape allow tree)))
       where
-        at : ((c : Content) × (message_in (as_message (message_as shape allow t tree (entries_in shape allow tree))) ≡ Some c))
-            ⊎ (as_message (message_as shape allow t tree (entries_in shape allow tree)) ≡ None)
+        at : ((c : Content) × (message_in (as_message (message_as shape allow t tree (items_in shape allow tree) (entries_in shape allow tree))) ≡ Some c))
+            ⊎ (as_message (message_as shape allow t tree (items_in shape allow tree) (entries_in shape allow tree)) ≡ None)
             → (c : Content) × Stands shape t allow tree c
         at (inl it) = (it.0, ap message_in is ∙ it.1)
         at (inr e) =

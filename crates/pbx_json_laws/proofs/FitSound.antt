@@ -17,7 +17,8 @@ use Rattle.pbx_meaning.specs.declared.shape.Shape.{Shape}
 use Rattle.pbx_json_meaning.specs.Asked.{single, target_by, presence_by}
 use Rattle.pbx_json_meaning.specs.Laws.{StandsSound}
 use Rattle.pbx_json_laws.proofs.Fits.{Fits, FitsAs, FieldsFit, AllFit, PairsFit, FitsOption}
-use Rattle.pbx_json_laws.proofs.FitTrees.{standing_fits, no_default}
+use Rattle.pbx_json_laws.proofs.FitShown.{no_default}
+use Rattle.pbx_json_laws.proofs.FitTrees.{standing_fits}
 use Rattle.pbx_json_laws.proofs.Numbers.{field_of-by_number, all-by_number, all_along}
 
 -- ---- oneofs

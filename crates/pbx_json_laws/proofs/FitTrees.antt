@@ -14,18 +14,22 @@ use Rattle.pbx_meaning.specs.declared.shape.Cardinality.{Cardinality}
 use Rattle.pbx_meaning.specs.declared.shape.Cardinality.TheVariants.{Singular, Repeated, Map}
 use Rattle.pbx_meaning.specs.declared.shape.FieldShape.{FieldShape}
 use Rattle.pbx_meaning.specs.declared.shape.Shape.{Shape}
-use Rattle.pbx_wkt.specs.Names.{is_well_known}
-use Rattle.pbx_json_meaning.specs.Types.{message_name}
+use Rattle.pbx_wkt.specs.Shapes.{form_of}
+use Rattle.pbx_wkt.specs.declared.form.Form.{Form}
+use Rattle.pbx_wkt.specs.declared.form.Form.TheVariants as forms
 use Rattle.pbx_json_meaning.specs.Names.{field_named}
 use Rattle.pbx_json_meaning.specs.Named.{IsWellNamed}
-use Rattle.pbx_json_meaning.specs.Asked.{Asked, field, one, root, Target, nothing, single, list, map, target, target_by, null_target, presence_by, has_presence, reads_null}
+use Rattle.pbx_json_meaning.specs.Asked.{Asked, field, one, root, Target, nothing, single, list, map, target, target_by, null_target, has_presence, reads_null}
+use Rattle.pbx_json_meaning.specs.Forms.{is_object_form, is_object_type, skips_keys, own_read}
 use Rattle.pbx_json_meaning.specs.Scalars.{scalar_read, key_read}
 use Rattle.pbx_json_meaning.specs.Stands.{Reading, Says, Entry, ok_of, told, told_by, only, gathered, all_known, if_oneofs, message_of, all_read, present, elements_read}
-use Rattle.pbx_json_meaning.specs.Stands.{with_entry, pairs_of, all_differ, entry_read, if_differ, entries_read, object_of, message_in, message_as, value_as}
+use Rattle.pbx_json_meaning.specs.Stands.{with_entry, pairs_of, all_differ, entry_read, if_differ, entries_read, object_of, own_as, message_in, message_as, value_as}
 use Rattle.pbx_json_meaning.specs.Stands.{list_as, map_as, read_as, read, said, items_said, entries_said}
 use Rattle.pbx_json_meaning.specs.Trees.{HasTexts, HaveTexts, MembersHaveTexts}
-use Rattle.pbx_json_laws.proofs.Fits.{Fits, FitsAs, FieldsFit, AllFit, PairsFit, FitsOption, Answers, IsFilled}
+use Rattle.pbx_json_laws.proofs.Fits.{Fits, FitsAs, IsOwnRead, FieldsFit, AllFit, PairsFit, FitsOption, Answers, IsFilled}
+use Rattle.pbx_json_laws.proofs.FitOwn.{own_fits}
 use Rattle.pbx_json_laws.proofs.FitKinds.{scalar_fits, key_fits}
+use Rattle.pbx_json_laws.proofs.FitShown.{shown_is, filled}
 use Rattle.pbx_json_laws.proofs.Gathered.{ascending_gathered, said_for}
 use Rattle.pbx_json_laws.proofs.KeyOrder.{before_with}
 use Rattle.pbx_json_laws.proofs.Numbers.{named_from, named_number}
@@ -66,41 +70,6 @@ target_is shape (number n) f = inl refl
 target_is shape (string s) f = inl refl
 target_is shape (array ds) f = inl refl
 target_is shape (object ms) f = inl refl
-
-pub list_absent : (p : Bool) (k : Kind) → presence_by p k Repeated ≡ false
-list_absent p (kind.Message t) = refl
-list_absent p _ = refl
-
-pub map_absent : (p : Bool) (k kk : Kind) → presence_by p k (Map kk) ≡ false
-map_absent p (kind.Message t) kk = refl
-map_absent p _ kk = refl
-
--- what is shown is the value itself
-pub shown_is : (shape : Shape) (p : Bool) (k : Kind) (o : Option Val) (v : Val) → shown shape p k o ≡ Some v → (o ≡ Some v) × (shown shape p k (Some v) ≡ Some v)
-shown_is shape p k None v h = absurd (cc)
-shown_is shape p k (Some w) v h = let same : w ≡ v = at p h in (ap (λ x. Some x) same, ap (λ x. shown shape p k (Some x)) (sym same) ∙ h)
-  where
-    deep : (c : Bool) → (if c then None else Some w) ≡ Some v → w ≡ v
-    deep true e = absurd (cc)
-    deep false e = of_some w v e
-
-    at : (b : Bool) → (if b then Some w else (if is_default shape k w then None else Some w)) ≡ Some v → w ≡ v
-    at true e = of_some w v e
-    at false e = deep (is_default shape k w) e
-
--- without presence no default is shown
-pub no_default : (shape : Shape) (k : Kind) (v : Val) → shown shape false k (Some v) ≡ Some v → is_default shape k v ≡ false
-no_default shape k v h = at (is_default shape k v) h
-  where
-    at : (c : Bool) → (if c then None else Some v) ≡ Some v → c ≡ false
-    at true e = absurd (cc)
-    at false e = refl
-
-filled : (shape : Shape) (f : FieldShape) (c : Cardinality) (v : Val) → shown shape (presence_by f.presence f.kind c) f.kind (Some v) ≡ Some v
-    → IsFilled shape v (target_by f c)
-filled shape f Singular v h = tt
-filled shape f Repeated v h = no_default shape f.kind v (ap (λ p. shown shape p f.kind (Some v)) (sym (list_absent f.presence f.kind)) ∙ h)
-filled shape f (Map kk) v h = no_default shape f.kind v (ap (λ p. shown shape p f.kind (Some v)) (sym (map_absent f.presence f.kind kk)) ∙ h)
 
 module _ (shape : Shape) (proper : IsProper shape) (well : IsWellNamed shape) (allow : Bool) where
   abbrev TreeFits : Data → Type 0
@@ -152,21 +121,26 @@ module _ (shape : Shape) (proper : IsProper shape) (well : IsWellNamed shape) (a
     fields_fit gs all fs (above-ascending n fs up) (λ k w got. within k w (later_found n v fs up k w got)) held,
   )
 
-  message_fits : (t : ℕ) (ms : Members) (c : Content) → is_well_known (message_name shape t) ≡ false → MembersFit ms
-      → message_of allow (declared_of shape t) (entries_said shape allow ms) ≡ Some c → FitsAs shape c t
-  message_fits t ms c own g h =
+  message_fits : (skips : Bool) (t : ℕ) (ms : Members) (c : Content) → is_object_type shape t ≡ true → MembersFit ms
+      → message_of skips (declared_of shape t) (entries_said shape allow ms) ≡ Some c → FitsAs shape c t
+  message_fits skips t ms c own g h =
       let ds = declared_of shape t in
       let es = entries_said shape allow ms in
-      let known = if_some (all_known allow ds es) (option_and_then (if_oneofs ds) (gathered (λ n. only (told ds n es)) ds)) c h in
+      let known = if_some (all_known skips ds es) (option_and_then (if_oneofs ds) (gathered (λ n. only (told ds n es)) ds)) c h in
       let found = from_then (if_oneofs ds) (gathered (λ n. only (told ds n es)) ds) c known.1 in
       let made = if_some (has_one_member ds found.0) (Some (content.content found.0 [])) c found.2 in
       let same : content.content found.0 [] ≡ c = of_some (content.content found.0 []) c made.1 in
       let up = ascending_gathered (λ n. only (told ds n es)) ds found.0 found.1 in
       let it : FitsAs shape (content.content found.0 []) t =
-      (refl, own, up, made.0, fields_fit ds found.0 found.0 up (λ n v got. got) (held found.0 found.1)) in
+      (refl, object_form (form_of shape t) (content.content found.0 []) own, up, made.0, fields_fit ds found.0 found.0 up (λ n v got. got) (held found.0 found.1)) in
       let P : Content → Type 0 = λ x. FitsAs shape x t in
       subst P same it
     where
+      object_form : (form : Form) (c : Content) → is_object_form form ≡ true → IsOwnRead shape t form c
+      object_form forms.Fields c e = tt
+      object_form forms.Empty c e = tt
+      object_form _ c e = absurd (cc)
+
       held : (found : Fields) → gathered (λ n. only (told (declared_of shape t) n (entries_said shape allow ms))) (declared_of shape t) ≡ Some found
           → (n : ℕ) (v : Val) → get n found ≡ Some v → FitsOption shape v (Fits shape v) (field_of n (declared_of shape t))
       held found e n v got =
@@ -227,31 +201,6 @@ module _ (shape : Shape) (proper : IsProper shape) (well : IsWellNamed shape) (a
 
   -- ---- all trees
 
-  message_as_fits : (t : ℕ) (d : Data) (ms : Members) (c : Content) → MembersFit ms → message_as shape allow t d (entries_said shape allow ms) ≡ Some c
-      → FitsAs shape c t
-  message_as_fits t d ms c g h =
-      let own = unless_some (is_well_known (message_name shape t)) (object_of (message_of allow (declared_of shape t)) d (entries_said shape allow ms)) c h in
-      message_fits t ms c own.0 g (object_is d own.1)
-    where
-      object_is : (e : Data) → object_of (message_of allow (declared_of shape t)) e (entries_said shape allow ms) ≡ Some c
-          → message_of allow (declared_of shape t) (entries_said shape allow ms) ≡ Some c
-      object_is (object all) k = k
-      object_is null k = absurd (cc)
-      object_is (boolean b) k = absurd (cc)
-      object_is (number n) k = absurd (cc)
-      object_is (string s) k = absurd (cc)
-      object_is (array ds) k = absurd (cc)
-
-  -- one value of a kind
-  value_fits : (k : Kind) (d : Data) (ms : Members) (v : Val) → HasTexts d → MembersFit ms → value_as shape allow k d (entries_said shape allow ms) ≡ Some (Some v)
-      → Fits shape v (single k)
-  value_fits (kind.Message t) d ms v x g h =
-      let it = from_map (λ c. Some (content.message c)) (message_as shape allow t d (entries_said shape allow ms)) (Some v) h in
-      let same : content.message it.0 ≡ v = of_some (content.message it.0) v it.2 in
-      rw (← same) (t, refl, message_as_fits t d ms it.0 g it.1)
-  value_fits kind.Int32 d ms v x g h = scalar_fits shape well allow kind.Int32 d v x (from_ok_of (scalar_read shape allow kind.Int32 d) (Some v) h)
-  value_fits k d ms v x g h = scalar_fits shape well allow k d v x (from_ok_of (scalar_read shape allow k d) (Some v) h)
-
   list_fits : (k : Kind) (d : Data) (ds : Items) (v : Val) → ItemsFit ds → is_default shape k v ≡ false → list_as k d (items_said shape allow ds) ≡ Some (Some v)
       → Fits shape v (list k)
   list_fits k (array no_items) ds v g n h = absurd (cc)
@@ -281,10 +230,42 @@ module _ (shape : Shape) (proper : IsProper shape) (well : IsWellNamed shape) (a
   map_fits kk vk good (string s) ms v t g n h = absurd (cc)
   map_fits kk vk good (array ds) ms v t g n h = absurd (cc)
 
+  message_as_fits : (t : ℕ) (d : Data) (ds : Items) (ms : Members) (c : Content) → HasTexts d → MembersHaveTexts ms → ItemsFit ds → MembersFit ms
+      → message_as shape allow t d (items_said shape allow ds) (entries_said shape allow ms) ≡ Some c → FitsAs shape c t
+  message_as_fits t d ds ms c x y f g h = either (is_object_type shape t) refl h
+    where
+      object_is : (e : Data) → object_of (message_of (skips_keys shape allow t) (declared_of shape t)) e (entries_said shape allow ms) ≡ Some c
+          → message_of (skips_keys shape allow t) (declared_of shape t) (entries_said shape allow ms) ≡ Some c
+      object_is (object all) k = k
+      object_is null k = absurd (cc)
+      object_is (boolean b) k = absurd (cc)
+      object_is (number n) k = absurd (cc)
+      object_is (string s) k = absurd (cc)
+      object_is (array ds) k = absurd (cc)
+
+      either : (b : Bool) → is_object_type shape t ≡ b
+          → (if b then object_of (message_of (skips_keys shape allow t) (declared_of shape t)) d (entries_said shape allow ms)
+          else own_as shape (own_read shape allow t d) d (items_said shape allow ds) (entries_said shape allow ms)) ≡ Some c
+          → FitsAs shape c t
+      either true e k = message_fits (skips_keys shape allow t) t ms c e g (object_is d k)
+      either false e k =
+          own_fits shape proper well allow t d (items_said shape allow ds) (entries_said shape allow ms) c x (λ kd v n r. list_fits kd d ds v f n r)
+          (λ kd v n r. map_fits kind.String kd refl d ms v y g n r) e k
+
+  -- one value of a kind
+  value_fits : (k : Kind) (d : Data) (ds : Items) (ms : Members) (v : Val) → HasTexts d → MembersHaveTexts ms → ItemsFit ds → MembersFit ms
+      → value_as shape allow k d (items_said shape allow ds) (entries_said shape allow ms) ≡ Some (Some v) → Fits shape v (single k)
+  value_fits (kind.Message t) d ds ms v x y f g h =
+      let it = from_map (λ c. Some (content.message c)) (message_as shape allow t d (items_said shape allow ds) (entries_said shape allow ms)) (Some v) h in
+      let same : content.message it.0 ≡ v = of_some (content.message it.0) v it.2 in
+      rw (← same) (t, refl, message_as_fits t d ds ms it.0 x y f g it.1)
+  value_fits kind.Int32 d ds ms v x y f g h = scalar_fits shape well allow kind.Int32 d v x (from_ok_of (scalar_read shape allow kind.Int32 d) (Some v) h)
+  value_fits k d ds ms v x y f g h = scalar_fits shape well allow k d v x (from_ok_of (scalar_read shape allow k d) (Some v) h)
+
   read_as_fits : (at : Target) → IsGood at → (d : Data) (ds : Items) (ms : Members) (v : Val) → HasTexts d → MembersHaveTexts ms → ItemsFit ds → MembersFit ms
       → IsFilled shape v at → read_as shape allow at d (items_said shape allow ds) (entries_said shape allow ms) ≡ Some (Some v) → Fits shape v at
   read_as_fits nothing good d ds ms v x t g m n h = absurd (cc)
-  read_as_fits (single k) good d ds ms v x t g m n h = value_fits k d ms v x m h
+  read_as_fits (single k) good d ds ms v x t g m n h = value_fits k d ds ms v x t g m h
   read_as_fits (list k) good d ds ms v x t g m n h = list_fits k d ds v g n h
   read_as_fits (map kk vk) good d ds ms v x t g m n h = map_fits kk vk good d ms v t m n h
 

@@ -1,6 +1,8 @@
 -- What is known of a value that was read from a tree, by what was asked of the tree.
-use Rattle.std.proofs.Common.{◌≡◌, ℕ, ℤ, pos, true, false, List, [], Option, Some, None}
+use Rattle.std.proofs.Common.{◌≡◌, ℕ, ℤ, pos, Bool, true, false, List, [], Option, Some, None}
+use Rattle.std.specs.Prelude.{Ok}
 use Rattle.std.specs.Str.{is_utf8}
+use Rattle.serde_json.specs.Data.{Data}
 use Rattle.base64.specs.GeneralPurpose.{IsBytes}
 use Rattle.pbx_meaning.specs.Content as content
 use Rattle.pbx_meaning.specs.Content.{Content, Fields, Val, Vals, Pairs, Key, IsAscending}
@@ -11,10 +13,13 @@ use Rattle.pbx_meaning.specs.declared.shape.Kind.{Kind}
 use Rattle.pbx_meaning.specs.declared.shape.Kind.TheVariants as kind
 use Rattle.pbx_meaning.specs.declared.shape.FieldShape.{FieldShape}
 use Rattle.pbx_meaning.specs.declared.shape.Shape.{Shape}
-use Rattle.pbx_wkt.specs.Names.{is_well_known}
-use Rattle.pbx_json_meaning.specs.Types.{message_name}
+use Rattle.pbx_wkt.specs.Shapes.{form_of}
+use Rattle.pbx_wkt.specs.declared.form.Form.{Form}
+use Rattle.pbx_wkt.specs.declared.form.Form.TheVariants as forms
 use Rattle.pbx_json_meaning.specs.Scalars.{is_null_value}
 use Rattle.pbx_json_meaning.specs.Asked.{Asked, field, one, Target, nothing, single, list, map, target_by, has_presence}
+use Rattle.pbx_json_meaning.specs.Forms.{form_read, whole, holding}
+use Rattle.pbx_json_meaning.specs.Trees.{HasTexts}
 
 -- `NullValue` has one value
 abbrev pub IsNull : Shape → Kind → ℤ → Type 0
@@ -25,6 +30,39 @@ IsNull shape _ z = Unit {0}
 abbrev pub FitsOption : Shape → Val → (Target → Type 0) → Option FieldShape → Type 0
 FitsOption shape v P None = ⊥
 FitsOption shape v P (Some f) = P (target_by f f.cardinality) × (shown shape (has_presence f) f.kind (Some v) ≡ Some v)
+
+-- what a `Value` holds that was read: nothing is read as a number
+pub data ValueHeld : Type 0 where
+  a_null : ValueHeld
+  a_truth : Bool → ValueHeld
+  a_text : List ℕ → ValueHeld
+  a_struct : Content → ValueHeld
+  a_values : Content → ValueHeld
+
+-- the number of its field, and its value
+abbrev pub number_held : ValueHeld → ℕ
+number_held a_null = 1
+number_held (a_truth b) = 4
+number_held (a_text s) = 3
+number_held (a_struct c) = 5
+number_held (a_values c) = 6
+
+abbrev pub value_held : ValueHeld → Val
+value_held a_null = content.number (pos 0)
+value_held (a_truth b) = content.truth b
+value_held (a_text s) = content.text s
+value_held (a_struct c) = content.message c
+value_held (a_values c) = content.message c
+
+-- What is known of a content that was read by the type's own form: the tree that says it, or the one field that holds its value. Of an object of
+-- fields nothing more.
+abbrev pub IsOwnRead : Shape → ℕ → Form → Content → Type 0
+IsOwnRead shape t forms.Fields c = Unit {0}
+IsOwnRead shape t forms.Empty c = Unit {0}
+IsOwnRead shape t forms.Struct c = (o : Option Val) × (holding shape t 1 o ≡ c)
+IsOwnRead shape t forms.ListValue c = (o : Option Val) × (holding shape t 1 o ≡ c)
+IsOwnRead shape t forms.Value c = (x : ValueHeld) × (holding shape t (number_held x) (Some (value_held x)) ≡ c)
+IsOwnRead shape t form c = (allow : Bool) × (d : Data) × HasTexts d × (form_read shape allow t form d ≡ Ok (whole c))
 
 abbrev mutual
   -- a value that is read
@@ -41,7 +79,7 @@ abbrev mutual
   -- a message that is read
   pub FitsAs : Shape → Content → ℕ → Type 0
   FitsAs shape (content.content fs kept) t =
-      (kept ≡ []) × (is_well_known (message_name shape t) ≡ false) × IsAscending fs × (has_one_member (declared_of shape t) fs ≡ true)
+      (kept ≡ []) × IsOwnRead shape t (form_of shape t) (content.content fs kept) × IsAscending fs × (has_one_member (declared_of shape t) fs ≡ true)
       × FieldsFit shape fs (declared_of shape t)
 
   -- each value is that of the field of its number

@@ -6,6 +6,9 @@ pub mod Fits
 pub mod FitBytes
 pub mod FitScalars
 pub mod FitKinds
+pub mod FitShown
+pub mod FitForms
+pub mod FitOwn
 pub mod KeyOrder
 pub mod FitTrees
 pub mod FitSound
@@ -16,6 +19,8 @@ pub mod NamesBack
 pub mod LinesBack
 pub mod Back
 pub mod DefaultsBack
+pub mod FormsBack
+pub mod OwnBack
 pub mod Again
 pub mod ValueTexts
 pub mod In
@@ -26,6 +31,9 @@ pub mod FaultParts
 pub mod FaultFields
 pub mod FaultFound
 pub mod LinesMade
+pub mod WriteAsked
+pub mod ValueFields
+pub mod HeldTrees
 pub mod WriteClean
 pub mod WriteParts
 pub mod WriteFound

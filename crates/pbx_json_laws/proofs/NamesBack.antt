@@ -12,7 +12,7 @@ use Rattle.pbx_meaning.specs.declared.shape.FieldShape.{FieldShape}
 use Rattle.pbx_meaning.specs.declared.shape.MessageShape.{MessageShape}
 use Rattle.pbx_meaning.specs.declared.shape.Shape.{Shape}
 use Rattle.pbx_json_meaning.specs.Canonical.{key_of_field}
-use Rattle.pbx_json_meaning.specs.Clash.{is_shared, is_type_key, is_of_extension, is_name_of_another, clashes, least_key, clashing_key, first_clash, name_fault}
+use Rattle.pbx_json_meaning.specs.Clash.{is_shared, is_type_key, is_of_extension, is_name_of_another, clashes, least_key, clashing_key, first_clash, first_misshapen, name_fault}
 use Rattle.pbx_json_meaning.specs.Named.{IsWellNamed}
 use Rattle.pbx_json_meaning.specs.Names.{field_named, json_name_is, name_is, extension_is}
 use Rattle.pbx_json_meaning.specs.declared.names_fault.NameFault.{NameFault}
@@ -100,6 +100,11 @@ clash_parts : (o : Option (List ℕ)) (name : List ℕ) (rest : Option NameFault
 clash_parts None name rest h = (refl, h)
 clash_parts (Some k) name rest h = absurd (cc)
 
+-- neither is there
+nor_both : {X : Type 0} (o p : Option X) → option_or o p ≡ None → (o ≡ None) × (p ≡ None)
+nor_both None p h = (refl, h)
+nor_both (Some x) p h = absurd (cc)
+
 no_clash_at : (b : Bool) (ms : List MessageShape) (t : ℕ) → first_clash b ms ≡ None
     → list_all (λ f. not (clashes b (declared_at ms t) f)) (declared_at ms t) ≡ true
 no_clash_at b [] t h = refl
@@ -110,7 +115,7 @@ no_clash_at b (m ∷ ms) (suc t) h = no_clash_at b ms t (clash_parts (clashing_k
 -- no field of a type has a key at fault
 pub no_clash : (b : Bool) (shape : Shape) (t : ℕ) → name_fault b shape ≡ None
     → list_all (λ f. not (clashes b (declared_of shape t) f)) (declared_of shape t) ≡ true
-no_clash b shape t h = no_clash_at b shape.messages t h
+no_clash b shape t h = no_clash_at b shape.messages t (nor_both (first_clash b shape.messages) (first_misshapen shape 0 shape.messages) h).0
 
 clash_less : (e s t x n : Bool) → not (not e && (s || t || x || (true && n))) ≡ true → (not e && (s || t || x || (false && n))) ≡ false
 clash_less true s t x n h = refl
@@ -138,7 +143,9 @@ less_at_fault (m ∷ ms) h =
 -- where no name is at fault, none is where fields are written by their JSON names
 pub fault_by_name : (b : Bool) (shape : Shape) → name_fault true shape ≡ None → name_fault b shape ≡ None
 fault_by_name true shape h = h
-fault_by_name false shape h = less_at_fault shape.messages h
+fault_by_name false shape h =
+    let parts = nor_both (first_clash true shape.messages) (first_misshapen shape 0 shape.messages) h in
+    ap (λ o. option_or o (first_misshapen shape 0 shape.messages)) (less_at_fault shape.messages parts.0) ∙ parts.1
 
 -- ---- the key of a field
 

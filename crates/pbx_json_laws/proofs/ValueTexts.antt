@@ -1,5 +1,5 @@
 -- Each text and each key of a tree is UTF-8.
-use Rattle.std.proofs.Common.{◌≡◌, List, [], ◌∷◌, map, String, Global, string_bytes, true, refl, sym, rules, subst}
+use Rattle.std.proofs.Common.{◌≡◌, List, [], ◌∷◌, map, String, Global, string_bytes, true, sym, rules, subst}
 use Rattle.std.specs.Str.{is_utf8}
 use Rattle.std.proofs.lemmas.Str.{IsUtf8-string_bytes, is_utf8-from_IsUtf8}
 use Rattle.serde_json.specs.Data.{Data}

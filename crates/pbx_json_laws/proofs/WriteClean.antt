@@ -1,34 +1,42 @@
 -- What has a canonical tree has no fault in writing.
-use Rattle.std.proofs.Common.{◌≡◌, ◌⊎◌, inl, inr, ℕ, zero, suc, ◌&&◌, ◌||◌, ◌++◌, List, [], ◌∷◌, map as map_list, filter, Bool, true, false, if◌then◌else◌, Option, Some, None, option_map, refl, ap, sym, ◌∙◌, subst}
-use Rattle.std.specs.Prelude.{Ok, Err}
+use Rattle.std.proofs.Common.{◌≡◌, ◌⊎◌, inl, inr, ℕ, zero, suc, ◌==◌, ◌&&◌, ◌||◌, ◌++◌, List, [], ◌∷◌, map as map_list, filter, Bool, true, false, if◌then◌else◌, Option, Some, None, option_map, refl, ap, sym, ◌∙◌, subst}
+use Rattle.std.specs.Prelude.{Result, Ok, Err}
 use Rattle.std.specs.List.{list_any}
 use Rattle.std.specs.Str.{bytes_eq}
-use Rattle.serde_json.specs.Data.{Data, array, object, Members}
+use Rattle.std.proofs.lemmas.Bool.{eqb-true}
+use Rattle.serde_json.specs.Data.{Data, null, array, object, Members}
 use Rattle.pbx_wire.specs.declared.rec.Rec.{Rec}
 use Rattle.pbx_meaning.specs.Content as content
-use Rattle.pbx_meaning.specs.Content.{Content, Fields, Val, Vals, Pairs}
+use Rattle.pbx_meaning.specs.Content.{Content, Fields, Val, Vals, Pairs, get}
 use Rattle.pbx_meaning.specs.Content.{Key as MapKey}
 use Rattle.pbx_meaning.specs.Encoding.{type_of}
-use Rattle.pbx_meaning.specs.Shape.{declared_of, field_of, is_float}
+use Rattle.pbx_meaning.specs.Shape.{declared_of, fields_of, field_of, is_float}
+use Rattle.pbx_meaning.specs.Sound.{AreSound}
 use Rattle.pbx_meaning.specs.declared.shape.Kind.{Kind}
+use Rattle.pbx_meaning.specs.declared.shape.Kind.TheVariants as kind
 use Rattle.pbx_meaning.specs.declared.shape.FieldShape.{FieldShape}
 use Rattle.pbx_meaning.specs.declared.shape.Shape.{Shape}
-use Rattle.pbx_wkt.specs.Names.{is_well_known}
-use Rattle.pbx_json_meaning.specs.Types.{message_name}
+use Rattle.pbx_wkt.specs.Shapes.{form_of}
+use Rattle.pbx_wkt.specs.declared.form.Form.{Form}
+use Rattle.pbx_wkt.specs.declared.form.Form.TheVariants as forms
 use Rattle.pbx_json_meaning.specs.Asked.{Asked, field, one}
 use Rattle.pbx_json_meaning.specs.Canonical.{Line, Tells, Told, key_of_field, is_kept_of, keeps_float, is_written_default, default_line, told_line, lines, members_of_lines, key_text}
-use Rattle.pbx_json_meaning.specs.Canonical.{object_tree, kind_asked, items_of, entry_line, tells, fields_tell, vals_tell, pairs_tell}
+use Rattle.pbx_json_meaning.specs.Canonical.{object_tree, field_tree, first_field, value_tree, form_tree, own_tree, kind_asked, items_of, entry_line, tells, content_tree, fields_tell, vals_tell, pairs_tell}
 use Rattle.pbx_json_meaning.specs.Faults.{SomeWith, OkWith}
-use Rattle.pbx_json_meaning.specs.Stands.{all_read}
-use Rattle.pbx_json_meaning.specs.WriteFaults.{Parts, leaf, elements, keyed, members, Taken, parts_of, val_at, val_under, is_under, asked_of, field_under}
+use Rattle.pbx_json_meaning.specs.Forms.{is_object_form, is_object_type, kind_in, kind_at, type_at, timestamp_tree, duration_tree, mask_tree}
+use Rattle.pbx_json_meaning.specs.Stands.{all_read, ok_of}
+use Rattle.pbx_json_meaning.specs.WriteFaults.{Parts, leaf, elements, keyed, members, Taken, as_leaf, several_parts, struct_parts, held_parts, value_parts, form_parts, parts_of, val_at, val_under, is_under, asked_of, field_under}
 use Rattle.pbx_json_meaning.specs.WriteFaults.{into_written, key_in, value_keys, is_twice, KeyBreaks, IsKeyFault, WriteFaultAt}
 use Rattle.pbx_json_meaning.specs.declared.kind.JsonKind.{JsonKind}
 use Rattle.pbx_json_meaning.specs.declared.kind.JsonKind.TheVariants as fault
 use Rattle.pbx_json_meaning.specs.declared.options.SerializeOptions.{SerializeOptions}
 use Rattle.pbx_json_meaning.specs.declared.place.Step.{Step}
 use Rattle.pbx_json_meaning.specs.declared.place.Step.TheVariants.{Key, Index}
+use Rattle.pbx_json_laws.proofs.HeldTrees.{get_first, is_message, nothing_held, tree_or, told_at}
 use Rattle.pbx_json_laws.proofs.LinesMade.{keys_of, Added, added, never_twice}
-use Rattle.pbx_json_laws.proofs.Parts.{from_then, from_map, unless_some, of_some, neither, some_with}
+use Rattle.pbx_json_laws.proofs.Parts.{from_then, from_map, unless_some, of_some, neither}
+use Rattle.pbx_json_laws.proofs.ValueFields.{holds_several, IsOfValue, of_value}
+use Rattle.pbx_json_laws.proofs.WriteAsked.{IsAsked, message_asked, field_at, AreTaken, parts_taken, next_asked}
 
 module _ (shape : Shape) (o : SerializeOptions) where
   -- what a step leads to has no tree
@@ -219,40 +227,192 @@ module _ (shape : Shape) (o : SerializeOptions) where
   leaf_clean (Key k) place kind (inr b) = b
   leaf_clean (Index i) place kind (inr b) = b
 
-  told_clean : (v : Val) (a : Asked) (d : Data) → tells shape o v a ≡ Some d → IsFaulty (parts_of shape v a) → ⊥
-  told_clean (content.number z) a d h b = none_below (Ok leaf) leaf refl leaf_clean b
-  told_clean (content.truth z) a d h b = none_below (Ok leaf) leaf refl leaf_clean b
-  told_clean (content.text z) a d h b = none_below (Ok leaf) leaf refl leaf_clean b
-  told_clean (content.octets z) a d h b = none_below (Ok leaf) leaf refl leaf_clean b
-  told_clean (content.many vs) a d h b =
-      let k = kind_asked a in
+  -- ---- well-known types
+
+  text_clean : (r : Result Data JsonKind) (d : Data) → ok_of r ≡ Some d → IsFaulty (as_leaf r) → ⊥
+  text_clean (Err e) d h b = absurd (cc)
+  text_clean (Ok x) d h b = none_below (Ok leaf) leaf refl leaf_clean b
+
+  many_clean : (k : Kind) (vs : Vals) (d : Data) → tells shape o (content.many vs) (one k) ≡ Some d → IsFaulty (Ok (elements k vs)) → ⊥
+  many_clean k vs d h b =
       let it = from_map (λ ds. array (items_of ds)) (all_read (λ (t : Tells). t (one k)) (vals_tell shape o vs)) d h in
       none_below (Ok (elements k vs)) (elements k vs) refl (elements_clean k vs it.0 it.1) b
-  told_clean (content.keyed ps) a d h b =
-      let k = kind_asked a in
+
+  entries_clean : (k : Kind) (ps : Pairs) (d : Data) → tells shape o (content.keyed ps) (one k) ≡ Some d → IsFaulty (Ok (keyed k ps)) → ⊥
+  entries_clean k ps d h b =
       let it = from_map object (members_of_lines (map_list (entry_line k) (pairs_tell shape o ps))) d h in
       none_below (Ok (keyed k ps)) (keyed k ps) refl (keyed_clean k ps it.0 it.1) b
-  told_clean (content.message (content.content fs kept)) a d h b =
-      let t = type_of (kind_asked a) in
-      let gs = declared_of shape t in
-      let own = unless_some (is_well_known (message_name shape t)) (object_tree shape o gs fs kept (fields_tell shape o fs)) d h in
-      let P : Bool → Type 0 = λ x. IsFaulty (if x then Err fault.NotBuilt else Ok (members gs fs kept)) in
-      none_below (Ok (members gs fs kept)) (members gs fs kept) refl (members_clean gs fs kept d own.1) (subst P own.0 b)
 
-  taken_with : (t : Taken) (step : Step) (place : List Step) (kind : JsonKind)
-      → ((next : Val × Asked) → WriteFaultAt shape o place next.0 next.1 kind → IsNeverTold next)
+  bare_clean : IsFaulty (Ok leaf) → ⊥
+  bare_clean b = none_below (Ok leaf) leaf refl leaf_clean b
+
+  several_clean : (k : Kind) (otherwise : Option Data) (x : Option Val) (d : Data) → tree_or shape o k otherwise x ≡ Some d → IsFaulty (several_parts k x) → ⊥
+  several_clean k otherwise None d h b = bare_clean b
+  several_clean k otherwise (Some (content.many vs)) d h b = many_clean k vs d h b
+  several_clean k otherwise (Some (content.keyed ps)) d h b = entries_clean k ps d h b
+  several_clean k otherwise (Some (content.number z)) d h b = bare_clean b
+  several_clean k otherwise (Some (content.truth z)) d h b = bare_clean b
+  several_clean k otherwise (Some (content.text z)) d h b = bare_clean b
+  several_clean k otherwise (Some (content.octets z)) d h b = bare_clean b
+  several_clean k otherwise (Some (content.message z)) d h b = bare_clean b
+
+  -- a `Struct` or a `ListValue`
+  struct_clean : (t : ℕ) (otherwise : Option Data) (fs : Fields) (d : Data) → field_tree shape t 1 otherwise (fields_tell shape o fs) ≡ Some d
+      → IsFaulty (struct_parts shape t fs) → ⊥
+  struct_clean t otherwise fs d h b =
+      several_clean (kind_at shape t 1) otherwise (get 1 fs) d (sym (told_at shape o 1 (kind_at shape t 1) otherwise fs) ∙ h) b
+
+  -- a message of such a type that a `Value` holds
+  held_clean : (u : ℕ) (form : Form) (c : Content) (d : Data) → form_of shape u ≡ form → holds_several form ≡ true → content_tree shape o c u ≡ Some d
+      → IsFaulty (held_parts shape u form (Some (content.message c))) → ⊥
+  held_clean u form (content.content fs kept) d e s h b = at form s told b
+    where
+      tree : Form → Option Data
+      tree x = if is_object_form x then object_tree shape o (declared_of shape u) fs kept (fields_tell shape o fs)
+          else form_tree shape o u x fs kept (fields_tell shape o fs)
+
+      told : tree form ≡ Some d
+      told = ap tree (sym e) ∙ h
+
+      at : (x : Form) → holds_several x ≡ true → tree x ≡ Some d → IsFaulty (held_parts shape u x (Some (content.message (content.content fs kept)))) → ⊥
+      at forms.Struct s q b = struct_clean u _ fs d q b
+      at forms.ListValue s q b = struct_clean u _ fs d q b
+      at forms.Misshapen s q b = absurd (cc)
+      at _ s q b = absurd (cc)
+
+  leaf_held : (t n : ℕ) (v : Val) → is_message (Some v) ≡ false
+      → IsFaulty (held_parts shape (type_at shape t n) (form_of shape (type_at shape t n)) (Some v)) → ⊥
+  leaf_held t n v m b = bare_clean (subst IsFaulty (nothing_held shape (type_at shape t n) (form_of shape (type_at shape t n)) (Some v) m) b)
+
+  -- the value of a field of a `Value`
+  value_field_clean : (t n : ℕ) (v : Val) (f : FieldShape) (d : Data) → field_of n (fields_of shape t) ≡ Some f → IsOfValue shape n f
+      → IsAsked shape (field f) v → tells shape o v (one (kind_at shape t n)) ≡ Some d
+      → IsFaulty (held_parts shape (type_at shape t n) (form_of shape (type_at shape t n)) (Some v)) → ⊥
+  value_field_clean t n (content.message c) f d there of s h b =
+      let is : kind_at shape t n ≡ kind.Message s.1.0 = ap kind_in there ∙ s.1.1 in
+      let type : type_at shape t n ≡ s.1.0 = ap type_of is in
+      let holds : holds_several (form_of shape (type_at shape t n)) ≡ true =
+      ap (λ x. holds_several (form_of shape x)) type ∙ of.holds s.1.0 s.1.1 in
+      held_clean (type_at shape t n) (form_of shape (type_at shape t n)) c d refl holds h b
+  value_field_clean t n (content.number z) f d there of s h b = leaf_held t n (content.number z) refl b
+  value_field_clean t n (content.truth z) f d there of s h b = leaf_held t n (content.truth z) refl b
+  value_field_clean t n (content.text z) f d there of s h b = leaf_held t n (content.text z) refl b
+  value_field_clean t n (content.octets z) f d there of s h b = leaf_held t n (content.octets z) refl b
+  value_field_clean t n (content.many z) f d there of s h b = leaf_held t n (content.many z) refl b
+  value_field_clean t n (content.keyed z) f d there of s h b = leaf_held t n (content.keyed z) refl b
+
+  value_clean : (t : ℕ) (fs : Fields) (kept : List Rec) (d : Data) → form_of shape t ≡ forms.Value → AreSound shape (fields_of shape t) fs
+      → value_tree shape t fs kept (fields_tell shape o fs) ≡ Some d → IsFaulty (value_parts shape t fs kept) → ⊥
+  value_clean t fs kept d form s h b = told fs s it.1 (subst P it.0 b)
+    where
+      tree : Fields → Option Data
+      tree fs = if first_field fs == 1 then Some null else field_tree shape t (first_field fs) (Some null) (fields_tell shape o fs)
+
+      parts : Fields → Taken
+      parts fs = held_parts shape (type_at shape t (first_field fs)) (form_of shape (type_at shape t (first_field fs))) (get (first_field fs) fs)
+
+      it : (keeps_float (declared_of shape t) kept ≡ false) × (tree fs ≡ Some d)
+      it = unless_some (keeps_float (declared_of shape t) kept) (tree fs) d h
+
+      P : Bool → Type 0
+      P x = IsFaulty (if x then Err fault.Float else parts fs)
+
+      told : (fs : Fields) → AreSound shape (fields_of shape t) fs → tree fs ≡ Some d → IsFaulty (parts fs) → ⊥
+      told content.no_fields s h b = bare_clean (subst IsFaulty (nothing_held shape (type_at shape t 0) (form_of shape (type_at shape t 0)) None refl) b)
+      told (content.field n v fs) s h b = at (n == 1) refl h
+        where
+          own : (f : FieldShape) × (field_of n (fields_of shape t) ≡ Some f) × IsAsked shape (field f) v
+          own = field_at shape v (field_of n (fields_of shape t)) s.0
+
+          of : IsOfValue shape n own.0
+          of = of_value shape t form n own.0 own.1
+
+          below : IsFaulty (held_parts shape (type_at shape t n) (form_of shape (type_at shape t n)) (Some v))
+          below = subst (λ x. IsFaulty (held_parts shape (type_at shape t n) (form_of shape (type_at shape t n)) x)) (get_first n v fs) b
+
+          first : (w : Val) → v ≡ w → is_message (Some w) ≡ false → ⊥
+          first w e m = leaf_held t n v (ap (λ x. is_message (Some x)) e ∙ m) below
+
+          -- null
+          null_clean : n ≡ 1 → (w : Val) → v ≡ w → ⊥
+          null_clean e (content.message c) is =
+              let s : IsAsked shape (field own.0) (content.message c) = subst (IsAsked shape (field own.0)) is own.2 in
+              let enum = of.first e in
+              (let bad : kind.Enum enum.0 ≡ kind.Message s.1.0 = sym enum.1 ∙ s.1.1 in cc)
+          null_clean e (content.number z) is = first (content.number z) is refl
+          null_clean e (content.truth z) is = first (content.truth z) is refl
+          null_clean e (content.text z) is = first (content.text z) is refl
+          null_clean e (content.octets z) is = first (content.octets z) is refl
+          null_clean e (content.many z) is = first (content.many z) is refl
+          null_clean e (content.keyed z) is = first (content.keyed z) is refl
+
+          at : (x : Bool) → (n == 1) ≡ x
+              → (if x then Some null else field_tree shape t n (Some null) (fields_tell shape o (content.field n v fs))) ≡ Some d → ⊥
+          at true e q = null_clean (eqb-true n 1 e) v refl
+          at false e q =
+              value_field_clean t n v own.0 d own.1 of own.2
+              (sym (told_at shape o n (kind_at shape t n) (Some null) (content.field n v fs)
+              ∙ ap (tree_or shape o (kind_at shape t n) (Some null)) (get_first n v fs)) ∙ q) below
+
+  form_clean : (t : ℕ) (form : Form) (fs : Fields) (kept : List Rec) (d : Data) → form_of shape t ≡ form → AreSound shape (fields_of shape t) fs
+      → form_tree shape o t form fs kept (fields_tell shape o fs) ≡ Some d → IsFaulty (form_parts shape t form fs kept) → ⊥
+  form_clean t forms.Timestamp fs kept d e s h b = text_clean (timestamp_tree fs) d h b
+  form_clean t forms.Duration fs kept d e s h b = text_clean (duration_tree fs) d h b
+  form_clean t forms.FieldMask fs kept d e s h b = text_clean (mask_tree fs) d h b
+  form_clean t forms.Wrapper fs kept d e s h b = bare_clean b
+  form_clean t forms.Struct fs kept d e s h b = struct_clean t _ fs d h b
+  form_clean t forms.ListValue fs kept d e s h b = struct_clean t _ fs d h b
+  form_clean t forms.Value fs kept d e s h b = value_clean t fs kept d e s h b
+  form_clean t _ fs kept d e s h b = absurd (cc)
+
+  -- ---- values
+
+  told_clean : (v : Val) (a : Asked) (d : Data) → IsAsked shape a v → tells shape o v a ≡ Some d → IsFaulty (parts_of shape v a) → ⊥
+  told_clean (content.number z) a d s h b = bare_clean b
+  told_clean (content.truth z) a d s h b = bare_clean b
+  told_clean (content.text z) a d s h b = bare_clean b
+  told_clean (content.octets z) a d s h b = bare_clean b
+  told_clean (content.many vs) a d s h b = many_clean (kind_asked a) vs d h b
+  told_clean (content.keyed ps) a d s h b = entries_clean (kind_asked a) ps d h b
+  told_clean (content.message (content.content fs kept)) a d s h b = at (is_object_type shape (type_of (kind_asked a))) h b
+    where
+      t : ℕ
+      t = type_of (kind_asked a)
+
+      sound : AreSound shape (fields_of shape t) fs
+      sound = (message_asked shape a (content.content fs kept) s).1
+
+      at : (x : Bool)
+          → (if x then object_tree shape o (declared_of shape t) fs kept (fields_tell shape o fs)
+          else own_tree shape o t fs kept (fields_tell shape o fs)) ≡ Some d
+          → IsFaulty (if x then Ok (members (declared_of shape t) fs kept) else form_parts shape t (form_of shape t) fs kept) → ⊥
+      at true q b =
+          none_below (Ok (members (declared_of shape t) fs kept)) (members (declared_of shape t) fs kept) refl
+          (members_clean (declared_of shape t) fs kept d q) b
+      at false q b = form_clean t (form_of shape t) fs kept d refl sound q b
+
+  with_some : {X : Type 0} (P Q : X → Type 0) (x : Option X) → ((y : X) → x ≡ Some y → P y → Q y) → SomeWith x P → SomeWith x Q
+  with_some P Q None f h = h
+  with_some P Q (Some y) f h = f y refl h
+
+  taken_with : (t : Taken) (step : Step) (place : List Step) (kind : JsonKind) → AreTaken shape t
+      → ((next : Val × Asked) → IsAsked shape next.1 next.0 → WriteFaultAt shape o place next.0 next.1 kind → IsNeverTold next)
       → OkWith t (λ parts. IsKeyFault o parts step place kind ⊎ SomeWith (into_written o parts step) (λ next. WriteFaultAt shape o place next.0 next.1 kind))
       → IsFaulty t
-  taken_with (Err e) step place kind f h = absurd h
-  taken_with (Ok parts) step place kind f h = inr (parts, refl, (step, place, kind, broken h))
+  taken_with (Err e) step place kind s f h = absurd h
+  taken_with (Ok parts) step place kind s f h = inr (parts, refl, (step, place, kind, broken h))
     where
       broken : IsKeyFault o parts step place kind ⊎ SomeWith (into_written o parts step) (λ next. WriteFaultAt shape o place next.0 next.1 kind)
           → IsBroken parts step place kind
       broken (inl b) = inl b
-      broken (inr b) = inr (some_with (λ next. WriteFaultAt shape o place next.0 next.1 kind) IsNeverTold (into_written o parts step) f b)
+      broken (inr b) =
+          inr (with_some (λ next. WriteFaultAt shape o place next.0 next.1 kind) IsNeverTold (into_written o parts step)
+          (λ next e g. f next (next_asked shape o parts step next s e) g) b)
 
   -- a value with a fault at some place has no tree
-  pub untold : (place : List Step) (v : Val) (a : Asked) (kind : JsonKind) → WriteFaultAt shape o place v a kind → (d : Data) → tells shape o v a ≡ Some d → ⊥
-  untold [] v a kind h d e = told_clean v a d e (inl (kind, h))
-  untold (step ∷ place) v a kind h d e =
-      told_clean v a d e (taken_with (parts_of shape v a) step place kind (λ next g. λ x q. untold place next.0 next.1 kind g x q) h)
+  pub untold : (place : List Step) (v : Val) (a : Asked) (kind : JsonKind) → IsAsked shape a v → WriteFaultAt shape o place v a kind
+      → (d : Data) → tells shape o v a ≡ Some d → ⊥
+  untold [] v a kind s h d e = told_clean v a d s e (inl (kind, h))
+  untold (step ∷ place) v a kind s h d e =
+      told_clean v a d s e (taken_with (parts_of shape v a) step place kind (parts_taken shape v a s)
+      (λ next t g. λ x q. untold place next.0 next.1 kind t g x q) h)

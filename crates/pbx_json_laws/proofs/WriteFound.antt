@@ -1,33 +1,37 @@
 -- What a message may have and has no tree has a fault in writing, so a content has a canonical tree exactly where writing it has no fault.
-use Rattle.std.proofs.Common.{◌≡◌, ◌⊎◌, inl, inr, ℕ, ◌&&◌, ◌||◌, ◌++◌, ℤ, List, [], ◌∷◌, map as map_list, filter, Bool, true, false, if◌then◌else◌, Option, Some, None, option_map, refl, ap, sym, ◌∙◌, subst}
-use Rattle.std.specs.Prelude.{Ok, Err}
+use Rattle.std.proofs.Common.{◌≡◌, ◌⊎◌, inl, inr, ℕ, ◌==◌, ◌&&◌, ◌||◌, ◌++◌, ℤ, List, [], ◌∷◌, map as map_list, filter, Bool, true, false, if◌then◌else◌, Option, Some, None, option_map, refl, ap, sym, ◌∙◌, subst}
+use Rattle.std.specs.Prelude.{Result, Ok, Err}
 use Rattle.std.specs.List.{list_any}
 use Rattle.std.specs.Str.{bytes_eq}
 use Rattle.std.proofs.lemmas.Slice.Eq.{bytes_eq-Decides}
-use Rattle.serde_json.specs.Data.{Data, array, object}
+use Rattle.serde_json.specs.Data.{Data, null, array, object}
 use Rattle.pbx_wire.specs.declared.rec.Rec.{Rec}
 use Rattle.pbx_meaning.specs.Content as content
 use Rattle.pbx_meaning.specs.Content.{Content, Fields, Val, Vals, Pairs, get}
 use Rattle.pbx_meaning.specs.Encoding.{type_of}
 use Rattle.pbx_meaning.specs.Meaning.{zero_of}
-use Rattle.pbx_meaning.specs.Shape.{declared_of, by_number, field_of, is_float}
-use Rattle.pbx_meaning.specs.Sound.{IsSound, AreSound, IsSoundAt, AreElements, ArePairs, IsElement, IsNumber}
+use Rattle.pbx_meaning.specs.Shape.{declared_of, by_number, fields_of, field_of, is_float}
+use Rattle.pbx_meaning.specs.Sound.{IsSound, AreSound, IsSoundAt, AreElements, ArePairs, IsNumber}
 use Rattle.pbx_meaning.specs.declared.shape.Cardinality.{Cardinality}
 use Rattle.pbx_meaning.specs.declared.shape.Cardinality.TheVariants.{Singular, Repeated, Map}
 use Rattle.pbx_meaning.specs.declared.shape.Kind.{Kind}
 use Rattle.pbx_meaning.specs.declared.shape.Kind.TheVariants as kind
 use Rattle.pbx_meaning.specs.declared.shape.FieldShape.{FieldShape}
 use Rattle.pbx_meaning.specs.declared.shape.Shape.{Shape}
-use Rattle.pbx_wkt.specs.Names.{is_well_known}
-use Rattle.pbx_json_meaning.specs.Types.{message_name}
+use Rattle.pbx_wkt.specs.Shapes.{form_of}
+use Rattle.pbx_wkt.specs.declared.form.Form.{Form}
+use Rattle.pbx_wkt.specs.declared.form.Form.TheVariants as forms
+use Rattle.pbx_wkt.proofs.Declared.{is_wrapped_kind}
+use Rattle.pbx_wkt.proofs.Forms.{wrapper_fields, struct_fields, list_fields}
 use Rattle.pbx_json_meaning.specs.Asked.{Asked, field, one, root, presence_by}
 use Rattle.pbx_json_meaning.specs.Canonical.{Line, Tells, key_of_field, is_kept_of, keeps_float, is_written_default, default_by, default_tree, default_line, told_line, lines, members_of_lines}
-use Rattle.pbx_json_meaning.specs.Canonical.{object_tree, kind_asked, items_of, entry_line, tells, content_tree, fields_tell, vals_tell, pairs_tell, number_by, truth_by, text_by, bytes_by}
+use Rattle.pbx_json_meaning.specs.Canonical.{object_tree, scalar_tree, field_tree, first_field, value_tree, form_tree, own_tree, kind_asked, items_of, entry_line, tells, content_tree, fields_tell, vals_tell, pairs_tell, number_by, truth_by, text_by, bytes_by}
 use Rattle.pbx_json_meaning.specs.Faults.{SomeWith, OkWith}
 use Rattle.pbx_json_meaning.specs.Laws.{CanonicalWithoutFault}
 use Rattle.pbx_json_meaning.specs.Scalars.{family}
-use Rattle.pbx_json_meaning.specs.Stands.{all_read}
-use Rattle.pbx_json_meaning.specs.WriteFaults.{Parts, elements, keyed, members, Taken, content_parts, parts_of, into_written, key_in, value_keys, is_twice}
+use Rattle.pbx_json_meaning.specs.Forms.{is_object_form, is_object_type, kind_in, kind_at, type_at, timestamp_tree, duration_tree, mask_tree}
+use Rattle.pbx_json_meaning.specs.Stands.{all_read, ok_of}
+use Rattle.pbx_json_meaning.specs.WriteFaults.{Parts, leaf, elements, keyed, members, Taken, as_leaf, several_parts, struct_parts, held_parts, value_parts, form_parts, content_parts, parts_of, into_written, key_in, value_keys, is_twice}
 use Rattle.pbx_json_meaning.specs.WriteFaults.{KeyBreaks, IsKeyFault, WriteFaultAt, WriteFault}
 use Rattle.pbx_json_meaning.specs.declared.kind.JsonKind.{JsonKind}
 use Rattle.pbx_json_meaning.specs.declared.kind.JsonKind.TheVariants as fault
@@ -35,48 +39,16 @@ use Rattle.pbx_json_meaning.specs.declared.options.SerializeOptions.{SerializeOp
 use Rattle.pbx_json_meaning.specs.declared.place.Step.{Step}
 use Rattle.pbx_json_meaning.specs.declared.place.Step.TheVariants.{Key, Index}
 use Rattle.pbx_json_laws.proofs.FaultParts.{map_none}
+use Rattle.pbx_json_laws.proofs.HeldTrees.{get_first, is_message, nothing_held, tells_alike, tree_or, told_at, parts_alike}
 use Rattle.pbx_json_laws.proofs.LinesMade.{keys_of, is_bare, not_made, twice_append}
-use Rattle.pbx_json_laws.proofs.Numbers.{field_of-by_number}
+use Rattle.pbx_json_laws.proofs.ValueFields.{holds_several, IsOfValue, of_value}
+use Rattle.pbx_json_laws.proofs.WriteAsked.{IsAsked, number_asked, truth_asked, text_asked, octets_asked, message_asked, many_asked, keyed_asked, field_at, own_field, sound_at}
 use Rattle.pbx_json_laws.proofs.WriteClean.{value_lines, untold, default_keys}
 use Rattle.pbx_json_laws.proofs.WriteParts.{FaultOf, ElementFault, element_step, EntryFault, entry_keys, no_twice, entry_step, FieldFault, field_step}
-use Rattle.pbx_json_laws.proofs.Parts.{or_right}
+use Rattle.pbx_json_laws.proofs.Parts.{or_right, of_some}
 use Rattle.pbx_json_laws.proofs.DefaultsBack.{written_default}
 
 module _ (shape : Shape) (o : SerializeOptions) where
-  -- ---- what is asked of a value that a message may have
-
-  abbrev IsAsked : Asked → Val → Type 0
-  IsAsked (field f) v = IsSoundAt shape (Some f) v
-  IsAsked (one k) v = IsElement shape k v
-
-  number_asked : (a : Asked) (z : ℤ) → IsAsked a (content.number z) → IsNumber (kind_asked a) z
-  number_asked (field f) z h = h.2
-  number_asked (one k) z h = h
-
-  truth_asked : (a : Asked) (b : Bool) → IsAsked a (content.truth b) → kind_asked a ≡ kind.Bool
-  truth_asked (field f) b h = h.2
-  truth_asked (one k) b h = h
-
-  text_asked : (a : Asked) (s : List ℕ) → IsAsked a (content.text s) → kind_asked a ≡ kind.String
-  text_asked (field f) s h = h.2
-  text_asked (one k) s h = h.0
-
-  octets_asked : (a : Asked) (s : List ℕ) → IsAsked a (content.octets s) → kind_asked a ≡ kind.Bytes
-  octets_asked (field f) s h = h.2
-  octets_asked (one k) s h = h
-
-  message_asked : (a : Asked) (c : Content) → IsAsked a (content.message c) → IsSound shape (type_of (kind_asked a)) c
-  message_asked (field f) c h = let P : ℕ → Type 0 = λ t. IsSound shape t c in subst P (sym (ap type_of h.1.1)) h.1.2
-  message_asked (one k) c h = let P : ℕ → Type 0 = λ t. IsSound shape t c in subst P (sym (ap type_of h.1)) h.2
-
-  many_asked : (a : Asked) (vs : Vals) → IsAsked a (content.many vs) → AreElements shape (kind_asked a) vs
-  many_asked (field f) vs h = h.2
-  many_asked (one k) vs h = absurd h
-
-  keyed_asked : (a : Asked) (ps : Pairs) → IsAsked a (content.keyed ps) → (key : Kind) × ArePairs shape key (kind_asked a) ps
-  keyed_asked (field f) ps h = (h.1.0, h.1.2)
-  keyed_asked (one k) ps h = absurd h
-
   -- ---- scalars and defaults have trees
 
   number_there : (k : Kind) (z : ℤ) → IsNumber k z → number_by shape o k (family k) z ≡ None → ⊥
@@ -111,6 +83,13 @@ module _ (shape : Shape) (o : SerializeOptions) where
   zero_there kind.String f p e = cc
   zero_there kind.Bytes f p e = cc
   zero_there _ f p e = cc
+
+  wrapped_zero : (k : Kind) → is_wrapped_kind k ≡ true → default_by shape o k (zero_of shape k) ≡ None → ⊥
+  wrapped_zero kind.Double p e = cc
+  wrapped_zero kind.Float p e = cc
+  wrapped_zero (kind.Message t) p e = cc
+  wrapped_zero (kind.Enum n) p e = cc
+  wrapped_zero _ p e = cc
 
   -- a kind whose fields are without presence
   less_presence : (p : Bool) (k : Kind) → presence_by p k Singular ≡ false → presence_by false k Singular ≡ false
@@ -169,38 +148,182 @@ module _ (shape : Shape) (o : SerializeOptions) where
       at true e q ih = (key_of_field o f, rw (e, (bytes_eq-Decides (key_of_field o f) (key_of_field o f)).1 refl) refl)
       at false e q ih = let it = ih q in (it.0, or_right _ _ it.1)
 
-  -- each number is that of a field
-  sound_field : (v : Val) (x : Option FieldShape) → IsSoundAt shape x v → (f : FieldShape) × (x ≡ Some f)
-  sound_field (content.number z) None h = absurd h
-  sound_field (content.truth z) None h = absurd h
-  sound_field (content.text z) None h = absurd h
-  sound_field (content.octets z) None h = absurd h
-  sound_field (content.message z) None h = absurd h
-  sound_field (content.many z) None h = absurd h
-  sound_field (content.keyed z) None h = absurd h
-  sound_field v (Some f) h = (f, refl)
-
-  own_field : (n : ℕ) (v : Val) (gs : List FieldShape) → IsSoundAt shape (field_of n (by_number gs)) v
-      → (f : FieldShape) × (field_of n gs ≡ Some f) × IsSoundAt shape (Some f) v
-  own_field n v gs h =
-      let it = sound_field v (field_of n (by_number gs)) h in
-      let P : Option FieldShape → Type 0 = λ x. IsSoundAt shape x v in
-      (it.0, sym (field_of-by_number n gs) ∙ it.1, subst P it.1 h)
-
   keys_sound : (gs : List FieldShape) (ds : List FieldShape) (fs : Fields) → AreSound shape (by_number gs) fs
       → keys_of (value_lines shape o gs fs ++ map_list (default_line shape o) ds) ≡ value_keys o gs fs ++ map_list (key_of_field o) ds
   keys_sound gs ds content.no_fields h = default_keys shape o gs ds
   keys_sound gs ds (content.field n v fs) h =
-      let own = own_field n v gs h.0 in
+      let own = own_field shape n v gs h.0 in
       ap (λ x. (told_line o (tells shape o v) x).0 ∷ keys_of (value_lines shape o gs fs ++ map_list (default_line shape o) ds)) own.1
       ∙ ap (λ x. key_of_field o own.0 ∷ x) (keys_sound gs ds fs h.1)
       ∙ ap (λ x. (key_in o x ++ value_keys o gs fs) ++ map_list (key_of_field o) ds) (sym own.1)
 
+  -- ---- well-known types
+
+  abbrev is_single : Cardinality → Bool
+  is_single Singular = true
+  is_single _ = false
+
+  never_single : (f : FieldShape) → is_single f.cardinality ≡ false → f.cardinality ≡ Singular → ⊥
+  never_single f h e = (let bad : true ≡ false = sym (ap is_single e) ∙ h in cc)
+
+  leaf_held : (t n : ℕ) (v : Val) → is_message (Some v) ≡ false → FaultsOf (Ok leaf)
+      → FaultsOf (held_parts shape (type_at shape t n) (form_of shape (type_at shape t n)) (Some v))
+  leaf_held t n v m h = subst FaultsOf (sym (nothing_held shape (type_at shape t n) (form_of shape (type_at shape t n)) (Some v) m)) h
+
+  text_faulty : (r : Result Data JsonKind) → ok_of r ≡ None → FaultsOf (as_leaf r)
+  text_faulty (Err e) h = inl (e, refl)
+  text_faulty (Ok x) h = absurd (cc)
+
+  -- a scalar field's value has a tree, as its default has
+  wrapped_there : (f : FieldShape) (v : Option Val) → is_wrapped_kind f.kind ≡ true → f.cardinality ≡ Singular
+      → ((w : Val) → v ≡ Some w → IsSoundAt shape (Some f) w) → scalar_tree shape o f.kind v ≡ None → ⊥
+  wrapped_there f None k c s h = wrapped_zero f.kind k h
+  wrapped_there f (Some (content.number z)) k c s h = number_there f.kind z (s (content.number z) refl).2 h
+  wrapped_there f (Some (content.truth b)) k c s h = truth_there f.kind b (s (content.truth b) refl).2 h
+  wrapped_there f (Some (content.text x)) k c s h = let it = s (content.text x) refl in text_there f.kind x it.2 h
+  wrapped_there f (Some (content.octets x)) k c s h = bytes_there f.kind x (s (content.octets x) refl).2 h
+  wrapped_there f (Some (content.message m)) k c s h =
+      let it = (s (content.message m) refl).1 in
+      let is : f.kind ≡ kind.Message it.0 = it.1 in
+      (let bad : is_wrapped_kind (kind.Message it.0) ≡ true = ap is_wrapped_kind (sym is) ∙ k in cc)
+  wrapped_there f (Some (content.many vs)) k c s h =
+      let is : f.cardinality ≡ Repeated = (s (content.many vs) refl).0 in
+      (let bad : Singular ≡ Repeated = sym c ∙ is in cc)
+  wrapped_there f (Some (content.keyed ps)) k c s h =
+      let it = (s (content.keyed ps) refl).1 in
+      let is : f.cardinality ≡ Map it.0 = it.1 in
+      (let bad : Singular ≡ Map it.0 = sym c ∙ is in cc)
+
+  wrapper_there : (t : ℕ) → form_of shape t ≡ forms.Wrapper → (fs : Fields) → AreSound shape (fields_of shape t) fs
+      → scalar_tree shape o (kind_at shape t 1) (get 1 fs) ≡ None → ⊥
+  wrapper_there t form fs s h =
+      let has = wrapper_fields shape t form in
+      let f = has.value.field in
+      let P : Option FieldShape → Type 0 = λ x. (w : Val) → get 1 fs ≡ Some w → IsSoundAt shape x w in
+      wrapped_there f (get 1 fs) (ap is_wrapped_kind has.value.of_kind ∙ has.passes) has.value.of_cardinality
+      (subst P has.value.there (λ w e. sound_at shape (fields_of shape t) 1 fs w s e))
+      (ap (λ x. scalar_tree shape o (kind_in x) (get 1 fs)) (sym has.value.there) ∙ h)
+
+  -- what is known of the values of the fields: where one has no tree, it has a fault
+  abbrev AreFaulty : Fields → Type 0
+  AreFaulty fs = (n : ℕ) (v : Val) (f : FieldShape) (k : Kind) → get n fs ≡ Some v → IsSoundAt shape (Some f) v → f.kind ≡ k
+      → tells shape o v (one k) ≡ None → FaultsOf (parts_of shape v (one k))
+
+  several_faulty : (f : FieldShape) (k : Kind) (d : Data) (x : Option Val) → is_single f.cardinality ≡ false
+      → ((v : Val) → x ≡ Some v → IsSoundAt shape (Some f) v)
+      → ((v : Val) → x ≡ Some v → IsSoundAt shape (Some f) v → tells shape o v (one k) ≡ None → FaultsOf (parts_of shape v (one k)))
+      → tree_or shape o k (Some d) x ≡ None → FaultsOf (several_parts k x)
+  several_faulty f k d None c s each h = absurd (cc)
+  several_faulty f k d (Some (content.many vs)) c s each h = each (content.many vs) refl (s (content.many vs) refl) h
+  several_faulty f k d (Some (content.keyed ps)) c s each h = each (content.keyed ps) refl (s (content.keyed ps) refl) h
+  several_faulty f k d (Some (content.number z)) c s each h = absurd (never_single f c (s (content.number z) refl).0)
+  several_faulty f k d (Some (content.truth z)) c s each h = absurd (never_single f c (s (content.truth z) refl).0)
+  several_faulty f k d (Some (content.text z)) c s each h = absurd (never_single f c (s (content.text z) refl).0)
+  several_faulty f k d (Some (content.octets z)) c s each h = absurd (never_single f c (s (content.octets z) refl).0)
+  several_faulty f k d (Some (content.message z)) c s each h = absurd (never_single f c (s (content.message z) refl).0)
+
+  -- a `Struct` or a `ListValue`
+  struct_faulty : (t : ℕ) (f : FieldShape) (d : Data) (fs : Fields) → field_of 1 (fields_of shape t) ≡ Some f → is_single f.cardinality ≡ false
+      → AreSound shape (fields_of shape t) fs → AreFaulty fs → field_tree shape t 1 (Some d) (fields_tell shape o fs) ≡ None
+      → FaultsOf (struct_parts shape t fs)
+  struct_faulty t f d fs there c s each h =
+      let k = kind_at shape t 1 in
+      let P : Option FieldShape → Type 0 = λ x. (v : Val) → get 1 fs ≡ Some v → IsSoundAt shape x v in
+      several_faulty f k d (get 1 fs) c (subst P there (λ v e. sound_at shape (fields_of shape t) 1 fs v s e))
+      (λ v e sound q. each 1 v f k e sound (sym (ap kind_in there)) q) (sym (told_at shape o 1 k (Some d) fs) ∙ h)
+
+  -- a message of such a type that a `Value` holds
+  held_faulty : (u : ℕ) (form : Form) (c : Content) → form_of shape u ≡ form → holds_several form ≡ true → FaultsOf (content_parts shape u c)
+      → FaultsOf (held_parts shape u form (Some (content.message c)))
+  held_faulty u form (content.content fs kept) e s h = at form s (subst FaultsOf (ap parts e) h)
+    where
+      parts : Form → Taken
+      parts x = if is_object_form x then Ok (members (declared_of shape u) fs kept) else form_parts shape u x fs kept
+
+      at : (x : Form) → holds_several x ≡ true → FaultsOf (parts x) → FaultsOf (held_parts shape u x (Some (content.message (content.content fs kept))))
+      at forms.Struct s q = q
+      at forms.ListValue s q = q
+      at forms.Misshapen s q = q
+      at _ s q = absurd (cc)
+
+  -- the value of a field of a `Value`
+  value_field_faulty : (t n : ℕ) (v : Val) (f : FieldShape) → field_of n (fields_of shape t) ≡ Some f → IsOfValue shape n f → IsSoundAt shape (Some f) v
+      → FaultsOf (parts_of shape v (one (kind_at shape t n)))
+      → FaultsOf (held_parts shape (type_at shape t n) (form_of shape (type_at shape t n)) (Some v))
+  value_field_faulty t n (content.message c) f there of s h =
+      let is : kind_at shape t n ≡ kind.Message s.1.0 = ap kind_in there ∙ s.1.1 in
+      let type : type_at shape t n ≡ s.1.0 = ap type_of is in
+      let holds : holds_several (form_of shape (type_at shape t n)) ≡ true =
+      ap (λ x. holds_several (form_of shape x)) type ∙ of.holds s.1.0 s.1.1 in
+      held_faulty (type_at shape t n) (form_of shape (type_at shape t n)) c refl holds h
+  value_field_faulty t n (content.number z) f there of s h = leaf_held t n (content.number z) refl h
+  value_field_faulty t n (content.truth z) f there of s h = leaf_held t n (content.truth z) refl h
+  value_field_faulty t n (content.text z) f there of s h = leaf_held t n (content.text z) refl h
+  value_field_faulty t n (content.octets z) f there of s h = leaf_held t n (content.octets z) refl h
+  value_field_faulty t n (content.many vs) f there of s h = absurd (let bad : Singular ≡ Repeated = sym of.single ∙ s.0 in cc)
+  value_field_faulty t n (content.keyed ps) f there of s h = absurd (let bad : Singular ≡ Map s.1.0 = sym of.single ∙ s.1.1 in cc)
+
+  value_message_faulty : (t : ℕ) (fs : Fields) (kept : List Rec) → form_of shape t ≡ forms.Value → AreSound shape (fields_of shape t) fs → AreFaulty fs
+      → value_tree shape t fs kept (fields_tell shape o fs) ≡ None → FaultsOf (value_parts shape t fs kept)
+  value_message_faulty t fs kept form s each h = at (keeps_float (declared_of shape t) kept) h
+    where
+      tree : Fields → Option Data
+      tree fs = if first_field fs == 1 then Some null else field_tree shape t (first_field fs) (Some null) (fields_tell shape o fs)
+
+      parts : Fields → Taken
+      parts fs = held_parts shape (type_at shape t (first_field fs)) (form_of shape (type_at shape t (first_field fs))) (get (first_field fs) fs)
+
+      told : (fs : Fields) → AreSound shape (fields_of shape t) fs → AreFaulty fs → tree fs ≡ None → FaultsOf (parts fs)
+      told content.no_fields s each h = absurd (cc)
+      told (content.field n v fs) s each h = by (n == 1) h
+        where
+          own : (f : FieldShape) × (field_of n (fields_of shape t) ≡ Some f) × IsSoundAt shape (Some f) v
+          own = field_at shape v (field_of n (fields_of shape t)) s.0
+
+          below : tells shape o v (one (kind_at shape t n)) ≡ None
+              → FaultsOf (held_parts shape (type_at shape t n) (form_of shape (type_at shape t n)) (Some v))
+          below q =
+              value_field_faulty t n v own.0 own.1 (of_value shape t form n own.0 own.1) own.2
+              (each n v own.0 (kind_at shape t n) (get_first n v fs) own.2 (sym (ap kind_in own.1)) q)
+
+          by : (x : Bool) → (if x then Some null else field_tree shape t n (Some null) (fields_tell shape o (content.field n v fs))) ≡ None
+              → FaultsOf (parts (content.field n v fs))
+          by true q = absurd (cc)
+          by false q =
+              subst (λ x. FaultsOf (held_parts shape (type_at shape t n) (form_of shape (type_at shape t n)) x)) (sym (get_first n v fs))
+              (below (sym (told_at shape o n (kind_at shape t n) (Some null) (content.field n v fs)
+              ∙ ap (tree_or shape o (kind_at shape t n) (Some null)) (get_first n v fs)) ∙ q))
+
+      at : (b : Bool) → (if b then None else tree fs) ≡ None → FaultsOf (if b then Err fault.Float else parts fs)
+      at true q = inl (fault.Float, refl)
+      at false q = told fs s each q
+
+  form_faulty : (t : ℕ) (form : Form) → form_of shape t ≡ form → (fs : Fields) (kept : List Rec) → AreSound shape (fields_of shape t) fs → AreFaulty fs
+      → form_tree shape o t form fs kept (fields_tell shape o fs) ≡ None → FaultsOf (form_parts shape t form fs kept)
+  form_faulty t forms.Timestamp e fs kept s each h = text_faulty (timestamp_tree fs) h
+  form_faulty t forms.Duration e fs kept s each h = text_faulty (duration_tree fs) h
+  form_faulty t forms.FieldMask e fs kept s each h = text_faulty (mask_tree fs) h
+  form_faulty t forms.Wrapper e fs kept s each h = absurd (wrapper_there t e fs s h)
+  form_faulty t forms.Struct e fs kept s each h =
+      let has = struct_fields shape t e in
+      struct_faulty t has.fields.has.field _ fs has.fields.has.there (ap is_single has.fields.has.of_cardinality) s each h
+  form_faulty t forms.ListValue e fs kept s each h =
+      let has = list_fields shape t e in
+      struct_faulty t has.values.has.field _ fs has.values.has.there (ap is_single has.values.has.of_cardinality) s each h
+  form_faulty t forms.Value e fs kept s each h = value_message_faulty t fs kept e s each h
+  form_faulty t forms.FloatWrapper e fs kept s each h = inl (fault.Float, refl)
+  form_faulty t forms.Misshapen e fs kept s each h = inl (fault.Shape, refl)
+  form_faulty t forms.Fields e fs kept s each h = inl (fault.NotBuilt, refl)
+  form_faulty t forms.Any e fs kept s each h = inl (fault.NotBuilt, refl)
+  form_faulty t forms.Empty e fs kept s each h = inl (fault.NotBuilt, refl)
+
+  -- ---- objects
+
   message_fault : (t : ℕ) (fs : Fields) (kept : List Rec) → AreSound shape (by_number (declared_of shape t)) fs
       → ((ys : List Line) → list_any is_bare ys ≡ false → list_any is_bare (value_lines shape o (declared_of shape t) fs ++ ys) ≡ true
       → FieldFault shape o (declared_of shape t) fs)
-      → content_tree shape o (content.content fs kept) t ≡ None → FaultsOf (content_parts shape t (content.content fs kept))
-  message_fault t fs kept sound each h = known (is_well_known (message_name shape t)) h
+      → AreFaulty fs → content_tree shape o (content.content fs kept) t ≡ None → FaultsOf (content_parts shape t (content.content fs kept))
+  message_fault t fs kept sound each own h = known (is_object_type shape t) h
     where
       gs : List FieldShape
       gs = declared_of shape t
@@ -239,10 +362,12 @@ module _ (shape : Shape) (o : SerializeOptions) where
           not_lines (not_made (lines shape o (declared_of shape t) fs (fields_tell shape o fs))
           (map_none object (members_of_lines (lines shape o (declared_of shape t) fs (fields_tell shape o fs))) q))
 
-      known : (b : Bool) → (if b then None else object_tree shape o (declared_of shape t) fs kept (fields_tell shape o fs)) ≡ None
-          → FaultsOf (if b then Err fault.NotBuilt else Ok (members (declared_of shape t) fs kept))
-      known true q = inl (fault.NotBuilt, refl)
-      known false q = kept_case (keeps_float (declared_of shape t) kept) refl q
+      known : (b : Bool)
+          → (if b then object_tree shape o (declared_of shape t) fs kept (fields_tell shape o fs)
+          else own_tree shape o t fs kept (fields_tell shape o fs)) ≡ None
+          → FaultsOf (if b then Ok (members (declared_of shape t) fs kept) else form_parts shape t (form_of shape t) fs kept)
+      known true q = kept_case (keeps_float (declared_of shape t) kept) refl q
+      known false q = form_faulty t (form_of shape t) refl fs kept sound own q
 
   -- ---- all values
 
@@ -274,47 +399,65 @@ module _ (shape : Shape) (o : SerializeOptions) where
       absurd (cc)
 
   mutual
-    value_faulty : (v : Val) (a : Asked) → IsAsked a v → tells shape o v a ≡ None → FaultOf shape o v a
-    value_faulty (content.number z) a s h = absurd (number_there (kind_asked a) z (number_asked a z s) h)
-    value_faulty (content.truth b) a s h = absurd (truth_there (kind_asked a) b (truth_asked a b s) h)
-    value_faulty (content.text x) a s h = absurd (text_there (kind_asked a) x (text_asked a x s) h)
-    value_faulty (content.octets x) a s h = absurd (bytes_there (kind_asked a) x (octets_asked a x s) h)
-    value_faulty (content.message c) a s h = placed (content.message c) a (content_faulty c (type_of (kind_asked a)) (message_asked a c s) h)
-    value_faulty (content.many vs) a s h =
-        placed (content.many vs) a (elements_found (kind_asked a) vs (vals_faulty vs (kind_asked a) (many_asked a vs s)
-        (map_none (λ ds. array (items_of ds)) (all_read (λ (t : Tells). t (one (kind_asked a))) (vals_tell shape o vs)) h)))
-    value_faulty (content.keyed ps) a s h =
-        let keys = keyed_asked a ps s in
-        placed (content.keyed ps) a (entries_found (kind_asked a) ps (pairs_faulty ps keys.0 (kind_asked a) keys.1
+    -- what stands below a value without a tree
+    below_faulty : (v : Val) (a : Asked) → IsAsked shape a v → tells shape o v a ≡ None → FaultsOf (parts_of shape v a)
+    below_faulty (content.number z) a s h = absurd (number_there (kind_asked a) z (number_asked shape a z s) h)
+    below_faulty (content.truth b) a s h = absurd (truth_there (kind_asked a) b (truth_asked shape a b s) h)
+    below_faulty (content.text x) a s h = absurd (text_there (kind_asked a) x (text_asked shape a x s) h)
+    below_faulty (content.octets x) a s h = absurd (bytes_there (kind_asked a) x (octets_asked shape a x s) h)
+    below_faulty (content.message c) a s h = content_faulty c (type_of (kind_asked a)) (message_asked shape a c s) h
+    below_faulty (content.many vs) a s h =
+        elements_found (kind_asked a) vs (vals_faulty vs (kind_asked a) (many_asked shape a vs s)
+        (map_none (λ ds. array (items_of ds)) (all_read (λ (t : Tells). t (one (kind_asked a))) (vals_tell shape o vs)) h))
+    below_faulty (content.keyed ps) a s h =
+        let keys = keyed_asked shape a ps s in
+        entries_found (kind_asked a) ps (pairs_faulty ps keys.0 (kind_asked a) keys.1
         (entry_bare keys.0 (kind_asked a) ps keys.1 (not_made (map_list (entry_line (kind_asked a)) (pairs_tell shape o ps))
-        (map_none object (members_of_lines (map_list (entry_line (kind_asked a)) (pairs_tell shape o ps))) h)))))
+        (map_none object (members_of_lines (map_list (entry_line (kind_asked a)) (pairs_tell shape o ps))) h))))
 
     content_faulty : (c : Content) (t : ℕ) → IsSound shape t c → content_tree shape o c t ≡ None → FaultsOf (content_parts shape t c)
     content_faulty (content.content fs kept) t s h =
-        message_fault t fs kept s.1 (λ ys none bare. fields_faulty fs (declared_of shape t) s.1 ys none bare) h
+        message_fault t fs kept s.1 (λ ys none bare. fields_faulty fs (declared_of shape t) s.1 ys none bare) (each_faulty fs) h
+
+    each_faulty : (fs : Fields) → AreFaulty fs
+    each_faulty content.no_fields n v f k e s is h = absurd (cc)
+    each_faulty (content.field m w fs) n v f k e s is h = at (n == m) e (each_faulty fs n v f k) (below_faulty w (field f))
+      where
+        at : (b : Bool) → (if b then Some w else get n fs) ≡ Some v
+            → (get n fs ≡ Some v → IsSoundAt shape (Some f) v → f.kind ≡ k → tells shape o v (one k) ≡ None → FaultsOf (parts_of shape v (one k)))
+            → (IsSoundAt shape (Some f) w → tells shape o w (field f) ≡ None → FaultsOf (parts_of shape w (field f)))
+            → FaultsOf (parts_of shape v (one k))
+        at false q later own = later q s is h
+        at true q later own =
+            let same : v ≡ w = sym (of_some w v q) in
+            let sound : IsSoundAt shape (Some f) w = subst (λ x. IsSoundAt shape (Some f) x) same s in
+            let untold : tells shape o w (field f) ≡ None =
+            tells_alike shape o w (field f) (one k) is ∙ ap (λ x. tells shape o x (one k)) (sym same) ∙ h in
+            subst FaultsOf (ap (λ x. parts_of shape x (field f)) (sym same) ∙ parts_alike shape v (field f) (one k) is) (own sound untold)
 
     fields_faulty : (fs : Fields) (gs : List FieldShape) → AreSound shape (by_number gs) fs → (ys : List Line) → list_any is_bare ys ≡ false
         → list_any is_bare (value_lines shape o gs fs ++ ys) ≡ true → FieldFault shape o gs fs
     fields_faulty content.no_fields gs s ys none h = absurd (let bad : true ≡ false = sym h ∙ none in cc)
     fields_faulty (content.field n v fs) gs s ys none h =
-        let own = own_field n v gs s.0 in
-        field_step shape o gs n v fs ys own.0 own.1 (value_faulty v (field own.0) own.2) (λ q. fields_faulty fs gs s.1 ys none q) h
+        let own = own_field shape n v gs s.0 in
+        field_step shape o gs n v fs ys own.0 own.1 (λ q. placed v (field own.0) (below_faulty v (field own.0) own.2 q))
+        (λ q. fields_faulty fs gs s.1 ys none q) h
 
     vals_faulty : (vs : Vals) (k : Kind) → AreElements shape k vs → all_read (λ (t : Tells). t (one k)) (vals_tell shape o vs) ≡ None → ElementFault shape o k vs
     vals_faulty content.no_vals k s h = absurd (cc)
-    vals_faulty (content.val v vs) k s h = element_step shape o k v vs (value_faulty v (one k) s.0) (λ q. vals_faulty vs k s.1 q) h
+    vals_faulty (content.val v vs) k s h = element_step shape o k v vs (λ q. placed v (one k) (below_faulty v (one k) s.0 q)) (λ q. vals_faulty vs k s.1 q) h
 
     pairs_faulty : (ps : Pairs) (kk k : Kind) → ArePairs shape kk k ps → list_any is_bare (map_list (entry_line k) (pairs_tell shape o ps)) ≡ true
         → EntryFault shape o k ps
     pairs_faulty content.no_pairs kk k s h = absurd (cc)
     pairs_faulty (content.pair l v ps) kk k s h =
-        entry_step shape o kk k l v ps s (value_faulty v (one k) s.1) (λ q. pairs_faulty ps kk k s.3 q) h
+        entry_step shape o kk k l v ps s (λ q. placed v (one k) (below_faulty v (one k) s.1 q)) (λ q. pairs_faulty ps kk k s.3 q) h
 
 pub canonical_without_fault : CanonicalWithoutFault
 canonical_without_fault shape t c o proper sound = (clean, found)
   where
     clean : (d : Data) × (content_tree shape o c t ≡ Some d) → (place : List Step) (kind : JsonKind) → ¬ WriteFault shape t c o place kind
-    clean it place kind h = untold shape o place (content.message c) (root t) kind h it.0 it.1
+    clean it place kind h = untold shape o place (content.message c) (root t) kind (t, refl, sound) h it.0 it.1
 
     found : ((place : List Step) (kind : JsonKind) → ¬ WriteFault shape t c o place kind) → (d : Data) × (content_tree shape o c t ≡ Some d)
     found f = at (content_tree shape o c t) refl

@@ -1,9 +1,13 @@
 -- Where unknown fields are allowed, a tree says what it says where they are denied.
-use Rattle.std.proofs.Common.{◌≡◌, ℕ, List, [], ◌∷◌, Bool, true, false, ◌==◌, if◌then◌else◌, Option, Some, None, option_map, option_and_then, refl, codes}
+use Rattle.std.proofs.Common.{◌≡◌, ℕ, List, [], ◌∷◌, Bool, true, false, ◌==◌, ◌&&◌, if◌then◌else◌, Option, Some, None, option_map, option_and_then}
+use Rattle.std.proofs.Common.{refl, codes, ap, Result, Ok, Err}
 use Rattle.std.specs.Str.{bytes_eq}
 use Rattle.serde_json.specs.Data.{Data, null, boolean, number, string, array, object, Items, no_items, item, Members, no_members, member}
-use Rattle.pbx_wkt.specs.Names.{is_well_known}
-use Rattle.pbx_meaning.specs.Content.{Fields}
+use Rattle.pbx_wkt.specs.Shapes.{form_of}
+use Rattle.pbx_wkt.specs.declared.form.Form.{Form}
+use Rattle.pbx_wkt.specs.declared.form.Form.TheVariants as forms
+use Rattle.pbx_meaning.specs.Content.{Fields, Content, Val}
+use Rattle.pbx_meaning.specs.Meaning.{shown}
 use Rattle.pbx_meaning.specs.Shape.{declared_of, is_float, enum_values_of}
 use Rattle.pbx_meaning.specs.declared.shape.Kind.{Kind}
 use Rattle.pbx_meaning.specs.declared.shape.Kind.TheVariants as kind
@@ -13,12 +17,13 @@ use Rattle.pbx_meaning.specs.declared.shape.Shape.{Shape}
 use Rattle.pbx_json_meaning.specs.Names.{field_named}
 use Rattle.pbx_json_meaning.specs.Scalars.{Family, integers, truths, texts, bytes_texts, floats, messages, enums, family}
 use Rattle.pbx_json_meaning.specs.Scalars.{scalar_of, scalar_read, is_null_value, Judged, key_read, value_named, number_named, unknown_name}
-use Rattle.pbx_json_meaning.specs.Scalars.{enum_read, null_value_read}
+use Rattle.pbx_json_meaning.specs.Scalars.{enum_read, null_value_read, if_ok}
 use Rattle.pbx_json_meaning.specs.Asked.{Asked, field, one, root, Target, nothing, single, list, map, target}
-use Rattle.pbx_json_meaning.specs.Types.{message_name}
+use Rattle.pbx_json_meaning.specs.declared.kind.JsonKind.{JsonKind}
+use Rattle.pbx_json_meaning.specs.Forms.{is_object_form, skips, form_read, own_read, kind_at, holding, Own, whole, a_list, a_map, at_once}
 use Rattle.pbx_json_meaning.specs.Laws.{ReadWhenAllowed}
 use Rattle.pbx_json_meaning.specs.Stands.{Reading, Entry, ok_of, is_known_key, all_known, told_by, told, only, put, with_reading, gathered, if_oneofs}
-use Rattle.pbx_json_meaning.specs.Stands.{message_of, all_read, elements_read, entry_read, if_differ, entries_read, message_in, message_as, object_of}
+use Rattle.pbx_json_meaning.specs.Stands.{message_of, all_read, elements_read, entry_read, if_differ, entries_read, message_in, message_as, object_of, own_as}
 use Rattle.pbx_json_meaning.specs.Stands.{value_as, list_as, map_as, read_as, read, said, items_said, entries_said}
 
 -- ---- options
@@ -162,6 +167,46 @@ module _ (shape : Shape) where
       at true k = then_goes (if_oneofs fs) (if_oneofs fs) denied allowed fields_go (λ w u e. e) v k
       at false k = absurd (cc)
 
+  -- the keys are the same
+  denied_alike : (fs : List FieldShape) (ms : Members)
+      → all_known false fs (entries_said shape true ms) ≡ all_known false fs (entries_said shape false ms)
+  denied_alike fs no_members = refl
+  denied_alike fs (member k d ms) = ap (λ b. is_known_key false (field_named k fs) && b) (denied_alike fs ms)
+
+  denied_goes : (fs : List FieldShape) (ms : Members) → MembersGo ms
+      → Goes (message_of false fs (entries_said shape false ms)) (message_of false fs (entries_said shape true ms))
+  denied_goes fs ms g v h = rw (denied_alike fs ms) (at (all_known false fs (entries_said shape false ms)) h)
+    where
+      denied : Option Fields
+      denied = gathered (λ n. only (told fs n (entries_said shape false ms))) fs
+
+      allowed : Option Fields
+      allowed = gathered (λ n. only (told fs n (entries_said shape true ms))) fs
+
+      fields_go : Goes denied allowed
+      fields_go = gathered_goes _ _ (λ n. only_goes _ _ (told_goes fs n ms g)) fs
+
+      at : (b : Bool) → (if b then option_and_then (if_oneofs fs) denied else None) ≡ Some v
+          → (if b then option_and_then (if_oneofs fs) allowed else None) ≡ Some v
+      at true k = then_goes (if_oneofs fs) (if_oneofs fs) denied allowed fields_go (λ w u e. e) v k
+      at false k = absurd (cc)
+
+  -- whatever keys are skipped
+  form_message_goes : (form : Form) (fs : List FieldShape) (ms : Members) → MembersGo ms
+      → Goes (message_of (skips form false) fs (entries_said shape false ms)) (message_of (skips form true) fs (entries_said shape true ms))
+  form_message_goes forms.Empty fs ms g = denied_goes fs ms g
+  form_message_goes forms.Fields fs ms g = message_goes fs ms g
+  form_message_goes forms.Any fs ms g = message_goes fs ms g
+  form_message_goes forms.Timestamp fs ms g = message_goes fs ms g
+  form_message_goes forms.Duration fs ms g = message_goes fs ms g
+  form_message_goes forms.Struct fs ms g = message_goes fs ms g
+  form_message_goes forms.ListValue fs ms g = message_goes fs ms g
+  form_message_goes forms.Value fs ms g = message_goes fs ms g
+  form_message_goes forms.FieldMask fs ms g = message_goes fs ms g
+  form_message_goes forms.Wrapper fs ms g = message_goes fs ms g
+  form_message_goes forms.FloatWrapper fs ms g = message_goes fs ms g
+  form_message_goes forms.Misshapen fs ms g = message_goes fs ms g
+
   -- ---- lists and maps
 
   items_read_go : (k : Kind) (ds : Items) → ItemsGo ds
@@ -187,44 +232,6 @@ module _ (shape : Shape) where
   entries_go kk vk ms g = then_goes if_differ if_differ _ _ (members_read_go kk vk ms g) (λ w u e. e)
 
   -- ---- all trees
-
-  message_as_goes : (t : ℕ) (d : Data) (ms : Members) → MembersGo ms
-      → Goes (message_as shape false t d (entries_said shape false ms)) (message_as shape true t d (entries_said shape true ms))
-  message_as_goes t d ms g = at (is_well_known (message_name shape t))
-    where
-      object_goes : (e : Data) → Goes (object_of (message_of false (declared_of shape t)) e (entries_said shape false ms))
-          (object_of (message_of true (declared_of shape t)) e (entries_said shape true ms))
-      object_goes (object all) v h = message_goes (declared_of shape t) ms g v h
-      object_goes null v h = absurd (cc)
-      object_goes (boolean b) v h = absurd (cc)
-      object_goes (number n) v h = absurd (cc)
-      object_goes (string s) v h = absurd (cc)
-      object_goes (array ds) v h = absurd (cc)
-
-      at : (b : Bool) → Goes (if b then None else object_of (message_of false (declared_of shape t)) d (entries_said shape false ms))
-          (if b then None else object_of (message_of true (declared_of shape t)) d (entries_said shape true ms))
-      at true v h = absurd (cc)
-      at false v h = object_goes d v h
-
-  value_goes : (k : Kind) (d : Data) (ms : Members) → MembersGo ms
-      → Goes (value_as shape false k d (entries_said shape false ms)) (value_as shape true k d (entries_said shape true ms))
-  value_goes (kind.Message t) d ms g = map_goes _ _ _ (message_as_goes t d ms g)
-  value_goes kind.Double d ms g = scalar_goes shape kind.Double d
-  value_goes kind.Float d ms g = scalar_goes shape kind.Float d
-  value_goes kind.Int32 d ms g = scalar_goes shape kind.Int32 d
-  value_goes kind.Int64 d ms g = scalar_goes shape kind.Int64 d
-  value_goes kind.Uint32 d ms g = scalar_goes shape kind.Uint32 d
-  value_goes kind.Uint64 d ms g = scalar_goes shape kind.Uint64 d
-  value_goes kind.Sint32 d ms g = scalar_goes shape kind.Sint32 d
-  value_goes kind.Sint64 d ms g = scalar_goes shape kind.Sint64 d
-  value_goes kind.Fixed32 d ms g = scalar_goes shape kind.Fixed32 d
-  value_goes kind.Fixed64 d ms g = scalar_goes shape kind.Fixed64 d
-  value_goes kind.Sfixed32 d ms g = scalar_goes shape kind.Sfixed32 d
-  value_goes kind.Sfixed64 d ms g = scalar_goes shape kind.Sfixed64 d
-  value_goes kind.Bool d ms g = scalar_goes shape kind.Bool d
-  value_goes kind.String d ms g = scalar_goes shape kind.String d
-  value_goes kind.Bytes d ms g = scalar_goes shape kind.Bytes d
-  value_goes (kind.Enum e) d ms g = scalar_goes shape (kind.Enum e) d
 
   list_goes : (k : Kind) (d : Data) (ds : Items) → ItemsGo ds → Goes (list_as k d (items_said shape false ds)) (list_as k d (items_said shape true ds))
   list_goes k (array no_items) ds g v h = h
@@ -254,11 +261,90 @@ module _ (shape : Shape) where
   map_as_goes kk vk (string s) ms g v h = h
   map_as_goes kk vk (array ds) ms g v h = h
 
+  -- what a form of its own reads
+  abbrev OwnGoes : Result Own JsonKind → Result Own JsonKind → Type 0
+  OwnGoes (Err k) s = Unit {0}
+  OwnGoes (Ok x) s = s ≡ Ok x
+
+  wrapper_goes : (t : ℕ) (r s : Judged) → Goes (ok_of r) (ok_of s)
+      → OwnGoes (at_once (if_ok r (λ o. Ok (holding shape t 1 o)))) (at_once (if_ok s (λ o. Ok (holding shape t 1 o))))
+  wrapper_goes t (Err e) s g = tt
+  wrapper_goes t (Ok x) (Err e) g = absurd (let no : None ≡ Some x = g x refl in cc)
+  wrapper_goes t (Ok x) (Ok y) g = let same : Some y ≡ Some x = g x refl in let is : y ≡ x = cc in ap (λ o. Ok (whole (holding shape t 1 o))) is
+
+  alike_goes : (r : Result Own JsonKind) → OwnGoes r r
+  alike_goes (Err k) = tt
+  alike_goes (Ok x) = refl
+
+  own_goes : (form : Form) (t : ℕ) (d : Data) → OwnGoes (form_read shape false t form d) (form_read shape true t form d)
+  own_goes forms.Wrapper t d = wrapper_goes t _ _ (scalar_goes shape (kind_at shape t 1) d)
+  own_goes forms.Fields t d = alike_goes (form_read shape false t forms.Fields d)
+  own_goes forms.Any t d = alike_goes (form_read shape false t forms.Any d)
+  own_goes forms.Timestamp t d = alike_goes (form_read shape false t forms.Timestamp d)
+  own_goes forms.Duration t d = alike_goes (form_read shape false t forms.Duration d)
+  own_goes forms.Struct t d = alike_goes (form_read shape false t forms.Struct d)
+  own_goes forms.ListValue t d = alike_goes (form_read shape false t forms.ListValue d)
+  own_goes forms.Value t d = alike_goes (form_read shape false t forms.Value d)
+  own_goes forms.FieldMask t d = alike_goes (form_read shape false t forms.FieldMask d)
+  own_goes forms.Empty t d = alike_goes (form_read shape false t forms.Empty d)
+  own_goes forms.FloatWrapper t d = alike_goes (form_read shape false t forms.FloatWrapper d)
+  own_goes forms.Misshapen t d = alike_goes (form_read shape false t forms.Misshapen d)
+
+  -- what is read as a message of a form of its own
+  own_as_goes : (r s : Result Own JsonKind) (d : Data) (ds : Items) (ms : Members) → ItemsGo ds → MembersGo ms → OwnGoes r s
+      → Goes (own_as shape r d (items_said shape false ds) (entries_said shape false ms)) (own_as shape s d (items_said shape true ds) (entries_said shape true ms))
+  own_as_goes (Err k) s d ds ms g m h v e = absurd (cc)
+  own_as_goes (Ok (whole c)) s d ds ms g m h v e = rw h e
+  own_as_goes (Ok (a_list k wrap)) s d ds ms g m h v e = rw h (map_goes wrap _ _ (map_goes (shown shape false k) _ _ (list_goes k d ds g)) v e)
+  own_as_goes (Ok (a_map k wrap)) s d ds ms g m h v e = rw h (map_goes wrap _ _ (map_goes (shown shape false k) _ _ (map_as_goes kind.String k d ms m)) v e)
+
+  message_as_goes : (t : ℕ) (d : Data) (ds : Items) (ms : Members) → ItemsGo ds → MembersGo ms
+      → Goes (message_as shape false t d (items_said shape false ds) (entries_said shape false ms))
+      (message_as shape true t d (items_said shape true ds) (entries_said shape true ms))
+  message_as_goes t d ds ms f g = at (is_object_form (form_of shape t))
+    where
+      object_goes : (e : Data) → Goes (object_of (message_of (skips (form_of shape t) false) (declared_of shape t)) e (entries_said shape false ms))
+          (object_of (message_of (skips (form_of shape t) true) (declared_of shape t)) e (entries_said shape true ms))
+      object_goes (object all) v h = form_message_goes (form_of shape t) (declared_of shape t) ms g v h
+      object_goes null v h = absurd (cc)
+      object_goes (boolean b) v h = absurd (cc)
+      object_goes (number n) v h = absurd (cc)
+      object_goes (string s) v h = absurd (cc)
+      object_goes (array ds) v h = absurd (cc)
+
+      at : (b : Bool) → Goes (if b then object_of (message_of (skips (form_of shape t) false) (declared_of shape t)) d (entries_said shape false ms)
+          else own_as shape (own_read shape false t d) d (items_said shape false ds) (entries_said shape false ms))
+          (if b then object_of (message_of (skips (form_of shape t) true) (declared_of shape t)) d (entries_said shape true ms)
+          else own_as shape (own_read shape true t d) d (items_said shape true ds) (entries_said shape true ms))
+      at true v h = object_goes d v h
+      at false v h = own_as_goes _ _ d ds ms f g (own_goes (form_of shape t) t d) v h
+
+  value_goes : (k : Kind) (d : Data) (ds : Items) (ms : Members) → ItemsGo ds → MembersGo ms
+      → Goes (value_as shape false k d (items_said shape false ds) (entries_said shape false ms))
+      (value_as shape true k d (items_said shape true ds) (entries_said shape true ms))
+  value_goes (kind.Message t) d ds ms f g = map_goes _ _ _ (message_as_goes t d ds ms f g)
+  value_goes kind.Double d ds ms f g = scalar_goes shape kind.Double d
+  value_goes kind.Float d ds ms f g = scalar_goes shape kind.Float d
+  value_goes kind.Int32 d ds ms f g = scalar_goes shape kind.Int32 d
+  value_goes kind.Int64 d ds ms f g = scalar_goes shape kind.Int64 d
+  value_goes kind.Uint32 d ds ms f g = scalar_goes shape kind.Uint32 d
+  value_goes kind.Uint64 d ds ms f g = scalar_goes shape kind.Uint64 d
+  value_goes kind.Sint32 d ds ms f g = scalar_goes shape kind.Sint32 d
+  value_goes kind.Sint64 d ds ms f g = scalar_goes shape kind.Sint64 d
+  value_goes kind.Fixed32 d ds ms f g = scalar_goes shape kind.Fixed32 d
+  value_goes kind.Fixed64 d ds ms f g = scalar_goes shape kind.Fixed64 d
+  value_goes kind.Sfixed32 d ds ms f g = scalar_goes shape kind.Sfixed32 d
+  value_goes kind.Sfixed64 d ds ms f g = scalar_goes shape kind.Sfixed64 d
+  value_goes kind.Bool d ds ms f g = scalar_goes shape kind.Bool d
+  value_goes kind.String d ds ms f g = scalar_goes shape kind.String d
+  value_goes kind.Bytes d ds ms f g = scalar_goes shape kind.Bytes d
+  value_goes (kind.Enum e) d ds ms f g = scalar_goes shape (kind.Enum e) d
+
   read_as_goes : (at : Target) (d : Data) (ds : Items) (ms : Members) → ItemsGo ds → MembersGo ms
       → Goes (read_as shape false at d (items_said shape false ds) (entries_said shape false ms))
       (read_as shape true at d (items_said shape true ds) (entries_said shape true ms))
   read_as_goes nothing d ds ms g k v h = h
-  read_as_goes (single kd) d ds ms g k v h = value_goes kd d ms k v h
+  read_as_goes (single kd) d ds ms g k v h = value_goes kd d ds ms g k v h
   read_as_goes (list kd) d ds ms g k v h = list_goes kd d ds g v h
   read_as_goes (map kk vk) d ds ms g k v h = map_as_goes kk vk d ms k v h
 

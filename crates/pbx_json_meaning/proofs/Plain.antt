@@ -1,7 +1,7 @@
 -- Trees that are written have ordered keys and no number with a fraction or an exponent.
-use Rattle.std.proofs.Common.{◌≡◌, ℕ, ℤ, pos, negsuc, List, [], ◌∷◌, ◌++◌, map as map_list, Bool, true, false, ◌||◌, ◌&&◌, if◌then◌else◌, Option}
+use Rattle.std.proofs.Common.{◌≡◌, ℕ, ℤ, pos, negsuc, List, [], ◌∷◌, ◌++◌, map as map_list, Bool, true, false, ◌||◌, ◌&&◌, ◌==◌, if◌then◌else◌, Option}
 use Rattle.std.proofs.Common.{Some, None, option_map}
-use Rattle.std.proofs.Common.{option_and_then, refl, ap, subst, ◌∙◌}
+use Rattle.std.proofs.Common.{option_and_then, refl, ap, subst, ◌∙◌, Result, Ok, Err}
 use Rattle.std.specs.Cmp.{IsTotalOrder}
 use Rattle.std.specs.Fmt.{signed_decimal}
 use Rattle.std.specs.Cmp.Lexicographic.{slice_cmp}
@@ -9,7 +9,7 @@ use Rattle.std.specs.Ordering.{match_ordering, nat_cmp, is_lt, ordering_reverse}
 use Rattle.std.specs.declared.cmp.Ordering.{Ordering}
 use Rattle.std.specs.declared.cmp.Ordering.TheVariants.{Less, Equal, Greater}
 use Rattle.std.proofs.lemmas.Cmp.{nat_list_cmp_total}
-use Rattle.serde_json.specs.Data.{Data, null, number, string, array, object, Items, Members, no_members, member, put}
+use Rattle.serde_json.specs.Data.{Data, null, number, string, array, object, Items, no_items, Members, no_members, member, put}
 use Rattle.serde_json.specs.Find.{of_integer}
 use Rattle.serde_json.specs.Written.{has_float, items_have_float, members_have_float}
 use Rattle.pbx_wire.specs.declared.rec.Rec.{Rec}
@@ -27,11 +27,17 @@ use Rattle.pbx_meaning.specs.declared.shape.Shape.{Shape}
 use Rattle.pbx_json_meaning.specs.Asked.{Asked, field, one}
 use Rattle.pbx_json_meaning.specs.Laws.{CanonicalIsPlain}
 use Rattle.pbx_json_meaning.specs.Scalars.{Family, integers, truths, texts, bytes_texts, floats, messages, enums, family, is_null_value}
-use Rattle.pbx_json_meaning.specs.Stands.{all_read}
+use Rattle.pbx_json_meaning.specs.Stands.{all_read, ok_of}
+use Rattle.pbx_json_meaning.specs.Forms.{as_text}
+use Rattle.pbx_text.specs.declared.fault.TextFault.{TextFault}
+use Rattle.pbx_wkt.specs.Shapes.{form_of}
+use Rattle.pbx_wkt.specs.declared.form.Form.{Form}
+use Rattle.pbx_wkt.specs.declared.form.Form.TheVariants as forms
+use Rattle.pbx_json_meaning.specs.declared.kind.JsonKind.{JsonKind}
 use Rattle.pbx_json_meaning.specs.Trees.{AreAboveKey, AreAscendingKeys, IsOrdered, AreOrdered, AreOrderedMembers}
 use Rattle.pbx_json_meaning.specs.Canonical.{is_wide, integer_tree, value_of_number, name_or_number, enum_tree, number_by, truth_by, text_by, bytes_by}
 use Rattle.pbx_json_meaning.specs.Canonical.{Line, has_key, with_line, members_of_lines, Tells, Told, default_by, default_tree}
-use Rattle.pbx_json_meaning.specs.Canonical.{default_line, told_line, message_tree, kind_asked, items_of, array_tree, entry_line}
+use Rattle.pbx_json_meaning.specs.Canonical.{default_line, told_line, message_tree, scalar_tree, form_tree, told_tree, first_field, kind_asked, items_of, array_tree, entry_line}
 use Rattle.pbx_json_meaning.specs.Canonical.{tells, content_tree, fields_tell, vals_tell, pairs_tell}
 use Rattle.pbx_json_meaning.specs.declared.options.SerializeOptions.{SerializeOptions}
 
@@ -251,9 +257,61 @@ module _ (shape : Shape) (o : SerializeOptions) where
   if_some_plain true r p d h = absurd (cc)
   if_some_plain false r p d h = p d h
 
+  either_plain : (b : Bool) (r s : Option Data) → IfPlain r → IfPlain s → IfPlain (if b then r else s)
+  either_plain true r s p q d h = p d h
+  either_plain false r s p q d h = q d h
+
+  -- ---- well-known types
+
+  as_text_plain : (k : JsonKind) (r : Result (List ℕ) TextFault) → IfPlain (ok_of (as_text k r))
+  as_text_plain k (Ok s) d h = some_plain _ (tt, refl) d h
+  as_text_plain k (Err e) d h = absurd (cc)
+
+  scalar_plain : (k : Kind) (v : Option Val) → IfPlain (scalar_tree shape o k v)
+  scalar_plain k None d h = default_by_plain k (zero_of shape k) d h
+  scalar_plain k (Some (content.number z)) d h = number_plain k z (family k) d h
+  scalar_plain k (Some (content.truth b)) d h = truth_plain (family k) b d h
+  scalar_plain k (Some (content.text s)) d h = text_plain (family k) s d h
+  scalar_plain k (Some (content.octets s)) d h = bytes_plain (family k) s d h
+  scalar_plain k (Some (content.message c)) d h = absurd (cc)
+  scalar_plain k (Some (content.many vs)) d h = absurd (cc)
+  scalar_plain k (Some (content.keyed ps)) d h = absurd (cc)
+
+  told_plain : (n : ℕ) (k : Kind) (r : Option Data) (ts : List Told) → IfPlain r → ToldPlain ts → IfPlain (told_tree n k r ts)
+  told_plain n k r [] p q = p
+  told_plain n k r (t ∷ ts) p q = either_plain (t.number == n) _ _ (q.0 (one k)) (told_plain n k r ts p q.1)
+
+  -- trees without anything inside
+  null_plain : IfPlain (Some null)
+  null_plain d h = some_plain _ (tt, refl) d h
+
+  no_array_plain : IfPlain (Some (array no_items))
+  no_array_plain d h = some_plain _ (tt, refl) d h
+
+  no_object_plain : IfPlain (Some (object no_members))
+  no_object_plain d h = some_plain _ ((tt, tt), refl) d h
+
+  form_plain : (t : ℕ) (form : Form) (fs : Fields) (kept : List Rec) (ts : List Told) → ToldPlain ts → IfPlain (form_tree shape o t form fs kept ts)
+  form_plain t forms.Timestamp fs kept ts p d h = as_text_plain _ _ d h
+  form_plain t forms.Duration fs kept ts p d h = as_text_plain _ _ d h
+  form_plain t forms.FieldMask fs kept ts p d h = as_text_plain _ _ d h
+  form_plain t forms.Wrapper fs kept ts p d h = scalar_plain _ _ d h
+  form_plain t forms.Struct fs kept ts p d h = told_plain 1 _ _ ts no_object_plain p d h
+  form_plain t forms.ListValue fs kept ts p d h = told_plain 1 _ _ ts no_array_plain p d h
+  form_plain t forms.Value fs kept ts p d h =
+      if_some_plain _ _ (either_plain (first_field fs == 1) _ _ null_plain (told_plain (first_field fs) _ _ ts null_plain p)) d h
+  form_plain t forms.Fields fs kept ts p d h = absurd (cc)
+  form_plain t forms.Any fs kept ts p d h = absurd (cc)
+  form_plain t forms.Empty fs kept ts p d h = absurd (cc)
+  form_plain t forms.FloatWrapper fs kept ts p d h = absurd (cc)
+  form_plain t forms.Misshapen fs kept ts p d h = absurd (cc)
+
+  -- ---- messages
+
   message_plain : (t : ℕ) (fs : Fields) (kept : List Rec) (ts : List Told) → ToldPlain ts → IfPlain (message_tree shape o t fs kept ts)
   message_plain t fs kept ts p =
-      if_some_plain _ _ (if_some_plain _ _ (object_plain _ (lines_append _ _ (told_lines_plain (declared_of shape t) ts p) (defaults_plain _))))
+      either_plain _ _ _ (if_some_plain _ _ (object_plain _ (lines_append _ _ (told_lines_plain (declared_of shape t) ts p) (defaults_plain _))))
+      (form_plain t (form_of shape t) fs kept ts p)
 
   items_plain : (k : Kind) (ts : List Tells) → AllTellPlain ts → (ds : List Data) → all_read (λ (t : Tells). t (one k)) ts ≡ Some ds → ArePlain (items_of ds)
   items_plain k [] p ds h = let same : [] ≡ ds = cc in subst (λ xs. ArePlain (items_of xs)) same (tt, refl)

@@ -16,17 +16,20 @@ use Rattle.pbx_meaning.specs.declared.shape.MessageShape.{MessageShape}
 use Rattle.pbx_meaning.specs.declared.shape.EnumShape.{EnumShape}
 use Rattle.pbx_meaning.specs.declared.shape.EnumValueShape.{EnumValueShape}
 use Rattle.pbx_meaning.specs.declared.shape.Shape.{Shape}
-use Rattle.pbx_wkt.specs.Names.{is_well_known}
+use Rattle.pbx_wkt.specs.Known.{known_of}
+use Rattle.pbx_wkt.specs.Shapes.{form_of, is_as_declared}
 use Rattle.pbx_text.specs.Base64.{base64_of}
+use Rattle.pbx_text.specs.Timestamp.{timestamp_of, timestamp_text}
+use Rattle.pbx_text.specs.Mask.{mask_of, mask_text}
 use Rattle.pbx_json_meaning.specs.Place.{place_cmp}
 use Rattle.pbx_json_meaning.specs.Options.{default_writing}
 use Rattle.pbx_json_meaning.specs.Stands.{content_for}
 use Rattle.pbx_json_meaning.specs.Faults.{JsonFault}
 use Rattle.pbx_json_meaning.specs.Canonical.{canonical}
 use Rattle.pbx_json_meaning.specs.WriteFaults.{WriteFault}
-use Rattle.pbx_json_meaning.specs.Clash.{name_fault}
+use Rattle.pbx_json_meaning.specs.Clash.{name_fault, first_clash}
 use Rattle.pbx_json_meaning.specs.declared.kind.JsonKind.TheVariants as fault
-use Rattle.pbx_json_meaning.specs.declared.names_fault.NameFault.TheVariants.{JsonNames}
+use Rattle.pbx_json_meaning.specs.declared.names_fault.NameFault.TheVariants.{JsonNames, WellKnownShape}
 use Rattle.pbx_json_meaning.specs.declared.place.Step.TheVariants.{Key, Index}
 
 -- ---- a pool
@@ -43,6 +46,7 @@ a_field n name json k c presence oneof = record {
   oneof = oneof;
   packed = false;
   default = None;
+  entry = None;
 }
 
 -- a singular proto3 field whose JSON name is its name
@@ -61,7 +65,7 @@ abbrev of_message : ℕ → List ℕ → ℕ → FieldShape
 of_message n name t = a_field n name name (kind.Message t) Singular true None
 
 abbrev a_message : List ℕ → List FieldShape → MessageShape
-a_message name fs = record { full_name = name; fields = fs; keeps_order = false }
+a_message name fs = record { full_name = name; fields = fs; keeps_order = false; proto3 = true }
 
 abbrev a_value : List ℕ → ℤ → EnumValueShape
 a_value name z = record { name = name; number = z }
@@ -72,7 +76,7 @@ an_enum name vs = record { full_name = name; values = vs }
 abbrev ext : FieldShape
 ext = record (a_field 10 (codes "p.e") (codes "[p.e]") kind.Int32 Singular true None) { is_extension = true }
 
--- by their places: M, N, P, O, T, the entry of T, p.X, two well-known types, U
+-- by their places: M, N, P, O, T, the entry of T, p.X, two of well-known names without their shapes, U, six well-known types
 abbrev pool : Shape
 pool = record {
   messages =
@@ -93,6 +97,12 @@ pool = record {
       ∷ a_message (codes "google.protobuf.Value") []
       ∷ a_message (codes "google.protobuf.Duration") []
       ∷ a_message (codes "U") (plain 1 (codes "u") kind.Uint32 ∷ plain 2 (codes "w") kind.Uint64 ∷ plain 3 (codes "t") kind.Bool ∷ [])
+      ∷ a_message (codes "google.protobuf.Timestamp") (plain 1 (codes "seconds") kind.Int64 ∷ plain 2 (codes "nanos") kind.Int32 ∷ [])
+      ∷ a_message (codes "google.protobuf.FieldMask") (several 1 (codes "paths") kind.String Repeated ∷ [])
+      ∷ a_message (codes "google.protobuf.Int64Value") (plain 1 (codes "value") kind.Int64 ∷ [])
+      ∷ a_message (codes "google.protobuf.FloatValue") (plain 1 (codes "value") kind.Float ∷ [])
+      ∷ a_message (codes "google.protobuf.Empty") []
+      ∷ a_message (codes "google.protobuf.Any") (a_field 1 (codes "type_url") (codes "typeUrl") kind.String Singular false None ∷ plain 2 (codes "value") kind.Bytes ∷ [])
       ∷ [];
   enums =
       an_enum (codes "E") (a_value (codes "A") (pos 0) ∷ a_value (codes "B") (pos 1) ∷ a_value (codes "C") (pos 1) ∷ [])
@@ -101,8 +111,13 @@ pool = record {
 }
 
 -- no key has two meanings
-row_names : name_fault true pool ≡ None
+row_names : first_clash true pool.messages ≡ None
 row_names = refl
+
+-- the first of a well-known name without its shape
+row_shapes : name_fault true pool ≡ Some (WellKnownShape (codes "google.protobuf.Value"))
+unfolding form_of known_of is_as_declared
+row_shapes = refl
 
 abbrev int : ℕ → Data
 int n = number (unsigned n)
@@ -122,86 +137,86 @@ nothing = fields_with content.no_fields
 -- ---- integers
 
 row_number : content_for pool 0 false (one_key (codes "foo") (int 150)) ≡ fields_with (content.field 1 (content.number (pos 150)) content.no_fields)
-unfolding is_well_known
+unfolding form_of known_of is_as_declared
 row_number = refl
 
 row_text : content_for pool 0 false (one_key (codes "foo") (string (codes "+5"))) ≡ fields_with (content.field 1 (content.number (pos 5)) content.no_fields)
-unfolding is_well_known
+unfolding form_of known_of is_as_declared
 row_text = refl
 
 row_zero : content_for pool 0 false (one_key (codes "foo") (int 0)) ≡ nothing
-unfolding is_well_known
+unfolding form_of known_of is_as_declared
 row_zero = refl
 
 row_null : content_for pool 0 false (one_key (codes "foo") null) ≡ nothing
-unfolding is_well_known
+unfolding form_of known_of is_as_declared
 row_null = refl
 
 row_empty : content_for pool 0 false (object no_members) ≡ nothing
-unfolding is_well_known
+unfolding form_of known_of is_as_declared
 row_empty = refl
 
 -- a fault of the tree at a key, and a fault of the key itself
 row_range : JsonFault pool 0 false (one_key (codes "foo") (int 2147483648)) (Key (codes "foo") ∷ []) fault.Range
-unfolding is_well_known
+unfolding form_of known_of is_as_declared
 row_range = inr refl
 
 row_range_none : content_for pool 0 false (one_key (codes "foo") (int 2147483648)) ≡ None
-unfolding is_well_known
+unfolding form_of known_of is_as_declared
 row_range_none = refl
 
 row_least : content_for pool 0 false (one_key (codes "foo") (number (negative (negsuc 2147483647))))
     ≡ fields_with (content.field 1 (content.number (negsuc 2147483647)) content.no_fields)
-unfolding is_well_known
+unfolding form_of known_of is_as_declared
 row_least = refl
 
 row_float : (x : Float) → JsonFault pool 0 false (one_key (codes "foo") (number (float x))) (Key (codes "foo") ∷ []) fault.Float
-unfolding is_well_known
+unfolding form_of known_of is_as_declared
 row_float x = inr refl
 
 row_not_decimal : JsonFault pool 0 false (one_key (codes "foo") (string (codes "1.0"))) (Key (codes "foo") ∷ []) fault.NotDecimal
-unfolding is_well_known
+unfolding form_of known_of is_as_declared
 row_not_decimal = inr refl
 
 row_wrong_kind : JsonFault pool 0 false (one_key (codes "foo") (array no_items)) (Key (codes "foo") ∷ []) fault.WrongKind
-unfolding is_well_known
+unfolding form_of known_of is_as_declared
 row_wrong_kind = inr refl
 
 row_unknown : JsonFault pool 0 false (one_key (codes "bar") (int 1)) (Key (codes "bar") ∷ []) fault.UnknownField
-unfolding is_well_known
+unfolding form_of known_of is_as_declared
 row_unknown = inl (refl, refl, (refl, refl))
 
 row_allowed : content_for pool 0 true (two_keys (codes "foo") (int 150) (codes "unknown") (boolean true))
     ≡ fields_with (content.field 1 (content.number (pos 150)) content.no_fields)
-unfolding is_well_known
+unfolding form_of known_of is_as_declared
 row_allowed = refl
 
 row_no_object : JsonFault pool 0 false null [] fault.WrongKind
-unfolding is_well_known
+unfolding form_of known_of is_as_declared
 row_no_object = refl
 
 -- ---- keys, enums, oneofs
 
 row_enum : content_for pool 2 false (two_keys (codes "bigId") (string (codes "5")) (codes "e") (string (codes "B")))
     ≡ fields_with (content.field 1 (content.number (pos 5)) (content.field 2 (content.number (pos 1)) content.no_fields))
-unfolding is_well_known
+unfolding form_of known_of is_as_declared
 row_enum = refl
 
 -- both spellings, the second null: the greater key is at fault
 row_twice : JsonFault pool 2 false (two_keys (codes "bigId") (int 1) (codes "big_id") null) (Key (codes "big_id") ∷ []) fault.DuplicateField
-unfolding is_well_known
+unfolding form_of known_of is_as_declared
 row_twice = inl (refl, refl, refl)
 
 row_twice_none : content_for pool 2 true (two_keys (codes "bigId") (int 1) (codes "big_id") null) ≡ None
-unfolding is_well_known
+unfolding form_of known_of is_as_declared
 row_twice_none = refl
 
 row_enum_name : JsonFault pool 2 false (one_key (codes "e") (string (codes "1"))) (Key (codes "e") ∷ []) fault.UnknownEnum
-unfolding is_well_known
+unfolding form_of known_of is_as_declared
 row_enum_name = inr refl
 
 row_enum_dropped : content_for pool 2 true (one_key (codes "e") (string (codes "1"))) ≡ nothing
-unfolding is_well_known
+unfolding form_of known_of is_as_declared
 row_enum_dropped = refl
 
 abbrev one_and_seven : Fields
@@ -209,42 +224,42 @@ one_and_seven = content.field 2 (content.many (content.val (content.number (pos 
 
 row_enum_elements : content_for pool 4 true (one_key (codes "es") (array (item (string (codes "Z")) (item (string (codes "C")) (item (int 7) no_items)))))
     ≡ fields_with one_and_seven
-unfolding is_well_known
+unfolding form_of known_of is_as_declared
 row_enum_elements = refl
 
 row_null_element : JsonFault pool 4 false (one_key (codes "es") (array (item (int 1) (item null no_items)))) (Key (codes "es") ∷ Index 1 ∷ []) fault.WrongKind
-unfolding is_well_known
+unfolding form_of known_of is_as_declared
 row_null_element = inr (inr refl)
 
 row_oneof : JsonFault pool 3 false (two_keys (codes "a") (int 0) (codes "b") (string [])) (Key (codes "b") ∷ []) fault.OneofTwice
-unfolding is_well_known
+unfolding form_of known_of is_as_declared
 row_oneof = inl (refl, refl, refl)
 
 row_oneof_none : content_for pool 3 false (two_keys (codes "a") (int 0) (codes "b") (string [])) ≡ None
-unfolding is_well_known
+unfolding form_of known_of is_as_declared
 row_oneof_none = refl
 
 -- null is no value of an ordinary member, and is one of `NullValue`
 row_oneof_null : content_for pool 3 false (two_keys (codes "a") (int 0) (codes "b") null)
     ≡ fields_with (content.field 1 (content.number (pos 0)) content.no_fields)
-unfolding is_well_known
+unfolding form_of known_of is_as_declared
 row_oneof_null = refl
 
 row_oneof_null_value : JsonFault pool 3 false (two_keys (codes "a") (int 0) (codes "n") null) (Key (codes "n") ∷ []) fault.OneofTwice
-unfolding is_well_known
+unfolding form_of known_of is_as_declared
 row_oneof_null_value = inl (refl, refl, refl)
 
 -- `NullValue` reads null and its word, and not 0
 row_null_value_zero : JsonFault pool 3 false (one_key (codes "n") (int 0)) (Key (codes "n") ∷ []) fault.WrongKind
-unfolding is_well_known
+unfolding form_of known_of is_as_declared
 row_null_value_zero = inr refl
 
 row_extension : content_for pool 6 false (one_key (codes "[p.e]") (int 5)) ≡ fields_with (content.field 10 (content.number (pos 5)) content.no_fields)
-unfolding is_well_known
+unfolding form_of known_of is_as_declared
 row_extension = refl
 
 row_extension_name : content_for pool 6 false (one_key (codes "e") (int 5)) ≡ None
-unfolding is_well_known
+unfolding form_of known_of is_as_declared
 row_extension_name = refl
 
 -- ---- maps
@@ -253,33 +268,33 @@ row_extension_name = refl
 row_map : content_for pool 4 false (one_key (codes "tags") (object (member (codes "10") (string (codes "x")) (member (codes "2") (string []) no_members))))
     ≡ fields_with (content.field 1 (content.keyed (content.pair (content.number_key (pos 2)) (content.text [])
     (content.pair (content.number_key (pos 10)) (content.text (codes "x")) content.no_pairs))) content.no_fields)
-unfolding is_well_known
+unfolding form_of known_of is_as_declared
 row_map = refl
 
 row_map_twice : JsonFault pool 4 false (one_key (codes "tags") (two_keys (codes "+1") (string []) (codes "1") (string [])))
     (Key (codes "tags") ∷ Key (codes "1") ∷ []) fault.DuplicateKey
-unfolding is_well_known
+unfolding form_of known_of is_as_declared
 row_map_twice = inr (inl (refl, refl, refl))
 
 row_map_key : JsonFault pool 4 false (one_key (codes "tags") (one_key (codes "x") (string []))) (Key (codes "tags") ∷ Key (codes "x") ∷ []) fault.NotDecimal
-unfolding is_well_known
+unfolding form_of known_of is_as_declared
 row_map_key = inr (inl (refl, refl, refl))
 
 row_map_value_null : JsonFault pool 4 false (one_key (codes "tags") (one_key (codes "1") null)) (Key (codes "tags") ∷ Key (codes "1") ∷ []) fault.WrongKind
-unfolding is_well_known
+unfolding form_of known_of is_as_declared
 row_map_value_null = inr (inr refl)
 
 -- a list of floats reads null and the empty array alone, and is at fault as a whole
 row_floats : JsonFault pool 4 false (one_key (codes "fs") (array (item (int 1) no_items))) (Key (codes "fs") ∷ []) fault.Float
-unfolding is_well_known
+unfolding form_of known_of is_as_declared
 row_floats = inr refl
 
 row_floats_empty : content_for pool 4 false (one_key (codes "fs") (array no_items)) ≡ nothing
-unfolding is_well_known
+unfolding form_of known_of is_as_declared
 row_floats_empty = refl
 
 row_base64 : JsonFault pool 4 false (one_key (codes "y") (string (codes "A"))) (Key (codes "y") ∷ []) fault.Base64
-unfolding is_well_known base64_of
+unfolding form_of known_of is_as_declared base64_of
 row_base64 = inr refl
 
 -- ---- writing
@@ -287,27 +302,27 @@ row_base64 = inr refl
 row_written : canonical pool 2
     (content.content (content.field 1 (content.number (pos 5)) (content.field 2 (content.number (pos 1)) content.no_fields)) []) default_writing
     ≡ Some (two_keys (codes "bigId") (string (codes "5")) (codes "e") (string (codes "B")))
-unfolding is_well_known digits
+unfolding form_of known_of is_as_declared digits
 row_written = refl
 
 row_written_turned : canonical pool 2
     (content.content (content.field 1 (content.number (pos 5)) (content.field 2 (content.number (pos 1)) content.no_fields)) [])
     (record { stringify_64_bit_integers = false; use_enum_numbers = true; use_proto_field_name = true; skip_default_fields = true })
     ≡ Some (two_keys (codes "big_id") (int 5) (codes "e") (int 1))
-unfolding is_well_known
+unfolding form_of known_of is_as_declared
 row_written_turned = refl
 
 row_defaults : canonical pool 2 (content.content content.no_fields []) (record default_writing { skip_default_fields = false })
     ≡ Some (two_keys (codes "bigId") (string (codes "0")) (codes "e") (string (codes "A")))
-unfolding is_well_known digits
+unfolding form_of known_of is_as_declared digits
 row_defaults = refl
 
 row_float_kept : WriteFault pool 4 (content.content content.no_fields (Fixed32 3 0 ∷ [])) default_writing (Key (codes "fs") ∷ []) fault.Float
-unfolding is_well_known
+unfolding form_of known_of is_as_declared
 row_float_kept = inl (refl, refl)
 
 row_float_kept_none : canonical pool 4 (content.content content.no_fields (Fixed32 3 0 ∷ [])) default_writing ≡ None
-unfolding is_well_known
+unfolding form_of known_of is_as_declared
 row_float_kept_none = refl
 
 -- ---- names
@@ -320,7 +335,7 @@ abbrev sharing : Shape
 sharing = in_file (a_message (codes "J") (plain 1 (codes "a") kind.Int32 ∷ a_field 2 (codes "b") (codes "a") kind.Int32 Singular false None ∷ []) ∷ [])
 
 row_clash : name_fault false sharing ≡ Some (JsonNames (codes "J") (codes "a"))
-unfolding is_well_known
+unfolding form_of known_of is_as_declared
 row_clash = refl
 
 abbrev crossed : Shape
@@ -331,22 +346,22 @@ crossed = in_file (a_message (codes "S") (
 
 -- a field's JSON name is the name of another field: no clash, unless fields may be written under their names
 row_crossed : name_fault false crossed ≡ None
-unfolding is_well_known
+unfolding form_of known_of is_as_declared
 row_crossed = refl
 
 row_crossed_by_name : name_fault true crossed ≡ Some (JsonNames (codes "S") (codes "b"))
-unfolding is_well_known
+unfolding form_of known_of is_as_declared
 row_crossed_by_name = refl
 
 row_twice_written : canonical sharing 0
     (content.content (content.field 1 (content.number (pos 1)) (content.field 2 (content.number (pos 1)) content.no_fields)) []) default_writing ≡ None
-unfolding is_well_known
+unfolding form_of known_of is_as_declared
 row_twice_written = refl
 
 row_twice_at : WriteFault sharing 0
     (content.content (content.field 1 (content.number (pos 1)) (content.field 2 (content.number (pos 1)) content.no_fields)) []) default_writing
     (Key (codes "a") ∷ []) fault.DuplicateField
-unfolding is_well_known
+unfolding form_of known_of is_as_declared
 row_twice_at = inl (refl, refl)
 
 -- ---- the order of places
@@ -366,18 +381,18 @@ row_later = refl
 row_extension_written : canonical pool 6 (content.content (content.field 10 (content.number (pos 5)) content.no_fields) []) (record
     default_writing { use_proto_field_name = true })
     ≡ Some (one_key (codes "[p.e]") (int 5))
-unfolding is_well_known
+unfolding form_of known_of is_as_declared
 row_extension_written = refl
 
 row_null_written : canonical pool 3 (content.content (content.field 3 (content.number (pos 0)) content.no_fields) []) (record
     default_writing { use_enum_numbers = true }) ≡ Some (one_key (codes "n") null)
-unfolding is_well_known
+unfolding form_of known_of is_as_declared
 row_null_written = refl
 
 row_unnamed_written : canonical pool 4
     (content.content one_and_seven []) default_writing
     ≡ Some (one_key (codes "es") (array (item (string (codes "B")) (item (int 7) no_items))))
-unfolding is_well_known
+unfolding form_of known_of is_as_declared
 row_unnamed_written = refl
 
 -- keys of maps stand by their bytes where they are written
@@ -385,7 +400,7 @@ row_map_written : canonical pool 4
     (content.content (content.field 1 (content.keyed (content.pair (content.number_key (pos 2)) (content.text [])
     (content.pair (content.number_key (pos 10)) (content.text (codes "x")) content.no_pairs))) content.no_fields) []) default_writing
     ≡ Some (one_key (codes "tags") (object (member (codes "10") (string (codes "x")) (member (codes "2") (string []) no_members))))
-unfolding is_well_known digits
+unfolding form_of known_of is_as_declared digits
 row_map_written = refl
 
 -- ---- more borders
@@ -419,59 +434,59 @@ bordering = record {
       ∷ [];
 }
 
-row_wrapper_element : JsonFault bordering 5 false (one_key (codes "fw") (array (item null no_items))) (Key (codes "fw") ∷ Index 0 ∷ []) fault.NotBuilt
-unfolding is_well_known
+row_wrapper_element : JsonFault bordering 5 false (one_key (codes "fw") (array (item null no_items))) (Key (codes "fw") ∷ Index 0 ∷ []) fault.Shape
+unfolding form_of known_of is_as_declared
 row_wrapper_element = inr (inr refl)
 
 -- an empty list reads nothing, also of a well-known type
 row_wrappers_empty : content_for bordering 5 false (one_key (codes "fw") (array no_items)) ≡ nothing
-unfolding is_well_known
+unfolding form_of known_of is_as_declared
 row_wrappers_empty = refl
 
 row_other_null_absent : content_for bordering 5 false (one_key (codes "n") null) ≡ nothing
-unfolding is_well_known
+unfolding form_of known_of is_as_declared
 row_other_null_absent = refl
 
 row_other_null_number : content_for bordering 5 false (one_key (codes "n") (int 0)) ≡ fields_with (content.field 1 (content.number (pos 0)) content.no_fields)
-unfolding is_well_known
+unfolding form_of known_of is_as_declared
 row_other_null_number = refl
 
 row_other_null_element : JsonFault bordering 5 false (one_key (codes "ns") (array (item null no_items))) (Key (codes "ns") ∷ Index 0 ∷ []) fault.WrongKind
-unfolding is_well_known
+unfolding form_of known_of is_as_declared
 row_other_null_element = inr (inr refl)
 
 row_other_null_written : canonical bordering 5 (content.content (content.field 1 (content.number (pos 0)) content.no_fields) []) default_writing
     ≡ Some (one_key (codes "n") (string (codes "NULL_VALUE")))
-unfolding is_well_known
+unfolding form_of known_of is_as_declared
 row_other_null_written = refl
 
 row_dropped_twice : JsonFault bordering 5 true (one_key (codes "m") (two_keys (codes "+1") (string (codes "Z")) (codes "1") (string (codes "Z"))))
     (Key (codes "m") ∷ Key (codes "1") ∷ []) fault.DuplicateKey
-unfolding is_well_known
+unfolding form_of known_of is_as_declared
 row_dropped_twice = inr (inl (refl, refl, refl))
 
 row_dropped_twice_none : content_for bordering 5 true
     (one_key (codes "m") (two_keys (codes "+1") (string (codes "Z")) (codes "1") (string (codes "Z")))) ≡ None
-unfolding is_well_known
+unfolding form_of known_of is_as_declared
 row_dropped_twice_none = refl
 
 -- where all is dropped, a list and a map are absent, whatever the shape says of presence
 row_all_dropped : content_for bordering 5 true (two_keys (codes "es") (array (item (string (codes "Z")) no_items)) (codes "m")
     (one_key (codes "1") (string (codes "Z")))) ≡ nothing
-unfolding is_well_known
+unfolding form_of known_of is_as_declared
 row_all_dropped = refl
 
 row_float_map : JsonFault bordering 5 false (one_key (codes "fm") (string [])) (Key (codes "fm") ∷ []) fault.Float
-unfolding is_well_known
+unfolding form_of known_of is_as_declared
 row_float_map = inr refl
 
 row_floats_absent : content_for bordering 5 false (two_keys (codes "dD") null (codes "fm") (object no_members)) ≡ nothing
-unfolding is_well_known
+unfolding form_of known_of is_as_declared
 row_floats_absent = refl
 
 row_bool_key : JsonFault bordering 5 false (one_key (codes "b") (one_key (codes "True") (boolean true)))
     (Key (codes "b") ∷ Key (codes "True") ∷ []) fault.WrongKind
-unfolding is_well_known
+unfolding form_of known_of is_as_declared
 row_bool_key = inr (inl (refl, refl, refl))
 
 -- no float and no message is written as a default
@@ -479,146 +494,217 @@ row_all_defaults : canonical bordering 5 content.empty (record default_writing {
     ≡ Some (object (member (codes "b") (object no_members) (member (codes "es") (array no_items) (member (codes "fw") (array no_items)
     (member (codes "l") (array no_items) (member (codes "m") (object no_members)
     (member (codes "n") (string (codes "X")) (member (codes "ns") (array no_items) no_members))))))))
-unfolding is_well_known
+unfolding form_of known_of is_as_declared
 row_all_defaults = refl
 
 row_oneof_dropped : content_for bordering 3 true (two_keys (codes "x") (string (codes "Z")) (codes "y") (int 0))
     ≡ fields_with (content.field 2 (content.number (pos 0)) content.no_fields)
-unfolding is_well_known
+unfolding form_of known_of is_as_declared
 row_oneof_dropped = refl
 
 row_float_below : WriteFault bordering 5
     (content.content (content.field 11 (content.many (content.val (content.message content.empty) (content.val (content.message
     (content.content content.no_fields (Fixed32 10 0 ∷ []))) content.no_vals))) content.no_fields) [])
     (record default_writing { use_proto_field_name = true }) (Key (codes "l") ∷ Index 1 ∷ Key (codes "d_d") ∷ []) fault.Float
-unfolding is_well_known
+unfolding form_of known_of is_as_declared
 row_float_below = inr (inr (inl (refl, refl)))
 
 -- ---- what is written of what was read
 
 row_text_written : option_and_then (λ c. canonical pool 0 c default_writing) (content_for pool 0 false (one_key (codes "foo") (string (codes "+5"))))
     ≡ Some (one_key (codes "foo") (int 5))
-unfolding is_well_known
+unfolding form_of known_of is_as_declared
 row_text_written = refl
 
 row_zero_written : option_and_then (λ c. canonical pool 0 c default_writing) (content_for pool 0 false (one_key (codes "foo") (int 0)))
     ≡ Some (object no_members)
-unfolding is_well_known
+unfolding form_of known_of is_as_declared
 row_zero_written = refl
 
 row_least_written : option_and_then (λ c. canonical pool 0 c
     default_writing) (content_for pool 0 false (one_key (codes "foo") (number (negative (negsuc 2147483647)))))
     ≡ Some (one_key (codes "foo") (number (negative (negsuc 2147483647))))
-unfolding is_well_known
+unfolding form_of known_of is_as_declared
 row_least_written = refl
 
 -- ---- unsigned and wide integers, truth values, messages inside messages
 
 row_minus : JsonFault pool 9 false (one_key (codes "u") (string (codes "-0"))) (Key (codes "u") ∷ []) fault.NotDecimal
-unfolding is_well_known
+unfolding form_of known_of is_as_declared
 row_minus = inr refl
 
 row_no_digits : JsonFault pool 0 false (one_key (codes "foo") (string (codes "-"))) (Key (codes "foo") ∷ []) fault.NotDecimal
-unfolding is_well_known
+unfolding form_of known_of is_as_declared
 row_no_digits = inr refl
 
 row_minus_zero : content_for pool 0 false (one_key (codes "foo") (string (codes "-0"))) ≡ nothing
-unfolding is_well_known
+unfolding form_of known_of is_as_declared
 row_minus_zero = refl
 
 row_greatest : content_for pool 9 false (one_key (codes "w") (int 18446744073709551615))
     ≡ fields_with (content.field 2 (content.number (pos 18446744073709551615)) content.no_fields)
-unfolding is_well_known
+unfolding form_of known_of is_as_declared
 row_greatest = refl
 
 row_past_greatest : JsonFault pool 9 false (one_key (codes "w") (string (codes "18446744073709551616"))) (Key (codes "w") ∷ []) fault.Range
-unfolding is_well_known
+unfolding form_of known_of is_as_declared
 row_past_greatest = inr refl
 
 row_below_zero : JsonFault pool 9 false (one_key (codes "w") (number (negative (negsuc 0)))) (Key (codes "w") ∷ []) fault.Range
-unfolding is_well_known
+unfolding form_of known_of is_as_declared
 row_below_zero = inr refl
 
 row_truth : content_for pool 9 false (one_key (codes "t") (boolean true)) ≡ fields_with (content.field 3 (content.truth true) content.no_fields)
-unfolding is_well_known
+unfolding form_of known_of is_as_declared
 row_truth = refl
 
 row_truth_text : JsonFault pool 9 false (one_key (codes "t") (string (codes "true"))) (Key (codes "t") ∷ []) fault.WrongKind
-unfolding is_well_known
+unfolding form_of known_of is_as_declared
 row_truth_text = inr refl
 
 row_message : content_for pool 1 false (one_key (codes "c") (object no_members))
     ≡ fields_with (content.field 1 (content.message content.empty) content.no_fields)
-unfolding is_well_known
+unfolding form_of known_of is_as_declared
 row_message = refl
 
 row_message_below : JsonFault pool 1 false (one_key (codes "c") (one_key (codes "d") null)) (Key (codes "c") ∷ Key (codes "d") ∷ []) fault.UnknownField
-unfolding is_well_known
+unfolding form_of known_of is_as_declared
 row_message_below = inr (inl (refl, refl, (refl, refl)))
 
 row_bytes : content_for pool 4 false (one_key (codes "y") (string (codes "-_8")))
     ≡ fields_with (content.field 5 (content.octets (251 ∷ 255 ∷ [])) content.no_fields)
-unfolding is_well_known base64_of
+unfolding form_of known_of is_as_declared base64_of
 row_bytes = refl
 
 row_enum_range : JsonFault pool 2 false (one_key (codes "e") (int 2147483648)) (Key (codes "e") ∷ []) fault.Range
-unfolding is_well_known
+unfolding form_of known_of is_as_declared
 row_enum_range = inr refl
 
 row_enum_unnamed : content_for pool 2 false (one_key (codes "e") (int 7)) ≡ fields_with (content.field 2 (content.number (pos 7)) content.no_fields)
-unfolding is_well_known
+unfolding form_of known_of is_as_declared
 row_enum_unnamed = refl
 
 -- two kinds at one place: the greater key names a field again, and its tree is at fault too
 row_two_kinds : JsonFault pool 2 false (two_keys (codes "bigId") (int 1) (codes "big_id") (boolean true)) (Key (codes "big_id") ∷ []) fault.WrongKind
-unfolding is_well_known
+unfolding form_of known_of is_as_declared
 row_two_kinds = inr refl
 
 -- ---- well-known types
 
-row_not_built : JsonFault pool 7 false (object no_members) [] fault.NotBuilt
-unfolding is_well_known
+row_not_built : JsonFault pool 15 false (object no_members) [] fault.NotBuilt
+unfolding form_of known_of is_as_declared
 row_not_built = refl
 
-row_not_built_below : JsonFault pool 4 false (one_key (codes "d") (string (codes "1s"))) (Key (codes "d") ∷ []) fault.NotBuilt
-unfolding is_well_known
-row_not_built_below = inr refl
+row_misshapen : JsonFault pool 7 false (object no_members) [] fault.Shape
+unfolding form_of known_of is_as_declared
+row_misshapen = refl
 
-row_not_built_none : content_for pool 4 true (one_key (codes "d") (string (codes "1s"))) ≡ None
-unfolding is_well_known
-row_not_built_none = refl
+row_misshapen_below : JsonFault pool 4 false (one_key (codes "d") (string (codes "1s"))) (Key (codes "d") ∷ []) fault.Shape
+unfolding form_of known_of is_as_declared
+row_misshapen_below = inr refl
+
+row_misshapen_none : content_for pool 4 true (one_key (codes "d") (string (codes "1s"))) ≡ None
+unfolding form_of known_of is_as_declared
+row_misshapen_none = refl
 
 -- null leaves a field absent, but is a value of `google.protobuf.Value`
 row_duration_null : content_for pool 4 false (one_key (codes "d") null) ≡ nothing
-unfolding is_well_known
+unfolding form_of known_of is_as_declared
 row_duration_null = refl
 
-row_value_null : JsonFault pool 4 false (one_key (codes "v") null) (Key (codes "v") ∷ []) fault.NotBuilt
-unfolding is_well_known
+row_value_null : JsonFault pool 4 false (one_key (codes "v") null) (Key (codes "v") ∷ []) fault.Shape
+unfolding form_of known_of is_as_declared
 row_value_null = inr refl
 
-row_not_built_written : WriteFault pool 4 (content.content (content.field 6 (content.message content.empty) content.no_fields) []) default_writing
-    (Key (codes "d") ∷ []) fault.NotBuilt
-unfolding is_well_known
-row_not_built_written = inr refl
+row_misshapen_written : WriteFault pool 4 (content.content (content.field 6 (content.message content.empty) content.no_fields) []) default_writing
+    (Key (codes "d") ∷ []) fault.Shape
+unfolding form_of known_of is_as_declared
+row_misshapen_written = inr refl
 
-row_not_built_written_none : canonical pool 4 (content.content (content.field 6 (content.message content.empty) content.no_fields) []) default_writing ≡ None
-unfolding is_well_known
-row_not_built_written_none = refl
+row_misshapen_written_none : canonical pool 4 (content.content (content.field 6 (content.message content.empty) content.no_fields) []) default_writing ≡ None
+unfolding form_of known_of is_as_declared
+row_misshapen_written_none = refl
+
+row_no_timestamp : JsonFault pool 10 false (string (codes "1970-01-01")) [] fault.Timestamp
+unfolding form_of known_of is_as_declared timestamp_of
+row_no_timestamp = refl
+
+row_timestamp_number : JsonFault pool 10 false (int 1) [] fault.WrongKind
+unfolding form_of known_of is_as_declared
+row_timestamp_number = refl
+
+row_no_nanos : WriteFault pool 10 (content.content (content.field 2 (content.number (negsuc 0)) content.no_fields) []) default_writing [] fault.Timestamp
+unfolding form_of known_of is_as_declared timestamp_text
+row_no_nanos = refl
+
+row_mask : content_for pool 11 false (string (codes "fooBar,,b"))
+    ≡ fields_with (content.field 1 (content.many (content.val (content.text (codes "foo_bar")) (content.val (content.text (codes "b")) content.no_vals))) content.no_fields)
+unfolding form_of known_of is_as_declared mask_of
+row_mask = refl
+
+row_no_mask : content_for pool 11 false (string []) ≡ nothing
+unfolding form_of known_of is_as_declared mask_of
+row_no_mask = refl
+
+row_mask_underscore : JsonFault pool 11 false (string (codes "foo_bar")) [] fault.Mask
+unfolding form_of known_of is_as_declared mask_of
+row_mask_underscore = refl
+
+row_mask_written : canonical pool 11 (content.content (content.field 1 (content.many (content.val (content.text (codes "foo_bar")) content.no_vals)) content.no_fields) [])
+    default_writing ≡ Some (string (codes "fooBar"))
+unfolding form_of known_of is_as_declared mask_text
+row_mask_written = refl
+
+row_wrapper : content_for pool 12 false (string (codes "5")) ≡ fields_with (content.field 1 (content.number (pos 5)) content.no_fields)
+unfolding form_of known_of is_as_declared
+row_wrapper = refl
+
+row_wrapper_zero : content_for pool 12 false (int 0) ≡ nothing
+unfolding form_of known_of is_as_declared
+row_wrapper_zero = refl
+
+row_wrapper_null : JsonFault pool 12 false null [] fault.WrongKind
+unfolding form_of known_of is_as_declared
+row_wrapper_null = refl
+
+row_wrapper_written : canonical pool 12 content.empty default_writing ≡ Some (string (codes "0"))
+unfolding form_of known_of is_as_declared digits
+row_wrapper_written = refl
+
+row_float_wrapper : JsonFault pool 13 true (int 1) [] fault.Float
+unfolding form_of known_of is_as_declared
+row_float_wrapper = refl
+
+row_float_wrapper_written : WriteFault pool 13 content.empty default_writing [] fault.Float
+unfolding form_of known_of is_as_declared
+row_float_wrapper_written = refl
+
+row_empty_message : content_for pool 14 false (object no_members) ≡ nothing
+unfolding form_of known_of is_as_declared
+row_empty_message = refl
+
+-- a key of `Empty` is refused also where unknown fields are allowed
+row_empty_key : JsonFault pool 14 true (one_key (codes "a") null) (Key (codes "a") ∷ []) fault.UnknownField
+unfolding form_of known_of is_as_declared
+row_empty_key = inl (refl, refl, (refl, refl))
+
+row_empty_written : canonical pool 14 content.empty default_writing ≡ Some (object no_members)
+unfolding form_of known_of is_as_declared
+row_empty_written = refl
 
 -- ---- places that are not there
 
 -- a place that no key leads to has no fault, and neither has one below a tree that is at fault itself
 row_no_place : ¬ (JsonFault pool 0 false (one_key (codes "foo") (int 150)) (Key (codes "bar") ∷ []) fault.Range)
-unfolding is_well_known
+unfolding form_of known_of is_as_declared
 row_no_place (inl f) = f.2
 row_no_place (inr f) = f
 
 row_no_place_below : ¬ (JsonFault pool 0 false null (Key (codes "foo") ∷ []) fault.WrongKind)
-unfolding is_well_known
+unfolding form_of known_of is_as_declared
 row_no_place_below f = f
 
 row_no_place_written : ¬ (WriteFault pool 0 content.empty default_writing (Key (codes "foo") ∷ Index 0 ∷ []) fault.Float)
-unfolding is_well_known
+unfolding form_of known_of is_as_declared
 row_no_place_written (inl f) = let not_there : false ≡ true = f.1 in absurd (cc)
 row_no_place_written (inr f) = f

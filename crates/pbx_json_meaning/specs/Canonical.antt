@@ -22,12 +22,14 @@ use Rattle.pbx_meaning.specs.Records.{number_of}
 use Rattle.pbx_meaning.specs.Shape.{declared_of, field_of, is_float, enum_values_of}
 use Rattle.pbx_meaning.specs.Encoding.{type_of}
 use Rattle.pbx_meaning.specs.Meaning.{zero_of}
-use Rattle.pbx_wkt.specs.Names.{is_well_known}
 use Rattle.pbx_text.specs.Base64.{base64_text}
-use Rattle.pbx_json_meaning.specs.Types.{message_name}
+use Rattle.pbx_wkt.specs.Shapes.{form_of}
+use Rattle.pbx_wkt.specs.declared.form.Form.{Form}
+use Rattle.pbx_wkt.specs.declared.form.Form.TheVariants as forms
 use Rattle.pbx_json_meaning.specs.Scalars.{Family, integers, truths, texts, bytes_texts, enums, family, is_null_value}
 use Rattle.pbx_json_meaning.specs.Asked.{Asked, field, one, has_presence}
-use Rattle.pbx_json_meaning.specs.Stands.{is_there, all_read}
+use Rattle.pbx_json_meaning.specs.Forms.{is_object_type, kind_at, timestamp_tree, duration_tree, mask_tree}
+use Rattle.pbx_json_meaning.specs.Stands.{is_there, all_read, ok_of}
 use Rattle.pbx_json_meaning.specs.declared.options.SerializeOptions.{SerializeOptions}
 
 -- ---- scalars
@@ -181,9 +183,56 @@ lines shape o gs fs told =
 abbrev pub object_tree : Shape → SerializeOptions → List FieldShape → Fields → List Rec → List Told → Option Data
 object_tree shape o gs fs kept told = if keeps_float gs kept then None else option_map object (members_of_lines (lines shape o gs fs told))
 
--- the tree of a message: an object of fields; of a well-known type none is written so far
+-- ---- well-known types
+
+-- a value of a kind that is no message, or its default
+abbrev pub scalar_tree : Shape → SerializeOptions → Kind → Option Val → Option Data
+scalar_tree shape o k None = default_by shape o k (zero_of shape k)
+scalar_tree shape o k (Some (content.number z)) = number_tree shape o k z
+scalar_tree shape o k (Some (content.truth b)) = truth_by (family k) b
+scalar_tree shape o k (Some (content.text s)) = text_by (family k) s
+scalar_tree shape o k (Some (content.octets s)) = bytes_by (family k) s
+scalar_tree shape o k (Some v) = None
+
+-- the tree of the first value of a number, or another where there is none
+abbrev pub told_tree : ℕ → Kind → Option Data → List Told → Option Data
+told_tree n k otherwise [] = otherwise
+told_tree n k otherwise (t ∷ ts) = if t.number == n then t.tells (one k) else told_tree n k otherwise ts
+
+-- the tree of the field of a number, or another where it has no value
+abbrev pub field_tree : Shape → ℕ → ℕ → Option Data → List Told → Option Data
+field_tree shape t n otherwise told = told_tree n (kind_at shape t n) otherwise told
+
+-- the number of the first field that has a value
+abbrev pub first_field : Fields → ℕ
+first_field no_fields = 0
+first_field (field_of_number n v fs) = n
+
+-- a `Value`: null where nothing else is there
+abbrev pub value_tree : Shape → ℕ → Fields → List Rec → List Told → Option Data
+value_tree shape t fs kept told =
+    if keeps_float (declared_of shape t) kept then None
+    else if first_field fs == 1 then Some null else field_tree shape t (first_field fs) (Some null) told
+
+-- what a message of a type of this form, which is no object of fields, is written as
+abbrev pub form_tree : Shape → SerializeOptions → ℕ → Form → Fields → List Rec → List Told → Option Data
+form_tree shape o t forms.Timestamp fs kept told = ok_of (timestamp_tree fs)
+form_tree shape o t forms.Duration fs kept told = ok_of (duration_tree fs)
+form_tree shape o t forms.FieldMask fs kept told = ok_of (mask_tree fs)
+form_tree shape o t forms.Wrapper fs kept told = scalar_tree shape o (kind_at shape t 1) (get 1 fs)
+form_tree shape o t forms.Struct fs kept told = field_tree shape t 1 (Some (object no_members)) told
+form_tree shape o t forms.ListValue fs kept told = field_tree shape t 1 (Some (array no_items)) told
+form_tree shape o t forms.Value fs kept told = value_tree shape t fs kept told
+form_tree shape o t _ fs kept told = None
+
+-- the same by the type's own form
+abbrev pub own_tree : Shape → SerializeOptions → ℕ → Fields → List Rec → List Told → Option Data
+own_tree shape o t fs kept told = form_tree shape o t (form_of shape t) fs kept told
+
+-- the tree of a message: an object of fields, or what the type's own form writes
 abbrev pub message_tree : Shape → SerializeOptions → ℕ → Fields → List Rec → List Told → Option Data
-message_tree shape o t fs kept told = if is_well_known (message_name shape t) then None else object_tree shape o (declared_of shape t) fs kept told
+message_tree shape o t fs kept told =
+    if is_object_type shape t then object_tree shape o (declared_of shape t) fs kept told else own_tree shape o t fs kept told
 
 -- ---- all contents
 

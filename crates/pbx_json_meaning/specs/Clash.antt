@@ -1,5 +1,5 @@
 -- Which keys of a message's JSON have two meanings (Protocol Buffers "Language Guide (proto 3)": JSON Options; ProtoJSON Format).
-use Rattle.std.specs.Prelude.{ℕ, ◌==◌, nat_le, List, [], ◌∷◌, map, filter, length, codes, Bool, not, ◌&&◌, ◌||◌, if◌then◌else◌, Option, Some, None}
+use Rattle.std.specs.Prelude.{ℕ, suc, ◌==◌, nat_le, List, [], ◌∷◌, map, filter, length, codes, Bool, not, ◌&&◌, ◌||◌, if◌then◌else◌, Option, Some, None}
 use Rattle.std.specs.Prelude.{option_map}
 use Rattle.std.specs.List.{list_any}
 use Rattle.std.specs.Option.{option_or}
@@ -9,9 +9,10 @@ use Rattle.std.specs.Cmp.Lexicographic.{slice_cmp}
 use Rattle.pbx_meaning.specs.declared.shape.Shape.{Shape}
 use Rattle.pbx_meaning.specs.declared.shape.MessageShape.{MessageShape}
 use Rattle.pbx_meaning.specs.declared.shape.FieldShape.{FieldShape}
+use Rattle.pbx_wkt.specs.Shapes.{form_of, is_misshapen}
 use Rattle.pbx_json_meaning.specs.Names.{json_name_is, name_is, extension_is}
 use Rattle.pbx_json_meaning.specs.declared.names_fault.NameFault.{NameFault}
-use Rattle.pbx_json_meaning.specs.declared.names_fault.NameFault.TheVariants.{JsonNames}
+use Rattle.pbx_json_meaning.specs.declared.names_fault.NameFault.TheVariants.{JsonNames, WellKnownShape}
 
 -- two fields share the JSON name
 abbrev pub is_shared : List FieldShape → List ℕ → Bool
@@ -54,6 +55,11 @@ abbrev pub first_clash : Bool → List MessageShape → Option NameFault
 first_clash by_name [] = None
 first_clash by_name (m ∷ ms) = option_or (option_map (λ key. JsonNames m.full_name key) (clashing_key by_name m.fields)) (first_clash by_name ms)
 
--- the first message with a key at fault, in the order of the shape
+-- the first message, from a place on, that has a well-known name and not its shape
+abbrev pub first_misshapen : Shape → ℕ → List MessageShape → Option NameFault
+first_misshapen shape t [] = None
+first_misshapen shape t (m ∷ ms) = if is_misshapen (form_of shape t) then Some (WellKnownShape m.full_name) else first_misshapen shape (suc t) ms
+
+-- the first message with a key at fault, else the first that has not the shape of its well-known name, in the order of the shape
 abbrev pub name_fault : Bool → Shape → Option NameFault
-name_fault by_name shape = first_clash by_name shape.messages
+name_fault by_name shape = option_or (first_clash by_name shape.messages) (first_misshapen shape 0 shape.messages)

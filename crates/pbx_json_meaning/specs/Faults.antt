@@ -13,11 +13,10 @@ use Rattle.pbx_meaning.specs.declared.shape.Shape.{Shape}
 use Rattle.pbx_meaning.specs.declared.shape.FieldShape.{FieldShape}
 use Rattle.pbx_meaning.specs.Content.{Val, Key as MapKey}
 use Rattle.pbx_meaning.specs.Shape.{declared_of, is_float, is_other}
-use Rattle.pbx_wkt.specs.Names.{is_well_known}
-use Rattle.pbx_json_meaning.specs.Types.{message_name}
 use Rattle.pbx_json_meaning.specs.Names.{field_named}
 use Rattle.pbx_json_meaning.specs.Scalars.{if_ok, scalar_read, key_read}
 use Rattle.pbx_json_meaning.specs.Asked.{Asked, field, one, root, Target, nothing, single, list, map, target}
+use Rattle.pbx_json_meaning.specs.Forms.{is_object_type, skips_keys, own_read, Own, whole, a_list, a_map}
 use Rattle.pbx_json_meaning.specs.Stands.{said, is_there, is_alike}
 use Rattle.pbx_json_meaning.specs.Place.{IsUpTo}
 use Rattle.pbx_json_meaning.specs.declared.kind.JsonKind.{JsonKind}
@@ -51,28 +50,44 @@ abbrev pub array_opened : (Items → Opened) → Data → Opened
 array_opened f (array ds) = f ds
 array_opened f _ = Err fault.WrongKind
 
--- a tree that is read as a message; of a well-known type none is read so far
+-- `Float` for a float field, list or map, whatever stands there, and else what the tree says
+abbrev pub unless_float : Kind → Opened → Opened
+unless_float k opened = if is_float k then Err fault.Float else opened
+
+-- a tree that is read as a list
+abbrev pub list_opened : Kind → Data → Opened
+list_opened k (array no_items) = Ok leaf
+list_opened k d = unless_float k (array_opened (λ ds. Ok (elements k ds)) d)
+
+-- a tree that is read as a map
+abbrev pub map_opened : Kind → Kind → Data → Opened
+map_opened kk vk (object no_members) = Ok leaf
+map_opened kk vk d = unless_float vk (object_opened (λ ms. Ok (keyed kk vk ms)) d)
+
+-- a tree that is read as a message of a form of its own
+abbrev pub own_opened : Result Own JsonKind → Data → Opened
+own_opened (Err k) d = Err k
+own_opened (Ok (whole c)) d = Ok leaf
+own_opened (Ok (a_list k wrap)) d = list_opened k d
+own_opened (Ok (a_map k wrap)) d = map_opened kind.String k d
+
+-- a tree that is read as a message: an object of fields, or what the type's own form reads
 abbrev pub message_opened : Shape → Bool → ℕ → Data → Opened
 message_opened shape allow t d =
-    if is_well_known (message_name shape t) then Err fault.NotBuilt else object_opened (λ ms. Ok (members allow (declared_of shape t) ms)) d
+    if is_object_type shape t then object_opened (λ ms. Ok (members (skips_keys shape allow t) (declared_of shape t) ms)) d
+    else own_opened (own_read shape allow t d) d
 
 -- a tree that is read as one value of a kind
 abbrev pub single_opened : Shape → Bool → Kind → Data → Opened
 single_opened shape allow (kind.Message t) d = message_opened shape allow t d
 single_opened shape allow k d = as_leaf (scalar_read shape allow k d)
 
--- `Float` for a float field, list or map, whatever stands there, and else what the tree says
-abbrev pub unless_float : Kind → Opened → Opened
-unless_float k opened = if is_float k then Err fault.Float else opened
-
 -- what is read below a tree by what it is to be read as, or the rule that it breaks
 abbrev pub opened_as : Shape → Bool → Target → Data → Opened
 opened_as shape allow nothing d = Ok leaf
 opened_as shape allow (single k) d = single_opened shape allow k d
-opened_as shape allow (list k) (array no_items) = Ok leaf
-opened_as shape allow (list k) d = unless_float k (array_opened (λ ds. Ok (elements k ds)) d)
-opened_as shape allow (map kk vk) (object no_members) = Ok leaf
-opened_as shape allow (map kk vk) d = unless_float vk (object_opened (λ ms. Ok (keyed kk vk ms)) d)
+opened_as shape allow (list k) d = list_opened k d
+opened_as shape allow (map kk vk) d = map_opened kk vk d
 
 -- what is read below a tree of which something is asked, or the rule that it breaks
 abbrev pub opened : Shape → Bool → Data → Asked → Opened

@@ -1,7 +1,7 @@
-pub mod Types
 pub mod Names
 pub mod Scalars
 pub mod Asked
+pub mod Forms
 pub mod Place
 pub mod Trees
 pub mod Stands

@@ -14,11 +14,11 @@ use Rattle.pbx_meaning.specs.declared.shape.FieldShape.{FieldShape}
 use Rattle.pbx_meaning.specs.Shape.{declared_of, is_float}
 use Rattle.pbx_meaning.specs.Meaning.{shown}
 use Rattle.pbx_meaning.specs.Sound.{has_one_member}
-use Rattle.pbx_wkt.specs.Names.{is_well_known}
-use Rattle.pbx_json_meaning.specs.Types.{message_name}
 use Rattle.pbx_json_meaning.specs.Names.{field_named}
 use Rattle.pbx_json_meaning.specs.Scalars.{scalar_read, key_read}
 use Rattle.pbx_json_meaning.specs.Asked.{Asked, field, one, root, Target, nothing, single, list, map, target, has_presence}
+use Rattle.pbx_json_meaning.specs.Forms.{is_object_type, skips_keys, own_read, Own, whole, a_list, a_map}
+use Rattle.pbx_json_meaning.specs.declared.kind.JsonKind.{JsonKind}
 
 -- What a tree says where something is asked of it: None is a fault, and `Some None` is absent, or dropped. Without presence a default is absent.
 abbrev pub Reading : Type 0
@@ -159,15 +159,6 @@ abbrev pub message_in : Reading → Option Content
 message_in (Some (Some (content.message c))) = Some c
 message_in _ = None
 
--- what a tree is as a message: an object of fields; of a well-known type none is read so far
-abbrev pub message_as : Shape → Bool → ℕ → Data → List Entry → Option Content
-message_as shape allow t d es = if is_well_known (message_name shape t) then None else object_of (message_of allow (declared_of shape t)) d es
-
--- what a tree is as one value of a kind
-abbrev pub value_as : Shape → Bool → Kind → Data → List Entry → Reading
-value_as shape allow (kind.Message t) d es = as_message (message_as shape allow t d es)
-value_as shape allow k d es = ok_of (scalar_read shape allow k d)
-
 -- what an array is as a list; of floats the empty one alone
 abbrev pub list_as : Kind → Data → List Says → Reading
 list_as k (array no_items) items = Some None
@@ -180,10 +171,28 @@ map_as kk vk (object no_members) es = Some None
 map_as kk vk (object (member k d ms)) es = if is_float vk then None else entries_read kk vk es
 map_as kk vk _ es = None
 
+-- what a tree is as a message of a form of its own; an empty list and an empty map are absent
+abbrev pub own_as : Shape → Result Own JsonKind → Data → List Says → List Entry → Option Content
+own_as shape (Err k) d items es = None
+own_as shape (Ok (whole c)) d items es = Some c
+own_as shape (Ok (a_list k wrap)) d items es = option_map wrap (option_map (shown shape false k) (list_as k d items))
+own_as shape (Ok (a_map k wrap)) d items es = option_map wrap (option_map (shown shape false k) (map_as kind.String k d es))
+
+-- what a tree is as a message: an object of fields, or what the type's own form reads
+abbrev pub message_as : Shape → Bool → ℕ → Data → List Says → List Entry → Option Content
+message_as shape allow t d items es =
+    if is_object_type shape t then object_of (message_of (skips_keys shape allow t) (declared_of shape t)) d es
+    else own_as shape (own_read shape allow t d) d items es
+
+-- what a tree is as one value of a kind
+abbrev pub value_as : Shape → Bool → Kind → Data → List Says → List Entry → Reading
+value_as shape allow (kind.Message t) d items es = as_message (message_as shape allow t d items es)
+value_as shape allow k d items es = ok_of (scalar_read shape allow k d)
+
 -- what is read of a tree, with what the trees inside it say
 abbrev pub read_as : Shape → Bool → Target → Data → List Says → List Entry → Reading
 read_as shape allow nothing d items es = Some None
-read_as shape allow (single k) d items es = value_as shape allow k d es
+read_as shape allow (single k) d items es = value_as shape allow k d items es
 read_as shape allow (list k) d items es = list_as k d items
 read_as shape allow (map kk vk) d items es = map_as kk vk d es
 

@@ -6,18 +6,21 @@ use Rattle.std.specs.List.{list_any}
 use Rattle.std.specs.Str.{bytes_eq}
 use Rattle.pbx_wire.specs.declared.rec.Rec.{Rec}
 use Rattle.pbx_meaning.specs.Content as content
-use Rattle.pbx_meaning.specs.Content.{Content, Fields, no_fields, field as field_of_number, Val, Vals, no_vals, val, Pairs, no_pairs, pair, get}
+use Rattle.pbx_meaning.specs.Content.{Content, Fields, no_fields, field as field_of_number, Val, Vals, no_vals, val, Pairs, no_pairs, pair, get, fields}
 use Rattle.pbx_meaning.specs.Content.{Key as MapKey}
 use Rattle.pbx_meaning.specs.declared.shape.Kind.{Kind}
 use Rattle.pbx_meaning.specs.declared.shape.Shape.{Shape}
 use Rattle.pbx_meaning.specs.declared.shape.FieldShape.{FieldShape}
 use Rattle.pbx_meaning.specs.Encoding.{type_of}
 use Rattle.pbx_meaning.specs.Shape.{declared_of, field_of, is_float}
-use Rattle.pbx_wkt.specs.Names.{is_well_known}
-use Rattle.pbx_json_meaning.specs.Types.{message_name}
 use Rattle.pbx_json_meaning.specs.Asked.{Asked, field, one, root}
+use Rattle.pbx_json_meaning.specs.Scalars.{if_ok}
+use Rattle.pbx_wkt.specs.Shapes.{form_of}
+use Rattle.pbx_wkt.specs.declared.form.Form.{Form}
+use Rattle.pbx_wkt.specs.declared.form.Form.TheVariants as forms
+use Rattle.pbx_json_meaning.specs.Forms.{is_object_type, kind_at, type_at, timestamp_tree, duration_tree, mask_tree}
 use Rattle.pbx_json_meaning.specs.Faults.{SomeWith, OkWith}
-use Rattle.pbx_json_meaning.specs.Canonical.{key_of_field, is_kept_of, is_written_default, kind_asked, key_text}
+use Rattle.pbx_json_meaning.specs.Canonical.{key_of_field, is_kept_of, is_written_default, kind_asked, key_text, keeps_float, first_field}
 use Rattle.pbx_json_meaning.specs.declared.kind.JsonKind.{JsonKind}
 use Rattle.pbx_json_meaning.specs.declared.kind.JsonKind.TheVariants as fault
 use Rattle.pbx_json_meaning.specs.declared.options.SerializeOptions.{SerializeOptions}
@@ -35,9 +38,48 @@ pub data Parts : Type 0 where
 abbrev pub Taken : Type 0
 Taken = Result Parts JsonKind
 
--- what is written below a message; of a well-known type none is written so far
+-- nothing is written below a text
+abbrev pub as_leaf : {X : Type 0} → Result X JsonKind → Taken
+as_leaf r = if_ok r (λ x. Ok leaf)
+
+-- what is written below the value of a field that is a list or a map
+abbrev pub several_parts : Kind → Option Val → Taken
+several_parts k (Some (content.many vs)) = Ok (elements k vs)
+several_parts k (Some (content.keyed ps)) = Ok (keyed k ps)
+several_parts k _ = Ok leaf
+
+-- what is written below a `Struct` or a `ListValue`
+abbrev pub struct_parts : Shape → ℕ → Fields → Taken
+struct_parts shape t fs = several_parts (kind_at shape t 1) (get 1 fs)
+
+-- the same of the message of such a type that a `Value` holds
+abbrev pub held_parts : Shape → ℕ → Form → Option Val → Taken
+held_parts shape t forms.Misshapen (Some (content.message c)) = Err fault.Shape
+held_parts shape t _ (Some (content.message c)) = struct_parts shape t (fields c)
+held_parts shape t _ _ = Ok leaf
+
+-- what is written below a `Value`
+abbrev pub value_parts : Shape → ℕ → Fields → List Rec → Taken
+value_parts shape t fs kept =
+    if keeps_float (declared_of shape t) kept then Err fault.Float
+    else held_parts shape (type_at shape t (first_field fs)) (form_of shape (type_at shape t (first_field fs))) (get (first_field fs) fs)
+
+-- what is written below a message of a type of this form, which is no object of fields
+abbrev pub form_parts : Shape → ℕ → Form → Fields → List Rec → Taken
+form_parts shape t forms.Timestamp fs kept = as_leaf (timestamp_tree fs)
+form_parts shape t forms.Duration fs kept = as_leaf (duration_tree fs)
+form_parts shape t forms.FieldMask fs kept = as_leaf (mask_tree fs)
+form_parts shape t forms.Wrapper fs kept = Ok leaf
+form_parts shape t forms.FloatWrapper fs kept = Err fault.Float
+form_parts shape t forms.Misshapen fs kept = Err fault.Shape
+form_parts shape t forms.Struct fs kept = struct_parts shape t fs
+form_parts shape t forms.ListValue fs kept = struct_parts shape t fs
+form_parts shape t forms.Value fs kept = value_parts shape t fs kept
+form_parts shape t _ fs kept = Err fault.NotBuilt
+
+-- what is written below a message: fields, or what its own form has
 abbrev pub message_parts : Shape → ℕ → Fields → List Rec → Taken
-message_parts shape t fs kept = if is_well_known (message_name shape t) then Err fault.NotBuilt else Ok (members (declared_of shape t) fs kept)
+message_parts shape t fs kept = if is_object_type shape t then Ok (members (declared_of shape t) fs kept) else form_parts shape t (form_of shape t) fs kept
 
 -- what is written below a content of a type
 abbrev pub content_parts : Shape → ℕ → Content → Taken

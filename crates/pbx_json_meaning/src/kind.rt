@@ -37,6 +37,6 @@ pub enum JsonKind {
     AnyPayload,
     /// Memory ran out.
     NoMemory,
-    /// A message of a well-known name would be read or written here, which is not built yet.
+    /// An `Any` would be read or written here, which is not built yet.
     NotBuilt,
 }

@@ -1,4 +1,4 @@
-//! What the canonical JSON mapping says of messages of types that are not well known (ProtoJSON Format): which content
+//! What the canonical JSON mapping says of messages (ProtoJSON Format): which content
 //! a tree stands for, which rule a tree breaks and where, and the tree that is written for a content.
 //! Definitions with laws, and the types and options that they speak of.
 #![tactic(auto)]

@@ -10,6 +10,11 @@ pub enum NameFault {
         /// The key.
         key: Text,
     },
+    /// A message has a well-known name and not the shape that the name's public file declares.
+    WellKnownShape {
+        /// The full name of the message.
+        message: Text,
+    },
     /// Memory ran out.
     NoMemory,
 }

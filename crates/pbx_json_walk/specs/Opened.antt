@@ -1,5 +1,5 @@
 -- What is read of a tree, before what is inside it is read.
-use Rattle.std.specs.Prelude.{ℕ, Bool, false, Result, Ok, Err, if◌then◌else◌}
+use Rattle.std.specs.Prelude.{Bool, false, Result, Ok, Err, if◌then◌else◌}
 use Rattle.std.specs.Borrow.{Bor}
 use Rattle.std.specs.BTreeMap.{BTreeMap}
 use Rattle.std.specs.Prelude.{String, List}
@@ -11,10 +11,8 @@ use Rattle.pbx_meaning.specs.declared.shape.Kind.{Kind}
 use Rattle.pbx_meaning.specs.declared.shape.Shape.{Shape}
 use Rattle.pbx_meaning.specs.declared.shape.FieldShape.{FieldShape}
 use Rattle.pbx_meaning.specs.declared.shape.Cardinality.{Cardinality}
-use Rattle.pbx_meaning.specs.declared.shape.Cardinality.TheVariants.{Singular, Repeated, Map}
+use Rattle.pbx_meaning.specs.declared.shape.Cardinality.TheVariants.{Singular}
 use Rattle.pbx_meaning.specs.Shape.{is_float}
-use Rattle.pbx_wkt.specs.Names.{is_well_known}
-use Rattle.pbx_json_meaning.specs.Types.{message_name}
 use Rattle.pbx_json_meaning.specs.Asked.{reads_null}
 use Rattle.pbx_json_meaning.specs.declared.kind.JsonKind.{JsonKind}
 use Rattle.pbx_json_meaning.specs.declared.kind.JsonKind.TheVariants as fault
@@ -42,10 +40,6 @@ option_items (Err k) = Err k
 abbrev pub members_in : Data → Result Members JsonKind
 members_in (object ms) = Ok ms
 members_in _ = Err fault.WrongKind
-
--- the members of a tree that is read as a message
-abbrev pub members_of_message : Shape → ℕ → Data → Result Members JsonKind
-members_of_message shape t d = if is_well_known (message_name shape t) then Err fault.NotBuilt else members_in d
 
 -- the elements of a list of floats, of which only the empty one is read
 abbrev pub items_if_none : Items → Result Items JsonKind

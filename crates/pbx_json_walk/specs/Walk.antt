@@ -14,7 +14,8 @@ use Rattle.pbx_meaning.specs.declared.shape.Shape.{Shape}
 use Rattle.pbx_meaning.specs.declared.shape.FieldShape.{FieldShape}
 use Rattle.pbx_json_meaning.specs.Names.{field_named}
 use Rattle.pbx_json_meaning.specs.Scalars.{scalar_read, key_read, if_ok}
-use Rattle.pbx_json_walk.specs.Opened.{members_of_message, items_of_list, members_of_map}
+use Rattle.pbx_json_meaning.specs.Forms.{is_object_type, skips_keys, own_read, Own, whole, a_list, a_map}
+use Rattle.pbx_json_walk.specs.Opened.{members_in, items_of_list, members_of_map}
 use Rattle.pbx_json_meaning.specs.Asked.{Asked, field, one, root, Target, nothing, single, list, map, target, has_presence}
 use Rattle.pbx_json_meaning.specs.declared.error.JsonError.{JsonError}
 use Rattle.pbx_json_meaning.specs.declared.kind.JsonKind.{JsonKind}
@@ -143,21 +144,6 @@ content_found s = s.found
 abbrev pub members_answer : Bool → List FieldShape → List Part → Members → Answer Content
 members_answer allow fs ps ms = if_ascending ms (answer_map content_found (walk allow fs ps start))
 
--- a message
-abbrev pub message_answer : Shape → Bool → ℕ → Data → List Part → Answer Content
-message_answer shape allow t d ps = and_then (or_here (members_of_message shape t d)) (members_answer allow (declared_of shape t) ps)
-
--- a message as a value
-abbrev pub as_value : Content → Option Val
-as_value c = Some (content.message c)
-
--- ---- one value
-
--- one value of a kind
-abbrev pub value_answer : Shape → Bool → Kind → Data → List Part → Answer (Option Val)
-value_answer shape allow (kind.Message t) d ps = answer_map as_value (message_answer shape allow t d ps)
-value_answer shape allow k d ps = or_here (scalar_read shape allow k d)
-
 -- ---- lists
 
 -- the values with this one, if there is one
@@ -254,12 +240,36 @@ entries_answer kk vk ps ms = if_ascending ms (answer_map map_value (walk_entries
 abbrev pub map_answer : Kind → Kind → Data → List Part → Answer (Option Val)
 map_answer kk vk d ps = and_then (or_here (members_of_map vk d)) (entries_answer kk vk ps)
 
+-- ---- one value
+
+-- a message of a form of its own; an empty list and an empty map are absent
+abbrev pub own_answer : Shape → Result Own JsonKind → Data → List Answers → List Part → Answer Content
+own_answer shape (Err k) d as' ps = here k
+own_answer shape (Ok (whole c)) d as' ps = Ok c
+own_answer shape (Ok (a_list k wrap)) d as' ps = answer_map wrap (answer_map (shown shape false k) (list_answer k d as'))
+own_answer shape (Ok (a_map k wrap)) d as' ps = answer_map wrap (answer_map (shown shape false k) (map_answer kind.String k d ps))
+
+-- a message: an object of fields, or what the type's own form reads
+abbrev pub message_answer : Shape → Bool → ℕ → Data → List Answers → List Part → Answer Content
+message_answer shape allow t d as' ps =
+    if is_object_type shape t then and_then (or_here (members_in d)) (members_answer (skips_keys shape allow t) (declared_of shape t) ps)
+    else own_answer shape (own_read shape allow t d) d as' ps
+
+-- a message as a value
+abbrev pub as_value : Content → Option Val
+as_value c = Some (content.message c)
+
+-- one value of a kind
+abbrev pub value_answer : Shape → Bool → Kind → Data → List Answers → List Part → Answer (Option Val)
+value_answer shape allow (kind.Message t) d as' ps = answer_map as_value (message_answer shape allow t d as' ps)
+value_answer shape allow k d as' ps = or_here (scalar_read shape allow k d)
+
 -- ---- all trees
 
 -- by what is to be read
 abbrev pub target_answer : Shape → Bool → Target → Data → List Answers → List Part → Answer (Option Val)
 target_answer shape allow nothing d as' ps = Ok None
-target_answer shape allow (single k) d as' ps = value_answer shape allow k d ps
+target_answer shape allow (single k) d as' ps = value_answer shape allow k d as' ps
 target_answer shape allow (list k) d as' ps = list_answer k d as'
 target_answer shape allow (map kk vk) d as' ps = map_answer kk vk d ps
 

@@ -26,9 +26,9 @@ use Rattle.pbx_json_walk_laws.proofs.Tests.{put_in}
 use Rattle.pbx_json_walk_laws.proofs.Faults.{IsClean, Tells, StepFault, WalkTells}
 use Rattle.pbx_json_walk_laws.proofs.Keyed.{Walked, appended, appended_more, AreLess, less_more, above_first, above_rest, lesser_walked, get_next, EachOf, each_more, key_walked, key_before_next}
 
-module _ (shape : Shape) (allow : Bool) (fs : List FieldShape) (ms : Members) where
+module _ (shape : Shape) (allow skips : Bool) (fs : List FieldShape) (ms : Members) where
   abbrev inside : Inside
-  inside = members allow fs ms
+  inside = members skips fs ms
 
   index_clean : (i : ℕ) → IsCleanAt shape allow inside (to_index i)
   index_clean i q kind (inl h) = h
@@ -53,7 +53,7 @@ module _ (shape : Shape) (allow : Bool) (fs : List FieldShape) (ms : Members) wh
 
   -- no rule is broken by the key itself
   record NoBreak (k : List ℕ) : Type 0 where
-    known : field_named k fs ≡ None → allow ≡ false → ⊥
+    known : field_named k fs ≡ None → skips ≡ false → ⊥
     first : is_second_key fs ms k ≡ false
     alone : is_second_member shape allow fs ms k (field_named k fs) (get_member k ms) ≡ false
 
@@ -174,7 +174,7 @@ module _ (shape : Shape) (allow : Bool) (fs : List FieldShape) (ms : Members) wh
       none_into : into inside (to_key k) ≡ None
       none_into = ap (λ o. option_and_then {U = Data × Asked} (λ f. option_map (λ x. (x, field f)) (get_member k ms)) o) named
 
-      none_clean : allow ≡ true → IsCleanAt shape allow inside (to_key k)
+      none_clean : skips ≡ true → IsCleanAt shape allow inside (to_key k)
       none_clean sure q kind (inl h) = own_clean k no q kind h
         where
           no : NoBreak k
@@ -193,7 +193,7 @@ module _ (shape : Shape) (allow : Bool) (fs : List FieldShape) (ms : Members) wh
             ∙ or_false (list_any (λ m. takes o m.1 (field_named m.0 fs)) ds));
       }
 
-      none_tells : (answers : Answers) (b : Bool) → allow ≡ b → KeyTells (and_then (or_here (if b then Ok None else Err fault.UnknownField)) (field_turn answers s))
+      none_tells : (answers : Answers) (b : Bool) → skips ≡ b → KeyTells (and_then (or_here (if b then Ok None else Err fault.UnknownField)) (field_turn answers s))
       none_tells answers true e = (none_clean e, none_knows)
       none_tells answers false e = inr (inl (refl, (refl, there_here, (named, e))))
 
@@ -293,8 +293,8 @@ module _ (shape : Shape) (allow : Bool) (fs : List FieldShape) (ms : Members) wh
       some_tells answers agree tell false e = answer_tells e (answers (field g)) agree tell
 
     key_tells : (answers : Answers) → ((asked : Asked) → Agrees (said shape allow d asked) (answers asked)) → ((asked : Asked) → Tells shape allow d asked (answers asked))
-        → (o : Option FieldShape) → field_named k fs ≡ o → KeyTells (turn allow o answers s)
-    key_tells answers agree tell None e = none_tells e answers allow refl
+        → (o : Option FieldShape) → field_named k fs ≡ o → KeyTells (turn skips o answers s)
+    key_tells answers agree tell None e = none_tells e answers skips refl
     key_tells answers agree tell (Some g) e = some_tells g e answers (agree (field g)) (tell (field g)) (contains nat_cmp s.seen g.number) refl
 
   -- ---- the walk
@@ -320,14 +320,14 @@ module _ (shape : Shape) (allow : Bool) (fs : List FieldShape) (ms : Members) wh
   before_key ds k d r split above each (to_key q) lt = key_clean_if q (λ x got. key_before_next CleanKey ds k d r q x each above lt (ap (get_member q) (sym split) ∙ got))
 
   module _ (k : List ℕ) (d : Data) (r : Members) (ds : Walked) (split : ms ≡ appended ds (member k d r)) (less : AreLess k ds) (above : are_above k r ≡ true) (each : EachOf CleanKey ds)
-      (ih : (t : State) → CleanKey k → Knows (ds ++ (k, d) ∷ []) t → WalkTells shape allow inside (walk allow fs (parts shape allow r) t)) (s : State) (knows : Knows ds s) where
-    member_tells : (a : Answer State) → KeyTells ds k d r split less above s knows a → WalkTells shape allow inside (and_then (at_step (to_key k) a) (walk allow fs (parts shape allow r)))
+      (ih : (t : State) → CleanKey k → Knows (ds ++ (k, d) ∷ []) t → WalkTells shape allow inside (walk skips fs (parts shape allow r) t)) (s : State) (knows : Knows ds s) where
+    member_tells : (a : Answer State) → KeyTells ds k d r split less above s knows a → WalkTells shape allow inside (and_then (at_step (to_key k) a) (walk skips fs (parts shape allow r)))
     member_tells (Ok t) h = ih t h.0 h.1
     member_tells (Err e) (inl n) = inl n
     member_tells (Err e) (inr f) = inr (to_key k, before_key ds k d r split above each, f)
 
   members_walked : (r : Members) (ds : Walked) (s : State) → ms ≡ appended ds r → Follows ds r → EachOf CleanKey ds → Knows ds s → MembersTell r
-      → WalkTells shape allow inside (walk allow fs (parts shape allow r) s)
+      → WalkTells shape allow inside (walk skips fs (parts shape allow r) s)
   members_walked no_members ds s split follows each knows tell = by_step
     where
       by_step : (t : Step) → IsCleanAt shape allow inside t
@@ -336,7 +336,7 @@ module _ (shape : Shape) (allow : Bool) (fs : List FieldShape) (ms : Members) wh
   members_walked (member k d r) ds s split follows each knows tell =
       member_tells k d r ds split follows.0 follows.1 each
       (λ t clean more. members_walked r (ds ++ (k, d) ∷ []) t (split ∙ appended_more ds k d r) (follows_more ds k d r follows) (each_more CleanKey ds k d each clean) more tell.2)
-      s knows (turn allow (field_named k fs) (answers shape allow d) s)
+      s knows (turn skips (field_named k fs) (answers shape allow d) s)
       (key_tells ds k d r split follows.0 follows.1 s knows (answers shape allow d) tell.0 tell.1 (field_named k fs) refl)
 
   knows_start : Knows [] start
@@ -347,5 +347,5 @@ module _ (shape : Shape) (allow : Bool) (fs : List FieldShape) (ms : Members) wh
   first_follows (member k d r) h = (tt, h)
 
   -- the members of a message
-  pub members_tell : are_ascending ms ≡ true → MembersTell ms → WalkTells shape allow inside (walk allow fs (parts shape allow ms) start)
+  pub members_tell : are_ascending ms ≡ true → MembersTell ms → WalkTells shape allow inside (walk skips fs (parts shape allow ms) start)
   members_tell ascending tell = members_walked ms [] start refl (first_follows ms ascending) tt knows_start tell

@@ -1,22 +1,22 @@
 -- What is answered for a tree tells its first fault.
 use Rattle.std.proofs.Common.{◌≡◌, ℕ, List, [], ◌∷◌, Bool, true, false, if◌then◌else◌, Option, None, Result, Ok, Err, refl, inl, inr}
 use Rattle.serde_json.specs.Data.{Data, null, boolean, number, string, array, object, Items, no_items, item, Members, no_members, member}
-use Rattle.pbx_wkt.specs.Names.{is_well_known}
 use Rattle.pbx_meaning.specs.Content.{Val, Content}
+use Rattle.pbx_meaning.specs.Meaning.{shown}
 use Rattle.pbx_meaning.specs.Shape.{declared_of, is_float}
 use Rattle.pbx_meaning.specs.Sound.{IsProper}
 use Rattle.pbx_meaning.specs.declared.shape.Kind.{Kind}
 use Rattle.pbx_meaning.specs.declared.shape.Kind.TheVariants as kind
 use Rattle.pbx_meaning.specs.declared.shape.Shape.{Shape}
-use Rattle.pbx_json_meaning.specs.Types.{message_name}
 use Rattle.pbx_json_meaning.specs.Asked.{Asked, Target, nothing, single, list, map, target}
 use Rattle.pbx_json_meaning.specs.Scalars.{scalar_read}
-use Rattle.pbx_json_meaning.specs.Faults.{leaf, elements, keyed, members, as_leaf, object_opened, message_opened, single_opened, unless_float, opened_as, opened}
+use Rattle.pbx_json_meaning.specs.Forms.{is_object_type, skips_keys, own_read, Own, whole, a_list, a_map}
+use Rattle.pbx_json_meaning.specs.Faults.{leaf, elements, keyed, members, as_leaf, own_opened, object_opened, message_opened, single_opened, unless_float, opened_as, opened}
 use Rattle.pbx_json_meaning.specs.FirstFaults.{FirstHere, FirstAtKey, FirstBelow}
 use Rattle.pbx_json_meaning.specs.declared.kind.JsonKind.{JsonKind}
 use Rattle.pbx_json_meaning.specs.declared.kind.JsonKind.TheVariants as fault
 use Rattle.pbx_json_walk.specs.Opened.{members_in, items_if_none, members_if_none, wrong_kind_of}
-use Rattle.pbx_json_walk.specs.Walk.{Answer, Answers, Part, or_here, here, and_then, answer_map, are_ascending, if_ascending, walk, start, content_found, members_answer, message_answer, as_value, value_answer}
+use Rattle.pbx_json_walk.specs.Walk.{Answer, Answers, Part, or_here, here, and_then, answer_map, are_ascending, if_ascending, walk, start, content_found, members_answer, message_answer, as_value, value_answer, own_answer}
 use Rattle.pbx_json_walk.specs.Walk.{walk_items, list_value, elements_answer, list_answer, walk_entries, no_entries, map_value, entries_answer, map_answer, target_answer, shown_as, answer, answers, items_answers, parts}
 use Rattle.pbx_json_walk_laws.proofs.Trees.{tree_agrees}
 use Rattle.pbx_json_walk_laws.proofs.Faults.{Tells, leaf_clean, walk_tells, walk_map, tells_map, ItemsTell, elements_tell}
@@ -51,32 +51,38 @@ module _ (fh : FirstHere) (fk : FirstAtKey) (fb : FirstBelow) (shape : Shape) (a
       at true e = h e
       at false e = inl refl
 
-  -- a message
-  message_tells : (t : ℕ) (d : Data) (asked : Asked) (ps : List Part) → opened shape allow d asked ≡ message_opened shape allow t d
-      → ((ms : Members) → opened shape allow d asked ≡ Ok (members allow (declared_of shape t) ms) → d ≡ object ms → Tells shape allow d asked (members_answer allow (declared_of shape t) ps ms))
-      → Tells shape allow d asked (message_answer shape allow t d ps)
-  message_tells t d asked ps e h = at (is_well_known (message_name shape t)) d refl e
-    where
-      at : (b : Bool) (x : Data) → d ≡ x
-          → opened shape allow d asked ≡ (if b then Err fault.NotBuilt else object_opened (λ ms. Ok (members allow (declared_of shape t) ms)) x)
-          → Tells shape allow d asked (and_then (or_here (if b then Err fault.NotBuilt else members_in x)) (members_answer allow (declared_of shape t) ps))
-      at true x s f = here_tells Content d asked fault.NotBuilt f
-      at false (object ms) s f = h ms f s
-      at false null s f = here_tells Content d asked fault.WrongKind f
-      at false (boolean b) s f = here_tells Content d asked fault.WrongKind f
-      at false (number n) s f = here_tells Content d asked fault.WrongKind f
-      at false (string x) s f = here_tells Content d asked fault.WrongKind f
-      at false (array ds) s f = here_tells Content d asked fault.WrongKind f
-
   -- the parts of a tree
   record PartsTell (d : Data) (as' : List Answers) (ps : List Part) : Type 0 where
-    messages : (t : ℕ) (asked : Asked) → opened shape allow d asked ≡ message_opened shape allow t d → Tells shape allow d asked (message_answer shape allow t d ps)
+    objects : (t : ℕ) (asked : Asked) → opened shape allow d asked ≡ object_opened (λ ms. Ok (members (skips_keys shape allow t) (declared_of shape t) ms)) d
+        → Tells shape allow d asked (and_then (or_here (members_in d)) (members_answer (skips_keys shape allow t) (declared_of shape t) ps))
     lists : (k : Kind) (asked : Asked) → opened shape allow d asked ≡ opened_as shape allow (list k) d → Tells shape allow d asked (list_answer k d as')
     maps : (kk vk : Kind) (asked : Asked) → opened shape allow d asked ≡ opened_as shape allow (map kk vk) d → Tells shape allow d asked (map_answer kk vk d ps)
 
   module _ (d : Data) (as' : List Answers) (ps : List Part) (tell : PartsTell d as' ps) where
-    value_tells : (k : Kind) (asked : Asked) → opened shape allow d asked ≡ single_opened shape allow k d → Tells shape allow d asked (value_answer shape allow k d ps)
-    value_tells (kind.Message t) asked e = tells_map shape allow d asked as_value (message_answer shape allow t d ps) (tell.messages t asked e)
+    own_tells : (r : Result Own JsonKind) (asked : Asked) → opened shape allow d asked ≡ own_opened r d → Tells shape allow d asked (own_answer shape r d as' ps)
+    own_tells (Err k) asked e = here_tells Content d asked k e
+    own_tells (Ok (whole c)) asked e = leaf_tells d asked c e
+    own_tells (Ok (a_list k wrap)) asked e =
+        tells_map shape allow d asked wrap (answer_map (shown shape false k) (list_answer k d as'))
+        (tells_map shape allow d asked (shown shape false k) (list_answer k d as') (tell.lists k asked e))
+    own_tells (Ok (a_map k wrap)) asked e =
+        tells_map shape allow d asked wrap (answer_map (shown shape false k) (map_answer kind.String k d ps))
+        (tells_map shape allow d asked (shown shape false k) (map_answer kind.String k d ps) (tell.maps kind.String k asked e))
+
+    message_tells : (t : ℕ) (asked : Asked) → opened shape allow d asked ≡ message_opened shape allow t d → Tells shape allow d asked (message_answer shape allow t d as' ps)
+    message_tells t asked e = by (is_object_type shape t) e
+      where
+        by : (b : Bool)
+            → opened shape allow d asked
+            ≡ (if b then object_opened (λ ms. Ok (members (skips_keys shape allow t) (declared_of shape t) ms)) d else own_opened (own_read shape allow t d) d)
+            → Tells shape allow d asked
+            (if b then and_then (or_here (members_in d)) (members_answer (skips_keys shape allow t) (declared_of shape t) ps)
+            else own_answer shape (own_read shape allow t d) d as' ps)
+        by true f = tell.objects t asked f
+        by false f = own_tells (own_read shape allow t d) asked f
+
+    value_tells : (k : Kind) (asked : Asked) → opened shape allow d asked ≡ single_opened shape allow k d → Tells shape allow d asked (value_answer shape allow k d as' ps)
+    value_tells (kind.Message t) asked e = tells_map shape allow d asked as_value (message_answer shape allow t d as' ps) (message_tells t asked e)
     value_tells kind.Double asked e = scalar_tells d asked (scalar_read shape allow kind.Double d) e
     value_tells kind.Float asked e = scalar_tells d asked (scalar_read shape allow kind.Float d) e
     value_tells kind.Int32 asked e = scalar_tells d asked (scalar_read shape allow kind.Int32 d) e
@@ -121,23 +127,14 @@ module _ (fh : FirstHere) (fk : FirstAtKey) (fb : FirstBelow) (shape : Shape) (a
       at false f = walk_tells fk fb fh shape allow (array (item d ds)) asked (elements k (item d ds)) (answer_map list_value (walk_items k 0 as' [])) f
           (walk_map shape allow (elements k (item d ds)) list_value (walk_items k 0 as' []) (elements_tell shape allow k (item d ds) as' h))
 
-  object_members : (ms : Members) (t : ℕ) → MembersTell shape allow (declared_of shape t) ms ms → (asked : Asked)
-      → opened shape allow (object ms) asked ≡ Ok (members allow (declared_of shape t) ms)
-      → Tells shape allow (object ms) asked (members_answer allow (declared_of shape t) (parts shape allow ms) ms)
-  object_members ms t h asked e =
-      ascending_tells (object ms) asked ms (answer_map content_found (walk allow (declared_of shape t) (parts shape allow ms) start)) (λ ascending.
-      walk_tells fk fb fh shape allow (object ms) asked (members allow (declared_of shape t) ms) (answer_map content_found (walk allow (declared_of shape t) (parts shape allow ms) start)) e
-      (walk_map shape allow (members allow (declared_of shape t) ms) content_found (walk allow (declared_of shape t) (parts shape allow ms) start)
-      (members_tell shape allow (declared_of shape t) ms ascending h)))
-
-  object_messages : (ms : Members) → ((t : ℕ) → MembersTell shape allow (declared_of shape t) ms ms) → (t : ℕ) (asked : Asked)
-      → opened shape allow (object ms) asked ≡ message_opened shape allow t (object ms) → Tells shape allow (object ms) asked (message_answer shape allow t (object ms) (parts shape allow ms))
-  object_messages ms h t asked e = at (is_well_known (message_name shape t)) e
-    where
-      at : (b : Bool) → opened shape allow (object ms) asked ≡ (if b then Err fault.NotBuilt else Ok (members allow (declared_of shape t) ms))
-          → Tells shape allow (object ms) asked (and_then (or_here (if b then Err fault.NotBuilt else Ok ms)) (members_answer allow (declared_of shape t) (parts shape allow ms)))
-      at true f = here_tells Content (object ms) asked fault.NotBuilt f
-      at false f = object_members ms t (h t) asked f
+  object_members : (ms : Members) (skips : Bool) (t : ℕ) → MembersTell shape allow skips (declared_of shape t) ms ms → (asked : Asked)
+      → opened shape allow (object ms) asked ≡ Ok (members skips (declared_of shape t) ms)
+      → Tells shape allow (object ms) asked (members_answer skips (declared_of shape t) (parts shape allow ms) ms)
+  object_members ms skips t h asked e =
+      ascending_tells (object ms) asked ms (answer_map content_found (walk skips (declared_of shape t) (parts shape allow ms) start)) (λ ascending.
+      walk_tells fk fb fh shape allow (object ms) asked (members skips (declared_of shape t) ms) (answer_map content_found (walk skips (declared_of shape t) (parts shape allow ms) start)) e
+      (walk_map shape allow (members skips (declared_of shape t) ms) content_found (walk skips (declared_of shape t) (parts shape allow ms) start)
+      (members_tell shape allow skips (declared_of shape t) ms ascending h)))
 
   object_maps : (ms : Members) → ((kk vk : Kind) → EntriesTell shape allow kk vk ms ms) → (kk vk : Kind) (asked : Asked)
       → opened shape allow (object ms) asked ≡ opened_as shape allow (map kk vk) (object ms) → Tells shape allow (object ms) asked (map_answer kk vk (object ms) (parts shape allow ms))
@@ -161,32 +158,32 @@ module _ (fh : FirstHere) (fk : FirstAtKey) (fb : FirstBelow) (shape : Shape) (a
   mutual
     pub tree_tells : (d : Data) (asked : Asked) → Tells shape allow d asked (answers shape allow d asked)
     tree_tells null = node null [] [] (record {
-      messages = λ t asked e. message_tells t null asked [] e (λ ms f s. absurd (cc));
+      objects = λ t asked e. here_tells Content null asked fault.WrongKind e;
       lists = λ k asked e. wrong_tells (Option Val) null asked k e;
       maps = λ kk vk asked e. wrong_tells (Option Val) null asked vk e;
     })
     tree_tells (boolean b) = node (boolean b) [] [] (record {
-      messages = λ t asked e. message_tells t (boolean b) asked [] e (λ ms f s. absurd (cc));
+      objects = λ t asked e. here_tells Content (boolean b) asked fault.WrongKind e;
       lists = λ k asked e. wrong_tells (Option Val) (boolean b) asked k e;
       maps = λ kk vk asked e. wrong_tells (Option Val) (boolean b) asked vk e;
     })
     tree_tells (number n) = node (number n) [] [] (record {
-      messages = λ t asked e. message_tells t (number n) asked [] e (λ ms f s. absurd (cc));
+      objects = λ t asked e. here_tells Content (number n) asked fault.WrongKind e;
       lists = λ k asked e. wrong_tells (Option Val) (number n) asked k e;
       maps = λ kk vk asked e. wrong_tells (Option Val) (number n) asked vk e;
     })
     tree_tells (string x) = node (string x) [] [] (record {
-      messages = λ t asked e. message_tells t (string x) asked [] e (λ ms f s. absurd (cc));
+      objects = λ t asked e. here_tells Content (string x) asked fault.WrongKind e;
       lists = λ k asked e. wrong_tells (Option Val) (string x) asked k e;
       maps = λ kk vk asked e. wrong_tells (Option Val) (string x) asked vk e;
     })
     tree_tells (array ds) = node (array ds) (items_answers shape allow ds) [] (record {
-      messages = λ t asked e. message_tells t (array ds) asked [] e (λ ms f s. absurd (cc));
+      objects = λ t asked e. here_tells Content (array ds) asked fault.WrongKind e;
       lists = array_lists ds (items_answers shape allow ds) (all_items ds);
       maps = λ kk vk asked e. wrong_tells (Option Val) (array ds) asked vk e;
     })
     tree_tells (object ms) = node (object ms) [] (parts shape allow ms) (record {
-      messages = object_messages ms (λ t. all_members t ms);
+      objects = λ t asked e. object_members ms (skips_keys shape allow t) t (all_members t ms) asked e;
       lists = λ k asked e. wrong_tells (Option Val) (object ms) asked k e;
       maps = object_maps ms (λ kk vk. all_entries kk vk ms);
     })
@@ -195,7 +192,7 @@ module _ (fh : FirstHere) (fk : FirstAtKey) (fb : FirstBelow) (shape : Shape) (a
     all_items no_items = tt
     all_items (item d ds) = (tree_tells d, all_items ds)
 
-    all_members : (t : ℕ) (ms : Members) → MembersTell shape allow (declared_of shape t) ms ms
+    all_members : (t : ℕ) (ms : Members) → MembersTell shape allow (skips_keys shape allow t) (declared_of shape t) ms ms
     all_members t no_members = tt
     all_members t (member k d ms) = (tree_agrees shape allow proper d, tree_tells d, all_members t ms)
 

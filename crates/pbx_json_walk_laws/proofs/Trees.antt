@@ -1,13 +1,12 @@
 -- What is answered for a tree agrees with what it says.
-use Rattle.std.proofs.Common.{◌≡◌, ◌∙◌, ℕ, ◌&&◌, List, [], ◌++◌, Bool, true, false, if◌then◌else◌, Option, Some, None, option_map, Ok, Err, refl, ap, sym, subst, inl, inr}
+use Rattle.std.proofs.Common.{◌≡◌, ◌∙◌, ℕ, ◌&&◌, List, [], ◌++◌, Bool, true, false, if◌then◌else◌, Option, Some, None, option_map, Result, Ok, Err, refl, ap, sym, subst, inl, inr}
 use Rattle.std.specs.Ordering.{nat_cmp, is_lt}
 use Rattle.std.specs.Cmp.Lexicographic.{slice_cmp}
 use Rattle.std.specs.declared.cmp.Ordering.{Ordering}
 use Rattle.std.specs.declared.cmp.Ordering.TheVariants.{Less, Equal, Greater}
 use Rattle.serde_json.specs.Data.{Data, null, boolean, number, string, array, object, Items, no_items, item, Members, no_members, member}
-use Rattle.pbx_wkt.specs.Names.{is_well_known}
 use Rattle.pbx_meaning.specs.Content as content
-use Rattle.pbx_meaning.specs.Content.{Val, Content, no_vals, no_pairs, vals_of}
+use Rattle.pbx_meaning.specs.Content.{Val, Content, vals_of}
 use Rattle.pbx_meaning.specs.Meaning.{shown}
 use Rattle.pbx_meaning.specs.Shape.{declared_of, is_float}
 use Rattle.pbx_meaning.specs.Sound.{IsProper}
@@ -17,24 +16,20 @@ use Rattle.pbx_meaning.specs.declared.shape.Cardinality.{Cardinality}
 use Rattle.pbx_meaning.specs.declared.shape.Cardinality.TheVariants.{Singular, Repeated, Map}
 use Rattle.pbx_meaning.specs.declared.shape.Shape.{Shape}
 use Rattle.pbx_meaning.specs.declared.shape.FieldShape.{FieldShape}
-use Rattle.pbx_json_meaning.specs.Types.{message_name}
+use Rattle.pbx_json_meaning.specs.Forms.{is_object_type, skips_keys, own_read, Own, whole, a_list, a_map}
 use Rattle.pbx_json_meaning.specs.Asked.{Asked, field, one, Target, nothing, single, list, map, field_target, null_target, target_by, reads_null, has_presence, presence_by}
 use Rattle.pbx_json_meaning.specs.Scalars.{scalar_read}
-use Rattle.pbx_json_meaning.specs.Stands.{Says, Entry, Reading, ok_of, all_read, present, elements_read, entries_read, object_of, message_of, message_as, value_as, list_as, map_as, read_as, read, shown_for, said, items_said, entries_said}
+use Rattle.pbx_json_meaning.specs.Stands.{Says, Entry, Reading, own_as, ok_of, all_read, present, elements_read, entries_read, object_of, message_of, message_as, value_as, list_as, map_as, read_as, read, shown_for, said, items_said, entries_said}
 use Rattle.pbx_json_meaning.specs.declared.kind.JsonKind.{JsonKind}
 use Rattle.pbx_json_meaning.specs.declared.kind.JsonKind.TheVariants as fault
 use Rattle.pbx_json_walk.specs.Opened.{members_in, items_if_none, members_if_none, wrong_kind_of}
-use Rattle.pbx_json_walk.specs.Walk.{Answer, Answers, Part, or_here, here, and_then, answer_map, are_above, are_ascending, if_ascending, members_answer, message_answer, as_value, value_answer}
+use Rattle.pbx_json_walk.specs.Walk.{Answer, Answers, Part, or_here, here, and_then, answer_map, are_above, are_ascending, if_ascending, members_answer, message_answer, as_value, value_answer, own_answer}
 use Rattle.pbx_json_walk.specs.Walk.{walk_items, list_value, elements_answer, list_answer, entries_answer, map_answer, target_answer, shown_as, answer, answers, items_answers, parts}
 use Rattle.pbx_json_walk_laws.proofs.Agree.{Agrees, AgreeAll, along, map_agrees, here_agrees, items_agree}
 use Rattle.pbx_json_walk_laws.proofs.Walked.{AgreeParts, message_agrees}
 use Rattle.pbx_json_walk_laws.proofs.Maps.{AboveParts, AscendingParts, entries_agree}
 
 -- ---- messages
-
-if_agrees : {X : Type 0} (b : Bool) (k : JsonKind) (r : Option X) (a : Answer X) → Agrees r a → Agrees (if b then None else r) (if b then here k else a)
-if_agrees true k r a h = inr refl
-if_agrees false k r a h = h
 
 ascending_agrees : {X : Type 0} (ms : Members) (r : Option X) (a : Answer X) → (are_ascending ms ≡ true → Agrees r a) → Agrees r (if_ascending ms a)
 ascending_agrees {X} ms r a h = at (are_ascending ms) refl
@@ -44,47 +39,9 @@ ascending_agrees {X} ms r a h = at (are_ascending ms) refl
     at false e = inl refl
 
 module _ (shape : Shape) (allow : Bool) (proper : IsProper shape) where
-  members_agree : (t : ℕ) (ms : Members) (es : List Entry) (ps : List Part) → AgreeParts es ps
-      → Agrees (message_of allow (declared_of shape t) es) (members_answer allow (declared_of shape t) ps ms)
-  members_agree t ms es ps h = ascending_agrees ms _ _ (λ e. message_agrees allow (declared_of shape t) (proper.types t).distinct es ps h)
-
-  message_agree : (t : ℕ) (d : Data) (es : List Entry) (ps : List Part) → AgreeParts es ps → Agrees (message_as shape allow t d es) (message_answer shape allow t d ps)
-  message_agree t d es ps h = at (is_well_known (message_name shape t)) d
-    where
-      at : (b : Bool) (x : Data)
-          → Agrees (if b then None else object_of (message_of allow (declared_of shape t)) x es)
-          (and_then (or_here (if b then Err fault.NotBuilt else members_in x)) (members_answer allow (declared_of shape t) ps))
-      at true x = inr refl
-      at false (object ms) = members_agree t ms es ps h
-      at false null = inr refl
-      at false (boolean b) = inr refl
-      at false (number n) = inr refl
-      at false (string s) = inr refl
-      at false (array ds) = inr refl
-
-  -- ---- one value
-
-  scalar_agree : (k : Kind) (d : Data) → Agrees (ok_of (scalar_read shape allow k d)) (or_here (scalar_read shape allow k d))
-  scalar_agree k d = here_agrees (scalar_read shape allow k d)
-
-  value_agree : (k : Kind) (d : Data) (es : List Entry) (ps : List Part) → AgreeParts es ps → Agrees (value_as shape allow k d es) (value_answer shape allow k d ps)
-  value_agree (kind.Message t) d es ps h = map_agrees as_value (message_as shape allow t d es) (message_answer shape allow t d ps) (message_agree t d es ps h)
-  value_agree kind.Double d es ps h = scalar_agree kind.Double d
-  value_agree kind.Float d es ps h = scalar_agree kind.Float d
-  value_agree kind.Int32 d es ps h = scalar_agree kind.Int32 d
-  value_agree kind.Int64 d es ps h = scalar_agree kind.Int64 d
-  value_agree kind.Uint32 d es ps h = scalar_agree kind.Uint32 d
-  value_agree kind.Uint64 d es ps h = scalar_agree kind.Uint64 d
-  value_agree kind.Sint32 d es ps h = scalar_agree kind.Sint32 d
-  value_agree kind.Sint64 d es ps h = scalar_agree kind.Sint64 d
-  value_agree kind.Fixed32 d es ps h = scalar_agree kind.Fixed32 d
-  value_agree kind.Fixed64 d es ps h = scalar_agree kind.Fixed64 d
-  value_agree kind.Sfixed32 d es ps h = scalar_agree kind.Sfixed32 d
-  value_agree kind.Sfixed64 d es ps h = scalar_agree kind.Sfixed64 d
-  value_agree kind.Bool d es ps h = scalar_agree kind.Bool d
-  value_agree kind.String d es ps h = scalar_agree kind.String d
-  value_agree kind.Bytes d es ps h = scalar_agree kind.Bytes d
-  value_agree (kind.Enum e) d es ps h = scalar_agree (kind.Enum e) d
+  members_agree : (skips : Bool) (t : ℕ) (ms : Members) (es : List Entry) (ps : List Part) → AgreeParts es ps
+      → Agrees (message_of skips (declared_of shape t) es) (members_answer skips (declared_of shape t) ps ms)
+  members_agree skips t ms es ps h = ascending_agrees ms _ _ (λ e. message_agrees skips (declared_of shape t) (proper.types t).distinct es ps h)
 
   -- ---- lists and maps
 
@@ -200,6 +157,53 @@ module _ (shape : Shape) (allow : Bool) (proper : IsProper shape) where
 
   module _ (d : Data) (items : List Says) (as' : List Answers) (es : List Entry) (ps : List Part) (agree : AgreeParts es ps)
       (lists : (k vk : Kind) → Shown k (list_as vk d items) (list_answer vk d as')) (maps : (k kk vk : Kind) → Shown k (map_as kk vk d es) (map_answer kk vk d ps)) where
+    own_agree : (r : Result Own JsonKind) → Agrees (own_as shape r d items es) (own_answer shape r d as' ps)
+    own_agree (Err k) = inr refl
+    own_agree (Ok (whole c)) = refl
+    own_agree (Ok (a_list k wrap)) = map_agrees wrap _ _ (lists k k)
+    own_agree (Ok (a_map k wrap)) = map_agrees wrap _ _ (maps k kind.String k)
+
+    message_agree : (t : ℕ) → Agrees (message_as shape allow t d items es) (message_answer shape allow t d as' ps)
+    message_agree t = by (is_object_type shape t)
+      where
+        at : (skips : Bool) (x : Data)
+            → Agrees (object_of (message_of skips (declared_of shape t)) x es) (and_then (or_here (members_in x)) (members_answer skips (declared_of shape t) ps))
+        at skips (object ms) = members_agree skips t ms es ps agree
+        at skips null = inr refl
+        at skips (boolean b) = inr refl
+        at skips (number n) = inr refl
+        at skips (string s) = inr refl
+        at skips (array ds) = inr refl
+
+        by : (b : Bool)
+            → Agrees (if b then object_of (message_of (skips_keys shape allow t) (declared_of shape t)) d es else own_as shape (own_read shape allow t d) d items es)
+            (if b then and_then (or_here (members_in d)) (members_answer (skips_keys shape allow t) (declared_of shape t) ps)
+            else own_answer shape (own_read shape allow t d) d as' ps)
+        by true = at (skips_keys shape allow t) d
+        by false = own_agree (own_read shape allow t d)
+
+    scalar_agree : (k : Kind) → Agrees (ok_of (scalar_read shape allow k d)) (or_here (scalar_read shape allow k d))
+    scalar_agree k = here_agrees (scalar_read shape allow k d)
+
+    value_agree : (k : Kind) → Agrees (value_as shape allow k d items es) (value_answer shape allow k d as' ps)
+    value_agree (kind.Message t) = map_agrees as_value (message_as shape allow t d items es) (message_answer shape allow t d as' ps) (message_agree t)
+    value_agree kind.Double = scalar_agree kind.Double
+    value_agree kind.Float = scalar_agree kind.Float
+    value_agree kind.Int32 = scalar_agree kind.Int32
+    value_agree kind.Int64 = scalar_agree kind.Int64
+    value_agree kind.Uint32 = scalar_agree kind.Uint32
+    value_agree kind.Uint64 = scalar_agree kind.Uint64
+    value_agree kind.Sint32 = scalar_agree kind.Sint32
+    value_agree kind.Sint64 = scalar_agree kind.Sint64
+    value_agree kind.Fixed32 = scalar_agree kind.Fixed32
+    value_agree kind.Fixed64 = scalar_agree kind.Fixed64
+    value_agree kind.Sfixed32 = scalar_agree kind.Sfixed32
+    value_agree kind.Sfixed64 = scalar_agree kind.Sfixed64
+    value_agree kind.Bool = scalar_agree kind.Bool
+    value_agree kind.String = scalar_agree kind.String
+    value_agree kind.Bytes = scalar_agree kind.Bytes
+    value_agree (kind.Enum e) = scalar_agree (kind.Enum e)
+
     by_presence : (f : FieldShape) (r : Reading) (a : Answer (Option Val)) → has_presence f ≡ false → Shown f.kind r a
         → Agrees (shown_for shape (field f) r) (answer_map (shown_as shape (field f)) a)
     by_presence f r a e h = subst (λ p. Agrees (option_map (shown shape p f.kind) r) (answer_map (shown shape p f.kind) a)) (sym e) h
@@ -207,13 +211,13 @@ module _ (shape : Shape) (allow : Bool) (proper : IsProper shape) where
     field_agree : (t : Target) (f : FieldShape) → Fits t f
         → Agrees (shown_for shape (field f) (read_as shape allow t d items es)) (answer_map (shown_as shape (field f)) (target_answer shape allow t d as' ps))
     field_agree nothing f h = refl
-    field_agree (single k) f h = map_agrees (shown shape (has_presence f) f.kind) (value_as shape allow k d es) (value_answer shape allow k d ps) (value_agree k d es ps agree)
+    field_agree (single k) f h = map_agrees (shown shape (has_presence f) f.kind) (value_as shape allow k d items es) (value_answer shape allow k d as' ps) (value_agree k)
     field_agree (list k) f h = by_presence f (list_as k d items) (list_answer k d as') h (lists f.kind k)
     field_agree (map kk vk) f h = by_presence f (map_as kk vk d es) (map_answer kk vk d ps) h (maps f.kind kk vk)
 
     node : (asked : Asked) → Agrees (read shape allow d items es asked) (answer shape allow d as' ps asked)
     node (field f) = field_agree (field_target shape d f) f (target_fits d f)
-    node (one k) = own_value (value_as shape allow k d es) (value_answer shape allow k d ps) (value_agree k d es ps agree) k
+    node (one k) = own_value (value_as shape allow k d items es) (value_answer shape allow k d as' ps) (value_agree k) k
 
   lists_agree : (ds : Items) → AgreeAll (items_said shape allow ds) (items_answers shape allow ds) → (k vk : Kind)
       → Shown k (list_as vk (array ds) (items_said shape allow ds)) (list_answer vk (array ds) (items_answers shape allow ds))

@@ -7,7 +7,7 @@ use Rattle.pbx_meaning.specs.declared.shape.Shape.{Shape}
 use Rattle.pbx_json_meaning.specs.Stands.{Stands, content_for}
 use Rattle.pbx_json_meaning.specs.Faults.{FirstJsonFault}
 use Rattle.pbx_json_meaning.specs.declared.kind.JsonKind.TheVariants as fault
-use Rattle.pbx_json_walk.specs.Walk.{Answer, message_answer, parts_in}
+use Rattle.pbx_json_walk.specs.Walk.{Answer, message_answer, elements_in, parts_in}
 
 -- the answer is what the tree stands for; for the tree of a fault nothing stands, and an answer of no memory says nothing
 abbrev pub IsTold : Shape → ℕ → Bool → Data → Answer Content → Type 0
@@ -17,7 +17,7 @@ IsTold shape t allow d (Err e) = (e.kind ≡ fault.NoMemory) ⊎ (content_for sh
 -- What is answered for a message is what its tree stands for.
 abbrev pub MessageIsTold : Type 0
 MessageIsTold =
-    (shape : Shape) (t : ℕ) (allow : Bool) (d : Data) → IsProper shape → IsTold shape t allow d (message_answer shape allow t d (parts_in shape allow d))
+    (shape : Shape) (t : ℕ) (allow : Bool) (d : Data) → IsProper shape → IsTold shape t allow d (message_answer shape allow t d (elements_in shape allow d) (parts_in shape allow d))
 
 -- a fault that is answered is the first of the tree
 abbrev pub IsFirstFault : Shape → ℕ → Bool → Data → Answer Content → Type 0
@@ -27,4 +27,4 @@ IsFirstFault shape t allow d (Err e) = (e.kind ≡ fault.NoMemory) ⊎ FirstJson
 -- The fault that is answered for a message is the first of its tree.
 abbrev pub FaultIsFirst : Type 0
 FaultIsFirst =
-    (shape : Shape) (t : ℕ) (allow : Bool) (d : Data) → IsProper shape → IsFirstFault shape t allow d (message_answer shape allow t d (parts_in shape allow d))
+    (shape : Shape) (t : ℕ) (allow : Bool) (d : Data) → IsProper shape → IsFirstFault shape t allow d (message_answer shape allow t d (elements_in shape allow d) (parts_in shape allow d))
