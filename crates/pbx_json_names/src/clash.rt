@@ -1,6 +1,6 @@
 ghost use Rattle.std.specs.Prelude.{◌≡◌, ◌⊎◌, Some, None, true, false, IfOk, IfErr, OnOk, option_map, length};
 ghost use Rattle.std.specs.BTreeMap.{get_by_text};
-ghost use Rattle.pbx_json_meaning.specs.Clash.{lesser_key as lesser_key_of, clashing_key as clashing_key_of, name_fault};
+ghost use Rattle.pbx_json_meaning.specs.Clash.{lesser_key as lesser_key_of, clashing_key as clashing_key_of, first_clash as first_clash_of};
 ghost use Rattle.pbx_json_meaning.specs.declared.names_fault.NameFault.TheVariants as fault;
 ghost use Rattle.pbx_json_names.specs.Uses.{is_clashing as is_clashing_of, least_with};
 
@@ -68,12 +68,9 @@ fn key_fault(alloc: Global, message: &MessageShape, key: &str) -> NameFault
 }
 
 /// The first message of the schema with a key that has two meanings, and its least such key.
-///
-/// A key has two meanings where two fields of the message share it as their JSON name, where an extension of the message
-/// has it, and where it is `@type`, the key of an `Any`'s type.
-pub fn first_clash(alloc: Global, schema: &Schema) -> Result<(), NameFault>
-    ensures ok { OnOk result (name_fault false schema.now ≡ None) }
-    ensures err { IfErr result (λ e. (e ≡ fault.NoMemory) ⊎ (name_fault false schema.now ≡ Some e)) }
+pub(crate) fn first_clash(alloc: Global, schema: &Schema) -> Result<(), NameFault>
+    ensures ok { OnOk result (first_clash_of false schema.now.messages ≡ None) }
+    ensures err { IfErr result (λ e. (e ≡ fault.NoMemory) ⊎ (first_clash_of false schema.now.messages ≡ Some e)) }
 {
     for message in schema.shape().messages.as_slice() {
         match clashing_key(alloc, message.fields.as_slice()) {

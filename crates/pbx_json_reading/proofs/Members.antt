@@ -19,16 +19,16 @@ use Rattle.std.proofs.lemmas.Map.Keys.{sorted_head, sorted_tail}
 use Rattle.serde_json.specs.Data.{Data, null, boolean, number, string, array, object, Members, no_members, member}
 use Rattle.serde_json.specs.View.{members_view}
 use Rattle.serde_json.specs.declared.value.Value.{Value}
-use Rattle.pbx_wkt.specs.Names.{is_well_known}
 use Rattle.pbx_meaning.specs.Content.{Content}
-use Rattle.pbx_meaning.specs.Shape.{declared_of, is_float}
+use Rattle.pbx_meaning.specs.Shape.{is_float}
 use Rattle.pbx_meaning.specs.declared.shape.Kind.{Kind}
 use Rattle.pbx_meaning.specs.declared.shape.Shape.{Shape}
-use Rattle.pbx_json_meaning.specs.Types.{message_name}
 use Rattle.std.proofs.Common.{if◌then◌else◌}
-use Rattle.pbx_json_meaning.specs.declared.kind.JsonKind.TheVariants.{NotBuilt, NoMemory}
-use Rattle.pbx_json_walk.specs.Opened.{members_of_message, members_of_map, members_if_none, members_in}
-use Rattle.pbx_json_walk.specs.Walk.{Answer, answer_map, and_then, or_here, are_ascending, members_answer, message_answer, content_found, walk, start, parts, parts_in}
+use Rattle.pbx_json_meaning.specs.declared.kind.JsonKind.TheVariants.{NoMemory}
+use Rattle.pbx_json_walk.specs.Opened.{members_of_map, members_if_none, members_in}
+use Rattle.pbx_json_walk.specs.Walk.{Answer, answer_map, and_then, or_here, are_ascending, members_answer, message_answer, content_found, walk, start, parts, elements_in, parts_in}
+use Rattle.pbx_meaning.specs.declared.shape.FieldShape.{FieldShape}
+use Rattle.pbx_json_reading.specs.Objects.{object_answer}
 use Rattle.pbx_json_walk.specs.Walk.{map_answer, map_value, walk_entries, no_entries, entries_answer}
 
 above_from_sorted : (k : String Global) (v : Value) (ms : List (String Global × Value)) → IsStrictlySortedBy string_cmp (keys_of ((k, v) ∷ ms))
@@ -45,25 +45,21 @@ pub ascending : (ms : List (String Global × Value)) → IsStrictlySortedBy stri
 ascending [] h = refl
 ascending (m ∷ ms) h = above_from_sorted m.0 m.1 ms h
 
--- the object that is read as a message
-message_object : (shape : Shape) (allow : Bool) (t : ℕ) (d : Data) (ms : Members) → Ok ms ≡ members_of_message shape t d → parts_in shape allow d ≡ parts shape allow ms
-message_object shape allow t d ms h = at (is_well_known (message_name shape t)) d h
-  where
-    at : (b : Bool) (x : Data) → Ok ms ≡ (if b then Err NotBuilt else members_in x) → parts_in shape allow x ≡ parts shape allow ms
-    at true x e = absurd (cc)
-    at false (object ns) e = let same : ns ≡ ms = cc in ap (parts shape allow) same
-    at false null e = absurd (cc)
-    at false (boolean b) e = absurd (cc)
-    at false (number n) e = absurd (cc)
-    at false (string s) e = absurd (cc)
-    at false (array ds) e = absurd (cc)
+-- an object of fields
+object_parts : (shape : Shape) (allow : Bool) (d : Data) (ms : Members) → Ok ms ≡ members_in d → parts_in shape allow d ≡ parts shape allow ms
+object_parts shape allow (object ns) ms e = let same : ns ≡ ms = cc in ap (parts shape allow) same
+object_parts shape allow null ms e = absurd (cc)
+object_parts shape allow (boolean b) ms e = absurd (cc)
+object_parts shape allow (number n) ms e = absurd (cc)
+object_parts shape allow (string s) ms e = absurd (cc)
+object_parts shape allow (array ds) ms e = absurd (cc)
 
-pub message_walk : (shape : Shape) (allow : Bool) (t : ℕ) (d : Data) (ms : List (String Global × Value)) → IsStrictlySortedBy string_cmp (keys_of ms)
-    → Ok (members_view ms) ≡ members_of_message shape t d
-    → message_answer shape allow t d (parts_in shape allow d) ≡ answer_map content_found (walk allow (declared_of shape t) (parts shape allow (members_view ms)) start)
-message_walk shape allow t d ms sorted h =
-    ap (λ r. and_then (or_here r) (members_answer allow (declared_of shape t) (parts_in shape allow d))) (sym h)
-    ∙ ap (λ ps. members_answer allow (declared_of shape t) ps (members_view ms)) (message_object shape allow t d (members_view ms) h)
+pub object_walk : (shape : Shape) (allow skip : Bool) (fs : List FieldShape) (d : Data) (ms : List (String Global × Value)) → IsStrictlySortedBy string_cmp (keys_of ms)
+    → Ok (members_view ms) ≡ members_in d
+    → object_answer skip fs d (parts_in shape allow d) ≡ answer_map content_found (walk skip fs (parts shape allow (members_view ms)) start)
+object_walk shape allow skip fs d ms sorted h =
+    ap (λ r. and_then (or_here r) (members_answer skip fs (parts_in shape allow d))) (sym h)
+    ∙ ap (λ ps. members_answer skip fs ps (members_view ms)) (object_parts shape allow d (members_view ms) h)
     ∙ rw (ascending ms sorted) refl
 
 -- the object that is read as a map
@@ -101,29 +97,29 @@ on_if_ok (Err e) P Q f h = tt
 -- ---- what the answers tell
 
 module _ (told : MessageIsTold) (shape : Shape) (t : ℕ) (allow : Bool) (d : Data) (proper : IsProper shape) where
-  is_told : (a : Answer Content) → message_answer shape allow t d (parts_in shape allow d) ≡ a → IsTold shape t allow d a
+  is_told : (a : Answer Content) → message_answer shape allow t d (elements_in shape allow d) (parts_in shape allow d) ≡ a → IsTold shape t allow d a
   is_told a e = subst (λ b. IsTold shape t allow d b) e (told shape t allow d proper)
 
-  pub told_content : (r : Result Contents JsonError) → IfOk r (λ c. message_answer shape allow t d (parts_in shape allow d) ≡ Ok (content_of c))
+  pub told_content : (r : Result Contents JsonError) → IfOk r (λ c. message_answer shape allow t d (elements_in shape allow d) (parts_in shape allow d) ≡ Ok (content_of c))
       → IfOk r (λ c. Stands shape t allow d (content_of c))
   told_content (Ok c) h = is_told (Ok (content_of c)) h
   told_content (Err e) h = tt
 
-  fault_told : (e : JsonError) → IsFaultOf (message_answer shape allow t d (parts_in shape allow d)) e → (e.kind ≡ NoMemory) ⊎ (content_for shape t allow d ≡ None)
+  fault_told : (e : JsonError) → IsFaultOf (message_answer shape allow t d (elements_in shape allow d) (parts_in shape allow d)) e → (e.kind ≡ NoMemory) ⊎ (content_for shape t allow d ≡ None)
   fault_told e (inl n) = inl n
   fault_told e (inr is) = is_told (Err e) is
 
-  pub told_nothing : (r : Result Contents JsonError) → IfErr r (λ e. IsFaultOf (message_answer shape allow t d (parts_in shape allow d)) e)
+  pub told_nothing : (r : Result Contents JsonError) → IfErr r (λ e. IsFaultOf (message_answer shape allow t d (elements_in shape allow d) (parts_in shape allow d)) e)
       → IfErr r (λ e. (e.kind ≡ NoMemory) ⊎ (content_for shape t allow d ≡ None))
   told_nothing (Ok c) h = tt
   told_nothing (Err e) h = fault_told e h
 
 module _ (first : FaultIsFirst) (shape : Shape) (t : ℕ) (allow : Bool) (d : Data) (proper : IsProper shape) where
-  first_told : (e : JsonError) → IsFaultOf (message_answer shape allow t d (parts_in shape allow d)) e → (e.kind ≡ NoMemory) ⊎ FirstJsonFault shape t allow d e.place e.kind
+  first_told : (e : JsonError) → IsFaultOf (message_answer shape allow t d (elements_in shape allow d) (parts_in shape allow d)) e → (e.kind ≡ NoMemory) ⊎ FirstJsonFault shape t allow d e.place e.kind
   first_told e (inl n) = inl n
   first_told e (inr is) = subst (λ b. IsFirstFault shape t allow d b) is (first shape t allow d proper)
 
-  pub told_first : (r : Result Contents JsonError) → IfErr r (λ e. IsFaultOf (message_answer shape allow t d (parts_in shape allow d)) e)
+  pub told_first : (r : Result Contents JsonError) → IfErr r (λ e. IsFaultOf (message_answer shape allow t d (elements_in shape allow d) (parts_in shape allow d)) e)
       → IfErr r (λ e. (e.kind ≡ NoMemory) ⊎ FirstJsonFault shape t allow d e.place e.kind)
   told_first (Ok c) h = tt
   told_first (Err e) h = first_told e h

@@ -52,8 +52,8 @@ no_values [] e h = refl
 no_values (x ∷ es) zero h = absurd (omega arith)
 no_values (x ∷ es) (suc e) h = no_values es e (omega arith)
 
-pub val_of-Text : (t : Text) → val_of (held.Text t) ≡ text t
-val_of-Text t = search (rules, the_lemmas)
+pub val_of_text : (t : Text) → val_of (held.Text t) ≡ text t
+val_of_text t = search (rules, the_lemmas)
 
 pub val_of_message : (c : Contents) → val_of (held.Message c) ≡ message (content_of c)
 val_of_message c = search (rules, the_lemmas)

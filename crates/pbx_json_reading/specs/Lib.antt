@@ -1,2 +1,4 @@
+pub mod Holders
+pub mod Objects
 pub mod Scalars
 pub mod States

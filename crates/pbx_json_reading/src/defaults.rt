@@ -1,5 +1,5 @@
 // Defaults, which are absent where a field has no presence.
-ghost use Rattle.std.specs.Prelude.{◌≡◌, pos, option_map};
+ghost use Rattle.std.specs.Prelude.{◌≡◌, false, pos, option_map};
 ghost use Rattle.std.specs.Ordering.{int_eq};
 ghost use Rattle.std.specs.Int.{w32};
 ghost use Rattle.std.specs.Int.RustNames.{FitsSigned};
@@ -94,6 +94,20 @@ pub(crate) fn shown(schema: &Schema, field: &FieldShape, held: Option<Held>) -> 
             Some(held)
         } else {
             None
+        },
+        None => None,
+    }
+}
+
+/// The value, unless it is the default of its kind, where nothing has presence.
+pub(crate) fn unless_default(schema: &Schema, kind: Kind, held: Option<Held>) -> Option<Held>
+    ensures { option_map val_of result ≡ shown_of schema.now false kind (option_map val_of held) }
+{
+    match held {
+        Some(held) => if is_default(schema, kind, &held) {
+            None
+        } else {
+            Some(held)
         },
         None => None,
     }

@@ -2,15 +2,14 @@
 ghost use Rattle.std.specs.Prelude.{◌≡◌, true, false};
 ghost use Rattle.serde_json.specs.View.{view, items_view, members_view};
 ghost use Rattle.pbx_meaning.specs.Shape.{is_float as is_float_of};
-ghost use Rattle.pbx_json_meaning.specs.Types.{message_name as message_name_of};
+ghost use Rattle.pbx_wkt.specs.Types.{message_name as message_name_of};
 ghost use Rattle.pbx_json_meaning.specs.Asked.{field_target, target_by, nothing, reads_null as reads_null_of};
-ghost use Rattle.pbx_json_walk.specs.Opened.{reads_null_for, option_members, option_items, members_of_message};
+ghost use Rattle.pbx_json_walk.specs.Opened.{reads_null_for, option_members, option_items, members_in};
 ghost use Rattle.pbx_json_walk.specs.Opened.{items_of_list, members_of_map, items_if_none, members_if_none, wrong_kind_of};
 
 use crate::scalar::is_null_value;
 use pbx_json_meaning::JsonKind;
 use pbx_meaning::{Cardinality, FieldShape, Kind, Schema};
-use pbx_wkt::is_well_known_type;
 use serde_json::{Map, Value};
 
 /// The full name of the message type at a place; a place outside the schema has the empty one.
@@ -64,17 +63,10 @@ pub(crate) fn is_left_out(schema: &Schema, field: &FieldShape, tree: &Value) -> 
     }
 }
 
-/// The members of a tree that is read as a message.
-pub(crate) fn message_members<'t>(
-    schema: &Schema,
-    place: usize,
-    tree: &'t Value,
-) -> Result<&'t Map<String, Value>, JsonKind>
-    ensures { option_members result ≡ members_of_message schema.now place (view tree.now) }
+/// The members of a tree that is read as an object of fields.
+pub(crate) fn object_members(tree: &Value) -> Result<&Map<String, Value>, JsonKind>
+    ensures { option_members result ≡ members_in (view tree.now) }
 {
-    if is_well_known_type(message_name(schema, place)) {
-        return Err(JsonKind::NotBuilt);
-    }
     match tree {
         Value::Object(members) => Ok(members),
         _ => Err(JsonKind::WrongKind),

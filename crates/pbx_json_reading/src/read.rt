@@ -10,14 +10,19 @@ ghost use Rattle.pbx_json_meaning.specs.declared.kind.JsonKind.TheVariants.{NoMe
 ghost use Rattle.pbx_json_meaning.specs.declared.place.Step.TheVariants.{Key as to_key};
 ghost use Rattle.pbx_field_names.specs.Index.{AreNamesIn};
 ghost use Rattle.pbx_json_walk.specs.Walk.{IsFaultOf, answers, at_step, key_judged, noted};
-ghost use Rattle.pbx_json_walk.specs.Walk.{turn, message_answer, value_answer, list_answer, map_answer, target_answer};
+ghost use Rattle.pbx_json_walk.specs.Walk.{turn, message_answer, own_answer, value_answer, list_answer, map_answer, target_answer};
 ghost use Rattle.pbx_json_walk.specs.Walk.{parts_in, elements_in, entry_key, entry_turn, item_turn, with_present, with_entry, map_value};
 ghost use Rattle.pbx_json_reading.specs.States.{state_of, entries_of};
+ghost use Rattle.pbx_json_reading.specs.Objects.{object_answer};
+ghost use Rattle.pbx_json_reading.specs.Holders.{own_of};
+ghost use Rattle.pbx_json_reading.specs.declared.holders.Own.TheVariants.{Elements, Members};
 
 use crate::defaults::shown;
 use crate::entries::MapEntries;
 use crate::fault::{at_key, at_tree, below_index, below_key};
-use crate::opened::{is_left_out, list_items, map_members, message_members};
+use crate::forms::{is_object_form, kind_at, read_own, skips_keys};
+use crate::holders::{Holder, Own, hold};
+use crate::opened::{is_left_out, list_items, map_members, object_members};
 use crate::scalar::{read_key, read_scalar};
 use crate::state::ObjectState;
 use pbx_codec::{Contents, Held, MapKey};
@@ -26,6 +31,7 @@ use pbx_json_meaning::{DeserializeOptions, JsonError, JsonKind};
 use pbx_json_walk_laws::{fault_is_first, message_is_told};
 use pbx_meaning::{Cardinality, FieldShape, Kind, Schema};
 use pbx_wire::List;
+use pbx_wkt::form_of;
 use serde_json::Value;
 use std::alloc::Global;
 
@@ -46,15 +52,16 @@ fn named_field<'s>(
     reading: &Reading<'s>,
     names: &mut SchemaNames,
     place: usize,
+    skips: bool,
     key: &str,
     state: &ObjectState,
 ) -> Result<Option<&'s FieldShape>, JsonKind>
     requires { AreNamesIn reading.now.schema.now names.old }
-    ensures ok { IfOk result (λ found. key_judged reading.now.allow
+    ensures ok { IfOk result (λ found. key_judged skips
         (field_named key.now (declared_of reading.now.schema.now place)) (state_of state.now)
         ≡ Ok (option_map (λ f. f.now) found)) }
     ensures err { IfErr result (λ e. (e ≡ OutOfMemory)
-        ⊎ (key_judged reading.now.allow (field_named key.now (declared_of reading.now.schema.now place)) (state_of state.now) ≡ Err e)) }
+        ⊎ (key_judged skips (field_named key.now (declared_of reading.now.schema.now place)) (state_of state.now) ≡ Err e)) }
     ensures names { AreNamesIn reading.now.schema.now names.new }
 {
     match names.find_field(reading.alloc, reading.schema, place, key) {
@@ -63,7 +70,7 @@ fn named_field<'s>(
         } else {
             Ok(Some(field))
         },
-        Ok(None) => if reading.allow {
+        Ok(None) => if skips {
             Ok(None)
         } else {
             Err(JsonKind::UnknownField)
@@ -156,8 +163,10 @@ fn read_value(
 ) -> Result<Option<Held>, JsonError>
     requires { AreNamesIn reading.now.schema.now names.old }
     ensures ok { IfOk result (λ r. value_answer reading.now.schema.now reading.now.allow kind (view tree.now)
+        (elements_in reading.now.schema.now reading.now.allow (view tree.now))
         (parts_in reading.now.schema.now reading.now.allow (view tree.now)) ≡ Ok (option_map val_of r)) }
     ensures err { IfErr result (λ e. IsFaultOf (value_answer reading.now.schema.now reading.now.allow kind (view tree.now)
+        (elements_in reading.now.schema.now reading.now.allow (view tree.now))
         (parts_in reading.now.schema.now reading.now.allow (view tree.now))) e) }
     ensures names { AreNamesIn reading.now.schema.now names.new }
 {
@@ -191,15 +200,128 @@ fn read_message(
 ) -> Result<Contents, JsonError>
     requires { AreNamesIn reading.now.schema.now names.old }
     ensures ok { IfOk result (λ r. message_answer reading.now.schema.now reading.now.allow place (view tree.now)
+        (elements_in reading.now.schema.now reading.now.allow (view tree.now))
         (parts_in reading.now.schema.now reading.now.allow (view tree.now)) ≡ Ok (content_of r)) }
     ensures err { IfErr result (λ e. IsFaultOf (message_answer reading.now.schema.now reading.now.allow place (view tree.now)
+        (elements_in reading.now.schema.now reading.now.allow (view tree.now))
         (parts_in reading.now.schema.now reading.now.allow (view tree.now))) e) }
     ensures names { AreNamesIn reading.now.schema.now names.new }
 {
     if levels == 0 {
         return Err(at_tree(reading.alloc, JsonKind::NoMemory));
     }
-    let members = match message_members(reading.schema, place, tree) {
+    let form = form_of(reading.schema, place);
+    if is_object_form(form) {
+        let skips = skips_keys(form, reading.allow);
+        return read_object(reading, names, levels - 1, place, skips, tree);
+    }
+    match read_own(
+        reading.alloc,
+        reading.schema,
+        names,
+        reading.allow,
+        form,
+        place,
+        tree,
+    ) {
+        Ok(own) => read_parts(reading, names, levels - 1, own, tree),
+        Err(rule) => Err(at_tree(reading.alloc, rule)),
+    }
+}
+
+/// What a tree is as a message of a form of its own.
+#[cycle(tree)]
+fn read_parts(
+    reading: &Reading<'_>,
+    names: &mut SchemaNames,
+    levels: u32,
+    own: Own,
+    tree: &Value,
+) -> Result<Contents, JsonError>
+    requires { AreNamesIn reading.now.schema.now names.old }
+    ensures ok { IfOk result (λ r. own_answer reading.now.schema.now (Ok (own_of reading.now.schema.now own)) (view tree.now)
+        (elements_in reading.now.schema.now reading.now.allow (view tree.now))
+        (parts_in reading.now.schema.now reading.now.allow (view tree.now)) ≡ Ok (content_of r)) }
+    ensures err { IfErr result (λ e. IsFaultOf (own_answer reading.now.schema.now (Ok (own_of reading.now.schema.now own)) (view tree.now)
+        (elements_in reading.now.schema.now reading.now.allow (view tree.now))
+        (parts_in reading.now.schema.now reading.now.allow (view tree.now))) e) }
+    ensures names { AreNamesIn reading.now.schema.now names.new }
+{
+    match own {
+        Own::Whole(contents) => Ok(contents),
+        Own::Elements(holder) => read_elements(reading, names, levels, holder, tree),
+        Own::Members(holder) => read_members(reading, names, levels, holder, tree),
+    }
+}
+
+/// What a tree is as the elements of a `ListValue`.
+#[cycle(tree)]
+fn read_elements(
+    reading: &Reading<'_>,
+    names: &mut SchemaNames,
+    levels: u32,
+    holder: Holder,
+    tree: &Value,
+) -> Result<Contents, JsonError>
+    requires { AreNamesIn reading.now.schema.now names.old }
+    ensures ok { IfOk result (λ r. own_answer reading.now.schema.now (Ok (own_of reading.now.schema.now (Elements holder))) (view tree.now)
+        (elements_in reading.now.schema.now reading.now.allow (view tree.now))
+        (parts_in reading.now.schema.now reading.now.allow (view tree.now)) ≡ Ok (content_of r)) }
+    ensures err { IfErr result (λ e. IsFaultOf (own_answer reading.now.schema.now (Ok (own_of reading.now.schema.now (Elements holder))) (view tree.now)
+        (elements_in reading.now.schema.now reading.now.allow (view tree.now))
+        (parts_in reading.now.schema.now reading.now.allow (view tree.now))) e) }
+    ensures names { AreNamesIn reading.now.schema.now names.new }
+{
+    let kind = kind_at(reading.schema, holder.place, 1);
+    match read_list(reading, names, levels, kind, tree) {
+        Ok(held) => hold(reading.alloc, reading.schema, kind, holder, held),
+        Err(error) => Err(error),
+    }
+}
+
+/// What a tree is as the members of a `Struct`.
+#[cycle(tree)]
+fn read_members(
+    reading: &Reading<'_>,
+    names: &mut SchemaNames,
+    levels: u32,
+    holder: Holder,
+    tree: &Value,
+) -> Result<Contents, JsonError>
+    requires { AreNamesIn reading.now.schema.now names.old }
+    ensures ok { IfOk result (λ r. own_answer reading.now.schema.now (Ok (own_of reading.now.schema.now (Members holder))) (view tree.now)
+        (elements_in reading.now.schema.now reading.now.allow (view tree.now))
+        (parts_in reading.now.schema.now reading.now.allow (view tree.now)) ≡ Ok (content_of r)) }
+    ensures err { IfErr result (λ e. IsFaultOf (own_answer reading.now.schema.now (Ok (own_of reading.now.schema.now (Members holder))) (view tree.now)
+        (elements_in reading.now.schema.now reading.now.allow (view tree.now))
+        (parts_in reading.now.schema.now reading.now.allow (view tree.now))) e) }
+    ensures names { AreNamesIn reading.now.schema.now names.new }
+{
+    let kind = kind_at(reading.schema, holder.place, 1);
+    match read_map(reading, names, levels, Kind::String, kind, tree) {
+        Ok(held) => hold(reading.alloc, reading.schema, kind, holder, held),
+        Err(error) => Err(error),
+    }
+}
+
+/// What a tree is as an object of the fields of the type at a place, where keys that name none are skipped or not.
+#[cycle(tree)]
+fn read_object(
+    reading: &Reading<'_>,
+    names: &mut SchemaNames,
+    levels: u32,
+    place: usize,
+    skips: bool,
+    tree: &Value,
+) -> Result<Contents, JsonError>
+    requires { AreNamesIn reading.now.schema.now names.old }
+    ensures ok { IfOk result (λ r. object_answer skips (declared_of reading.now.schema.now place) (view tree.now)
+        (parts_in reading.now.schema.now reading.now.allow (view tree.now)) ≡ Ok (content_of r)) }
+    ensures err { IfErr result (λ e. IsFaultOf (object_answer skips (declared_of reading.now.schema.now place) (view tree.now)
+        (parts_in reading.now.schema.now reading.now.allow (view tree.now))) e) }
+    ensures names { AreNamesIn reading.now.schema.now names.new }
+{
+    let members = match object_members(tree) {
         Ok(members) => members,
         Err(rule) => return Err(at_tree(reading.alloc, rule)),
     };
@@ -208,8 +330,9 @@ fn read_message(
         if let Err(error) = read_member(
             reading,
             names,
-            levels - 1,
+            levels,
             place,
+            skips,
             key.as_str(),
             member,
             &mut state,
@@ -228,20 +351,21 @@ fn read_member(
     names: &mut SchemaNames,
     levels: u32,
     place: usize,
+    skips: bool,
     key: &str,
     tree: &Value,
     state: &mut ObjectState,
 ) -> Result<(), JsonError>
     requires { AreNamesIn reading.now.schema.now names.old }
-    ensures ok { OnOk result (at_step (to_key key.now) (turn reading.now.allow
+    ensures ok { OnOk result (at_step (to_key key.now) (turn skips
         (field_named key.now (declared_of reading.now.schema.now place)) (answers reading.now.schema.now reading.now.allow
         (view tree.now)) (state_of state.old)) ≡ Ok (state_of state.new)) }
-    ensures err { IfErr result (λ e. IsFaultOf (at_step (to_key key.now) (turn reading.now.allow
+    ensures err { IfErr result (λ e. IsFaultOf (at_step (to_key key.now) (turn skips
         (field_named key.now (declared_of reading.now.schema.now place)) (answers reading.now.schema.now reading.now.allow
         (view tree.now)) (state_of state.old))) e) }
     ensures names { AreNamesIn reading.now.schema.now names.new }
 {
-    match named_field(reading, names, place, key, state) {
+    match named_field(reading, names, place, skips, key, state) {
         Ok(Some(field)) => match read_field(reading, names, levels, field, tree) {
             Ok(held) => note_at(reading.alloc, key, state, field, held),
             Err(error) => Err(below_key(reading.alloc, key, error)),

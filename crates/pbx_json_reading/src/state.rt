@@ -163,7 +163,7 @@ fn in_order(values: List<(u32, Held)>) -> Result<Vec<(u32, Held)>, NoMemory>
 }
 
 /// The content of these values. Where their numbers ascend, none is moved.
-fn contents_with(alloc: Global, values: List<(u32, Held)>) -> Result<Contents, NoMemory>
+pub(crate) fn contents_with(alloc: Global, values: List<(u32, Held)>) -> Result<Contents, NoMemory>
     ensures { IfOk result (λ contents. content_of contents ≡ content_with values) }
 {
     let fields = NumberMap::from_entries(alloc, in_order(values)?)?;

@@ -10,3 +10,6 @@ pub mod OfFields
 pub mod OfDefaults
 pub mod OfKept
 pub mod OfScalars
+pub mod OfForms
+pub mod ValueRows
+pub mod OfValues

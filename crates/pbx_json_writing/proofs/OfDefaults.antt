@@ -6,14 +6,13 @@ use Rattle.std.specs.Str.{bytes_eq}
 use Rattle.std.proofs.lemmas.List.Elements.{filter-append}
 use Rattle.std.proofs.lemmas.List.Folds.{list_any-append}
 use Rattle.serde_json.specs.Data.{object, Members, no_members}
-use Rattle.pbx_wkt.specs.Names.{is_well_known}
 use Rattle.pbx_meaning.specs.Content.{Content, Fields, message, fields, kept}
 use Rattle.pbx_meaning.specs.Encoding.{type_of}
 use Rattle.pbx_meaning.specs.Shape.{declared_of}
 use Rattle.pbx_meaning.specs.declared.shape.Kind.{Kind}
 use Rattle.pbx_meaning.specs.declared.shape.Shape.{Shape}
 use Rattle.pbx_meaning.specs.declared.shape.FieldShape.{FieldShape}
-use Rattle.pbx_json_meaning.specs.Types.{message_name}
+use Rattle.pbx_json_meaning.specs.Forms.{is_object_type}
 use Rattle.pbx_json_meaning.specs.Asked.{one}
 use Rattle.pbx_json_meaning.specs.Canonical.{Line, tells, keeps_float, default_line, is_written_default, key_of_field, has_key}
 use Rattle.pbx_json_meaning.specs.WriteFaults.{value_keys, written_keys, is_twice}
@@ -87,7 +86,7 @@ module _ (shape : Shape) (o : SerializeOptions) where
   or_back false false h = h
 
   module _ (k : Kind) (c : Content) (ms ns : Members) (first : field_members shape o (declared_of shape (type_of k)) c ≡ Some ms)
-      (plain : is_well_known (message_name shape (type_of k)) ≡ false) (i : ℕ) (g : FieldShape) (within : i < length (declared_of shape (type_of k)))
+      (plain : is_object_type shape (type_of k) ≡ true) (i : ℕ) (g : FieldShape) (within : i < length (declared_of shape (type_of k)))
       (is : g ≡ get_or (declared_of shape (type_of k)) i g) (so : with_lines (default_lines shape o (fields c) (take i (declared_of shape (type_of k)))) (Some ms) ≡ Some ns) where
     -- a second field of one key
     default_twice : is_written_default o (fields c) g ≡ true → has_key (key_of_field o g) ns ≡ true
@@ -118,7 +117,7 @@ module _ (shape : Shape) (o : SerializeOptions) where
         ap (λ xs. value_keys o gs (fields c) ++ map (key_of_field o) xs) listed
         ∙ ap (λ xs. value_keys o gs (fields c) ++ xs) (map-append (key_of_field o) before (g ∷ behind))
         ∙ sym (append_assoc (value_keys o gs (fields c)) (map (key_of_field o) before) (key ∷ map (key_of_field o) behind)) in (
-          message_none shape o k c none,
+          message_none shape o k c plain none,
           λ all. broken_key shape o k c key fault.DuplicateField plain
               (key_is_twice gs key keys (key_twice key (value_keys o gs (fields c) ++ map (key_of_field o) before) key (map (key_of_field o) behind) any refl)),
         )
@@ -133,7 +132,7 @@ module _ (shape : Shape) (o : SerializeOptions) where
 
   -- the same over a list that is that of the type
   pub default_stops_in : (k : Kind) (c : Content) (ms ns : Members) (gs : List FieldShape) → declared_of shape (type_of k) ≡ gs
-      → field_members shape o (declared_of shape (type_of k)) c ≡ Some ms → is_well_known (message_name shape (type_of k)) ≡ false
+      → field_members shape o (declared_of shape (type_of k)) c ≡ Some ms → is_object_type shape (type_of k) ≡ true
       → (i : ℕ) (g : FieldShape) (r : Refusal) → i < length gs → g ≡ get_or gs i g
       → with_lines (default_lines shape o (fields c) (take i gs)) (Some ms) ≡ Some ns → IsDefaultRefused o (fields c) g ns r → Refused shape o (message c) k r
   default_stops_in k c ms ns gs same first plain i g r =
@@ -142,7 +141,7 @@ module _ (shape : Shape) (o : SerializeOptions) where
       (λ within is so h. default_stops k c ms ns first plain i g within is so r h)
 
   -- a message with a tree
-  pub message_made : (k : Kind) (c : Content) (ms ns : Members) → is_well_known (message_name shape (type_of k)) ≡ false
+  pub message_made : (k : Kind) (c : Content) (ms ns : Members) → is_object_type shape (type_of k) ≡ true
       → keeps_float (declared_of shape (type_of k)) (kept c) ≡ false → field_members shape o (declared_of shape (type_of k)) c ≡ Some ms
       → with_lines (default_lines shape o (fields c) (declared_of shape (type_of k))) (Some ms) ≡ Some ns → tells shape o (message c) (one k) ≡ Some (object ns)
   message_made k c ms ns plain whole first rest =

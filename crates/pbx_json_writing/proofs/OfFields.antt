@@ -6,7 +6,6 @@ use Rattle.std.specs.List.{list_any}
 use Rattle.std.specs.Str.{bytes_eq}
 use Rattle.std.proofs.lemmas.Bool.Decides.{nat_tests}
 use Rattle.serde_json.specs.Data.{Data, object, Members, no_members}
-use Rattle.pbx_wkt.specs.Names.{is_well_known}
 use Rattle.pbx_wire.specs.declared.rec.Rec.{Rec}
 use Rattle.pbx_meaning.specs.Content as content
 use Rattle.pbx_meaning.specs.Content.{Content, Fields, no_fields, field as field_of_number, Val, message, fields, kept}
@@ -18,7 +17,7 @@ use Rattle.pbx_meaning.specs.declared.shape.Shape.{Shape}
 use Rattle.pbx_meaning.specs.declared.shape.FieldShape.{FieldShape}
 use Rattle.pbx_codec.specs.View.{val_of, entry_of, fields_in}
 use Rattle.pbx_codec.specs.declared.contents.Held.{Held}
-use Rattle.pbx_json_meaning.specs.Types.{message_name}
+use Rattle.pbx_json_meaning.specs.Forms.{is_object_type}
 use Rattle.pbx_json_meaning.specs.Asked.{Asked, field, one}
 use Rattle.pbx_json_meaning.specs.Canonical.{Line, Told, tells, told_line, fields_tell, lines, keeps_float, key_of_field, has_key}
 use Rattle.pbx_json_meaning.specs.Canonical.{with_line, with_member, members_of_lines, is_written_default}
@@ -78,12 +77,13 @@ parts_of_field shape f (content.message c) = refl
 parts_of_field shape f (content.many vs) = refl
 parts_of_field shape f (content.keyed ps) = refl
 
-same_parts : (shape : Shape) (o : SerializeOptions) (place : List Step) (v : Val) (a b : Asked) (rule : JsonKind) → parts_of shape v a ≡ parts_of shape v b
-    → WriteFaultAt shape o place v a rule → WriteFaultAt shape o place v b rule
-same_parts shape o [] v a b rule same h = sym same ∙ h
-same_parts shape o (step ∷ place) v a b rule same h = rw (← same) h
+-- values of which the same is written below break the same rules
+pub same_parts : (shape : Shape) (o : SerializeOptions) (place : List Step) (v w : Val) (a b : Asked) (rule : JsonKind)
+    → parts_of shape v a ≡ parts_of shape w b → WriteFaultAt shape o place v a rule → WriteFaultAt shape o place w b rule
+same_parts shape o [] v w a b rule same h = sym same ∙ h
+same_parts shape o (step ∷ place) v w a b rule same h = rw (← same) h
 
-holds_field : (shape : Shape) (f : FieldShape) (v : Val) → IsSoundAt shape (Some f) v → Holds shape f.kind v
+pub holds_field : (shape : Shape) (f : FieldShape) (v : Val) → IsSoundAt shape (Some f) v → Holds shape f.kind v
 holds_field shape f (content.number z) h = h.2
 holds_field shape f (content.truth b) h = h.2
 holds_field shape f (content.text s) h = h.2
@@ -135,38 +135,38 @@ module _ (shape : Shape) (o : SerializeOptions) where
       ap (λ ls. members_of_lines (ls ++ default_lines shape o fs gs)) (lines_told gs fs) ∙ collected_is (all_lines gs fs)
 
   -- a message without a tree
-  pub message_none : (k : Kind) (c : Content) → collected (all_lines (declared_of shape (type_of k)) (fields c)) ≡ None → tells shape o (message c) (one k) ≡ None
-  message_none k (content.content fs ks) h = ap message_of (lines_are gs fs ∙ h) ∙ at (is_well_known (message_name shape (type_of k))) (keeps_float gs ks)
+  pub message_none : (k : Kind) (c : Content) → is_object_type shape (type_of k) ≡ true
+      → collected (all_lines (declared_of shape (type_of k)) (fields c)) ≡ None → tells shape o (message c) (one k) ≡ None
+  message_none k (content.content fs ks) plain h = rw plain (ap message_of (lines_are gs fs ∙ h) ∙ at (keeps_float gs ks))
     where
       gs : List FieldShape
       gs = declared_of shape (type_of k)
 
       message_of : Option Members → Option Data
-      message_of r = if is_well_known (message_name shape (type_of k)) then None else (if keeps_float gs ks then None else option_map object r)
+      message_of r = if keeps_float gs ks then None else option_map object r
 
-      at : (a b : Bool) → (if a then None else (if b then None else option_map object None)) ≡ None
-      at true b = refl
-      at false true = refl
-      at false false = refl
+      at : (b : Bool) → (if b then None else option_map object None) ≡ None
+      at true = refl
+      at false = refl
 
   -- a message with a tree
-  pub message_told : (k : Kind) (c : Content) (ms : Members) → is_well_known (message_name shape (type_of k)) ≡ false
+  pub message_told : (k : Kind) (c : Content) (ms : Members) → is_object_type shape (type_of k) ≡ true
       → keeps_float (declared_of shape (type_of k)) (kept c) ≡ false → collected (all_lines (declared_of shape (type_of k)) (fields c)) ≡ Some ms
       → tells shape o (message c) (one k) ≡ Some (object ms)
   message_told k (content.content fs ks) ms plain whole so =
       rw (plain, whole) (ap (option_map object) (lines_are (declared_of shape (type_of k)) fs ∙ so))
 
   -- a rule that a key of a message breaks
-  pub broken_key : (k : Kind) (c : Content) (key : List ℕ) (rule : JsonKind) → is_well_known (message_name shape (type_of k)) ≡ false
+  pub broken_key : (k : Kind) (c : Content) (key : List ℕ) (rule : JsonKind) → is_object_type shape (type_of k) ≡ true
       → KeyBreaks o (members (declared_of shape (type_of k)) (fields c) (kept c)) key rule → WriteFaultAt shape o (Key key ∷ []) (message c) (one k) rule
   broken_key k (content.content fs ks) key rule plain breaks = rw plain (inl (refl, breaks))
 
   -- a rule that is broken below a key of a message
   pub broken_below : (k : Kind) (c : Content) (key : List ℕ) (rule : JsonKind) (v : Val) (f : FieldShape) (place : List Step)
-      → is_well_known (message_name shape (type_of k)) ≡ false → field_under o key (declared_of shape (type_of k)) (fields c) ≡ Some (v, field f)
+      → is_object_type shape (type_of k) ≡ true → field_under o key (declared_of shape (type_of k)) (fields c) ≡ Some (v, field f)
       → WriteFaultAt shape o place v (one f.kind) rule → WriteFaultAt shape o (Key key ∷ place) (message c) (one k) rule
   broken_below k (content.content fs ks) key rule v f place plain under h =
-      rw plain (inr (rw under (same_parts shape o place v (one f.kind) (field f) rule (parts_of_field shape f v) h)))
+      rw plain (inr (rw under (same_parts shape o place v v (one f.kind) (field f) rule (parts_of_field shape f v) h)))
 
   -- ---- one field of a list of fields
 
@@ -260,25 +260,25 @@ module _ (shape : Shape) (o : SerializeOptions) where
         let sound : IsSoundAt shape (field_of x.0 (fields_of shape h.0)) (val_of x.1) = sound_seam (fields_of shape h.0) xs x ys h.2.1 in
         rw own (subst (λ f. IsSoundAt shape f (val_of x.1)) (field_of-by_number x.0 (declared_of shape h.0)) sound)
 
-    no_tree : with_lines (map (line (declared_of shape (type_of k))) xs ++ line (declared_of shape (type_of k)) x ∷ map (line (declared_of shape (type_of k))) ys)
+    no_tree : is_object_type shape (type_of k) ≡ true → with_lines (map (line (declared_of shape (type_of k))) xs ++ line (declared_of shape (type_of k)) x ∷ map (line (declared_of shape (type_of k))) ys)
         (Some no_members) ≡ None → tells shape o (message whole) (one k) ≡ None
-    no_tree h =
+    no_tree plain h =
         let gs : List FieldShape = declared_of shape (type_of k) in
         let fs : Fields = fields_in (map entry_of (xs ++ x ∷ ys)) in
-        message_none k whole
+        message_none k whole plain
         (with_lines-append (field_lines shape o gs fs) (default_lines shape o fs gs) (Some no_members)
         ∙ ap (with_lines (default_lines shape o fs gs))
         (ap collected (lines_of_held gs (xs ++ x ∷ ys) ∙ map-append (line gs) xs (x ∷ ys)) ∙ h)
         ∙ with_lines_none (default_lines shape o fs gs))
 
-    unknown_seam : (rule : JsonKind) → field_of x.0 (declared_of shape (type_of k)) ≡ None → Stops shape o (message whole) k rule []
-    unknown_seam rule none =
+    unknown_seam : is_object_type shape (type_of k) ≡ true → (rule : JsonKind) → field_of x.0 (declared_of shape (type_of k)) ≡ None → Stops shape o (message whole) k rule []
+    unknown_seam plain rule none =
         let gs : List FieldShape = declared_of shape (type_of k) in (
-          no_tree (with_lines_absent (map (line gs) xs) (line gs x) (map (line gs) ys) (Some no_members) (rw none refl)),
+          no_tree plain (with_lines_absent (map (line gs) xs) (line gs x) (map (line gs) ys) (Some no_members) (rw none refl)),
           λ h. absurd (subst (λ f. IsSoundAt shape f (val_of x.1)) none (own_value h)),
         )
 
-    module _ (plain : is_well_known (message_name shape (type_of k)) ≡ false) (f : FieldShape) (found : field_of x.0 (declared_of shape (type_of k)) ≡ Some f)
+    module _ (plain : is_object_type shape (type_of k) ≡ true) (f : FieldShape) (found : field_of x.0 (declared_of shape (type_of k)) ≡ Some f)
         (ms : Members) (so : collected (map (line (declared_of shape (type_of k))) xs) ≡ Some ms) where
       twice_seam : has_key (key_of_field o f) ms ≡ true → Stops shape o (message whole) k fault.DuplicateField (Key (key_of_field o f) ∷ [])
       twice_seam h =
@@ -292,7 +292,7 @@ module _ (shape : Shape) (o : SerializeOptions) where
           ap (λ zs. zs ++ map (key_of_field o) (filter (is_written_default o fs) gs))
           (value_keys-append gs xs (x ∷ ys) ∙ ap (λ g. value_keys o gs (held_fields gs xs) ++ (key_in o g ++ value_keys o gs (held_fields gs ys))) found)
           ∙ append_assoc (value_keys o gs (held_fields gs xs)) _ _ in (
-            no_tree (with_lines_twice (map (line gs) xs) (line gs x) (map (line gs) ys) (Some no_members) ms so (ap (λ s. has_key s ms) is ∙ h)),
+            no_tree plain (with_lines_twice (map (line gs) xs) (line gs x) (map (line gs) ys) (Some no_members) ms so (ap (λ s. has_key s ms) is ∙ h)),
             λ all. broken_key k whole key fault.DuplicateField plain (ap (is_twice key) keys ∙ key_twice key (value_keys o gs (held_fields gs xs)) key more any refl),
           )
 
@@ -302,7 +302,7 @@ module _ (shape : Shape) (o : SerializeOptions) where
           let gs : List FieldShape = declared_of shape (type_of k) in
           let key : List ℕ = key_of_field o f in
           let none : (line gs x).1 ≡ None = ap (λ (l : Line). l.1) (line_of gs x f found) ∙ told_field shape o f (val_of x.1) ∙ stops.0 in (
-            no_tree (with_lines_absent (map (line gs) xs) (line gs x) (map (line gs) ys) (Some no_members) none),
+            no_tree plain (with_lines_absent (map (line gs) xs) (line gs x) (map (line gs) ys) (Some no_members) none),
             λ all. broken_below k whole key rule (val_of x.1) f place plain (under_seam gs key xs x ys f found refl (sym (there gs key xs ms so) ∙ h))
                 (stops.1 (holds_field shape f (val_of x.1) (subst (λ g. IsSoundAt shape g (val_of x.1)) found (own_value all)))),
           )
@@ -318,10 +318,11 @@ module _ (shape : Shape) (o : SerializeOptions) where
         subst (λ d. Stops shape o (message d) k rule place) (sym is_content)
         (subst (λ xs. Stops shape o (message (content.content (fields_in (map entry_of xs)) ks)) k rule place) (sym (split_at all i x within is)) h)
 
-    pub field_unknown : (rule : JsonKind) → field_of x.0 (declared_of shape (type_of k)) ≡ None → Stops shape o (message c) k rule []
-    field_unknown rule none = back rule [] (unknown_seam k ks (take i all) x (drop (suc i) all) rule none)
+    pub field_unknown : is_object_type shape (type_of k) ≡ true → (rule : JsonKind) → field_of x.0 (declared_of shape (type_of k)) ≡ None
+        → Stops shape o (message c) k rule []
+    field_unknown plain rule none = back rule [] (unknown_seam k ks (take i all) x (drop (suc i) all) plain rule none)
 
-    module _ (plain : is_well_known (message_name shape (type_of k)) ≡ false) (f : FieldShape) (found : field_of x.0 (declared_of shape (type_of k)) ≡ Some f)
+    module _ (plain : is_object_type shape (type_of k) ≡ true) (f : FieldShape) (found : field_of x.0 (declared_of shape (type_of k)) ≡ Some f)
         (ms : Members) (so : collected (map (line (declared_of shape (type_of k))) (take i all)) ≡ Some ms) where
       pub field_twice : has_key (key_of_field o f) ms ≡ true → Stops shape o (message c) k fault.DuplicateField (Key (key_of_field o f) ∷ [])
       field_twice h = back fault.DuplicateField (Key (key_of_field o f) ∷ []) (twice_seam k ks (take i all) x (drop (suc i) all) plain f found ms so h)

@@ -1,4 +1,4 @@
--- Messages that are not written field by field: kept records of float fields, and well-known names.
+-- Messages that are not written: kept records of float fields.
 use Rattle.std.proofs.Common.{◌≡◌, ℕ, ◌+◌, suc, ◌<◌, List, [], ◌∷◌, ◌++◌, map, length, take, drop, get_or, Bool, true, false, ◌||◌, ◌&&◌, if◌then◌else◌}
 use Rattle.std.proofs.Common.{Some, None, refl, sym, ap, subst, ◌∙◌, arith}
 use Rattle.std.specs.Prelude.{◌==◌}
@@ -6,7 +6,6 @@ use Rattle.std.specs.List.{list_any, IsDistinct, AllByRecursion}
 use Rattle.std.specs.Str.{bytes_eq}
 use Rattle.std.proofs.lemmas.Bool.Decides.{nat_tests}
 use Rattle.std.proofs.lemmas.Map.Keys.{IsDistinct-head, IsDistinct-tail}
-use Rattle.pbx_wkt.specs.Names.{is_well_known}
 use Rattle.pbx_wire.specs.declared.rec.Rec.{Rec}
 use Rattle.pbx_meaning.specs.Content as content
 use Rattle.pbx_meaning.specs.Content.{Content, message, kept}
@@ -16,7 +15,7 @@ use Rattle.pbx_meaning.specs.Shape.{declared_of, field_of, is_float}
 use Rattle.pbx_meaning.specs.declared.shape.Kind.{Kind}
 use Rattle.pbx_meaning.specs.declared.shape.Shape.{Shape}
 use Rattle.pbx_meaning.specs.declared.shape.FieldShape.{FieldShape}
-use Rattle.pbx_json_meaning.specs.Types.{message_name}
+use Rattle.pbx_json_meaning.specs.Forms.{is_object_type}
 use Rattle.pbx_json_meaning.specs.Canonical.{keeps_float, is_kept_of, key_of_field}
 use Rattle.pbx_json_meaning.specs.declared.kind.JsonKind.TheVariants as fault
 use Rattle.pbx_json_meaning.specs.declared.options.SerializeOptions.{SerializeOptions}
@@ -156,16 +155,16 @@ keeps_none (g ∷ gs) = at (is_float g.kind) (keeps_none gs)
 
 -- ---- what is refused
 
-module _ (shape : Shape) (o : SerializeOptions) (k : Kind) where
-  pub not_built : (c : Content) → is_well_known (message_name shape (type_of k)) ≡ true → Stops shape o (message c) k fault.NotBuilt []
-  not_built (content.content fs ks) h = (rw h refl, λ is. rw h refl)
+-- there is a kept record of a float field
+pub keeps : (gs : List FieldShape) (rs : List Rec) (f : FieldShape) → IsKeptFloat gs rs f → keeps_float gs rs ≡ true
+keeps gs rs f h = any_field (λ g. is_float g.kind && is_kept_of rs g) f.number gs f h.0 (rw (h.1, h.2) refl)
 
-  pub float_stops : (c : Content) (f : FieldShape) → is_well_known (message_name shape (type_of k)) ≡ false
+module _ (shape : Shape) (o : SerializeOptions) (k : Kind) where
+  pub float_stops : (c : Content) (f : FieldShape) → is_object_type shape (type_of k) ≡ true
       → IsKeptFloat (declared_of shape (type_of k)) (kept c) f → Stops shape o (message c) k fault.Float (Key (key_of_field o f) ∷ [])
   float_stops (content.content fs ks) f plain h =
       let gs : List FieldShape = declared_of shape (type_of k) in
-      let keeps : keeps_float gs ks ≡ true = any_field (λ g. is_float g.kind && is_kept_of ks g) f.number gs f h.0 (rw (h.1, h.2) refl) in
       let breaks : list_any (λ g. is_float g.kind && is_kept_of ks g && bytes_eq (key_of_field o g) (key_of_field o f)) gs ≡ true =
       any_field (λ g. is_float g.kind && is_kept_of ks g && bytes_eq (key_of_field o g) (key_of_field o f)) f.number gs f h.0
       (rw (h.1, h.2, same_bytes (key_of_field o f)) refl) in
-      (rw (plain, keeps) refl, λ is. broken_key shape o k (content.content fs ks) (key_of_field o f) fault.Float plain breaks)
+      (rw (plain, keeps gs ks f h) refl, λ is. broken_key shape o k (content.content fs ks) (key_of_field o f) fault.Float plain breaks)

@@ -10,7 +10,7 @@ use Rattle.pbx_meaning.specs.declared.shape.Kind.TheVariants as kind
 use Rattle.pbx_meaning.specs.declared.shape.Shape.{Shape}
 use Rattle.pbx_meaning.specs.declared.shape.EnumShape.{EnumShape}
 use Rattle.pbx_meaning.specs.declared.shape.MessageShape.{MessageShape}
-use Rattle.pbx_json_meaning.specs.Types.{enum_name_at, message_name_at}
+use Rattle.pbx_wkt.specs.Types.{enum_name_at}
 use Rattle.pbx_json_meaning.specs.Scalars.{family}
 use Rattle.pbx_json_meaning.specs.Canonical.{number_tree, integer_tree, truth_by, text_by, bytes_by}
 use Rattle.pbx_json_meaning.specs.declared.kind.JsonKind.TheVariants as fault
@@ -35,11 +35,6 @@ fields_in [] t = refl
 fields_in (x ∷ ms) zero = refl
 fields_in (x ∷ ms) (suc t) = fields_in ms t
 
-message_name_in : (ms : List MessageShape) (t : ℕ) → message_name_at ms t ≡ option_map_or (λ (x : MessageShape). x.full_name) (slice_get ms t) []
-message_name_in [] t = refl
-message_name_in (x ∷ ms) zero = refl
-message_name_in (x ∷ ms) (suc t) = message_name_in ms t
-
 -- the parts of a type that a look-up answers, or of none
 pub values_of : (es : List EnumShape) (e : ℕ) (o : Option EnumShape) → o ≡ slice_get es e → enum_values_at es e ≡ option_map_or (λ (x : EnumShape). x.values) o []
 values_of es e o h = values_in es e ∙ ap (λ (p : Option EnumShape). option_map_or (λ (x : EnumShape). x.values) p []) (sym h)
@@ -50,10 +45,6 @@ name_of es e o h = name_in es e ∙ ap (λ (p : Option EnumShape). option_map_or
 pub fields_of : (ms : List MessageShape) (t : ℕ) (o : Option MessageShape) → o ≡ slice_get ms t
     → declared_at ms t ≡ option_map_or (λ (x : MessageShape). x.fields) o []
 fields_of ms t o h = fields_in ms t ∙ ap (λ (p : Option MessageShape). option_map_or (λ (x : MessageShape). x.fields) p []) (sym h)
-
-pub message_name_of : (ms : List MessageShape) (t : ℕ) (o : Option MessageShape) → o ≡ slice_get ms t
-    → message_name_at ms t ≡ option_map_or (λ (x : MessageShape). x.full_name) o []
-message_name_of ms t o h = message_name_in ms t ∙ ap (λ (p : Option MessageShape). option_map_or (λ (x : MessageShape). x.full_name) p []) (sym h)
 
 -- ---- numbers
 

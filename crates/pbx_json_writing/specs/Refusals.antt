@@ -1,6 +1,10 @@
 -- What the functions of the writer say where they write no tree.
-use Rattle.std.specs.Prelude.{◌≡◌, ◌⊎◌, ℕ, List, [], ◌∷◌, ◌++◌, reverse, true, false, Some, None, Result, Ok, Err}
-use Rattle.serde_json.specs.Data.{Members}
+use Rattle.std.specs.Prelude.{◌≡◌, ◌⊎◌, ℕ, ℤ, List, [], ◌∷◌, ◌++◌, reverse, true, false, Option, Some, None, Result, Ok, Err}
+use Rattle.serde_json.specs.Data.{Data, Members}
+use Rattle.pbx_text.specs.Timestamp.{timestamp_written}
+use Rattle.pbx_text.specs.Duration.{duration_written}
+use Rattle.pbx_text.specs.declared.fault.TextFault.{TextFault}
+use Rattle.pbx_text.specs.declared.fault.TextFault.TheVariants.{Range, NoMemory as OutOfMemory}
 use Rattle.serde_json.specs.declared.value.Value.{Value}
 use Rattle.pbx_meaning.specs.Content.{Fields, Val, number, truth, text, octets, message, many, keyed}
 use Rattle.pbx_meaning.specs.Sound.{IsNumber, IsSound, AreElements, ArePairs}
@@ -11,7 +15,8 @@ use Rattle.pbx_meaning.specs.declared.shape.Kind.{Kind}
 use Rattle.pbx_meaning.specs.declared.shape.Kind.TheVariants as kind
 use Rattle.pbx_meaning.specs.declared.shape.Shape.{Shape}
 use Rattle.pbx_json_meaning.specs.Asked.{one}
-use Rattle.pbx_json_meaning.specs.Canonical.{tells, has_key, is_kept_of, is_written_default, key_of_field}
+use Rattle.pbx_json_meaning.specs.Canonical.{tells, scalar_tree, has_key, is_kept_of, is_written_default, key_of_field}
+use Rattle.pbx_json_meaning.specs.Faults.{SomeWith}
 use Rattle.pbx_json_meaning.specs.WriteFaults.{WriteFaultAt}
 use Rattle.pbx_json_meaning.specs.declared.error.JsonError.{JsonError}
 use Rattle.pbx_json_meaning.specs.declared.kind.JsonKind.{JsonKind}
@@ -40,6 +45,25 @@ Refused shape o v k (refused.Rule rule steps) = (tells shape o v (one k) ≡ Non
 -- the same whatever the shape and the options
 abbrev pub RefusedAnyhow : Val → Kind → Refusal → Type 0
 RefusedAnyhow v k r = (shape : Shape) (o : SerializeOptions) → Refused shape o v k r
+
+-- the answer is that of the grammar, unless memory ran out
+abbrev pub IsAnswer : Result (List ℕ) TextFault → Result (List ℕ) TextFault → Type 0
+IsAnswer wanted (Ok s) = wanted ≡ Ok s
+IsAnswer wanted (Err e) = (e ≡ OutOfMemory) ⊎ (wanted ≡ Err e)
+
+-- why no text is written, unless memory ran out
+abbrev pub IsTextRefused : Result Data JsonKind → Refusal → Type 0
+IsTextRefused d refused.Memory = Unit {0}
+IsTextRefused d (refused.Rule rule steps) = (d ≡ Err rule) × (steps ≡ [])
+
+-- seconds and nanoseconds that no text has
+abbrev pub IsOutOfTime : ℤ → ℤ → Type 0
+IsOutOfTime seconds nanos = (timestamp_written seconds nanos ≡ Err Range) × (duration_written seconds nanos ≡ Err Range)
+
+-- why the value of a wrapper is not written: it is not of the kind, unless memory ran out
+abbrev pub IsHeldRefused : Shape → SerializeOptions → Kind → Option Val → Refusal → Type 0
+IsHeldRefused shape o k v refused.Memory = Unit {0}
+IsHeldRefused shape o k v (refused.Rule rule steps) = (scalar_tree shape o k v ≡ None) × SomeWith v (λ held. Holds shape k held → ⊥)
 
 -- the refusal of what stands a step above, unless memory ran out
 abbrev pub IsLifted : Step → Refusal → Refusal → Type 0

@@ -1,12 +1,11 @@
-ghost use Rattle.std.specs.Prelude.{◌≡◌, [], ◌∷◌, Some, false, IfOk, IfErr, OnOk};
+ghost use Rattle.std.specs.Prelude.{◌≡◌, [], ◌∷◌, Some, true, false, IfOk, IfErr, OnOk};
 ghost use Rattle.serde_json.specs.View.{view, members_view};
-ghost use Rattle.pbx_wkt.specs.Names.{is_well_known};
 ghost use Rattle.pbx_meaning.specs.Content.{fields, kept, message};
 ghost use Rattle.pbx_meaning.specs.Encoding.{type_of};
 ghost use Rattle.pbx_meaning.specs.Meaning.{zero_of};
 ghost use Rattle.pbx_meaning.specs.Shape.{declared_of as declared_of_type};
 ghost use Rattle.pbx_codec.specs.View.{content_of};
-ghost use Rattle.pbx_json_meaning.specs.Types.{message_name};
+ghost use Rattle.pbx_json_meaning.specs.Forms.{is_object_type};
 ghost use Rattle.pbx_json_meaning.specs.Asked.{one, has_presence as has_presence_of};
 ghost use Rattle.pbx_json_meaning.specs.Canonical.{default_by, default_tree as default_tree_of, is_written_default as is_written_default_of};
 ghost use Rattle.pbx_json_meaning.specs.Canonical.{tells, keeps_float};
@@ -48,7 +47,7 @@ fn is_written_default(options: &SerializeOptions, contents: &Contents, field: &F
 }
 
 /// The default of a kind; of messages and floats none is written.
-fn zero_tree(
+pub(crate) fn zero_tree(
     alloc: Global,
     schema: &Schema,
     options: &SerializeOptions,
@@ -123,7 +122,7 @@ pub(crate) fn add_defaults(
     contents: &Contents,
     map: &mut Map<String, Value>,
 ) -> Result<(), Refusal>
-    requires plain { is_well_known (message_name schema.now (type_of kind)) ≡ false }
+    requires plain { is_object_type schema.now (type_of kind) ≡ true }
     requires fields { field_members schema.now options.now (declared_of_type schema.now (type_of kind)) (content_of contents.now)
         ≡ Some (members_view map.old.entries) }
     ensures written { OnOk result
@@ -151,7 +150,7 @@ pub(crate) fn with_defaults(
     contents: &Contents,
     mut map: Map<String, Value>,
 ) -> Result<Value, Refusal>
-    requires plain { is_well_known (message_name schema.now (type_of kind)) ≡ false }
+    requires plain { is_object_type schema.now (type_of kind) ≡ true }
     requires whole { keeps_float (declared_of_type schema.now (type_of kind)) (kept (content_of contents.now)) ≡ false }
     requires fields { field_members schema.now options.now (declared_of_type schema.now (type_of kind)) (content_of contents.now)
         ≡ Some (members_view map.entries) }

@@ -1,12 +1,11 @@
 ghost use Rattle.std.specs.Prelude.{◌≡◌, Some, true, false, option_map, slice_get, IfSome, IfNone, IfErr, OnOk};
-ghost use Rattle.pbx_wkt.specs.Names.{is_well_known as is_well_known_name};
 ghost use Rattle.pbx_meaning.specs.Content.{message, kept};
 ghost use Rattle.pbx_meaning.specs.Encoding.{type_of};
 ghost use Rattle.pbx_meaning.specs.Records.{number_of};
 ghost use Rattle.pbx_meaning.specs.Shape.{declared_of as declared_of_type, field_of, is_float as is_float_of};
 ghost use Rattle.pbx_meaning.specs.Sound.{IsProper};
 ghost use Rattle.pbx_codec.specs.View.{content_of};
-ghost use Rattle.pbx_json_meaning.specs.Types.{message_name};
+ghost use Rattle.pbx_json_meaning.specs.Forms.{is_object_type, kind_at as kind_at_of};
 ghost use Rattle.pbx_json_meaning.specs.Canonical.{key_of_field as key_of_field_of, keeps_float};
 ghost use Rattle.pbx_json_writing.specs.Refusals.{Refused, IsKeptFloat};
 ghost use Rattle.pbx_json_writing.specs.Kinds.{is_float_number};
@@ -16,7 +15,6 @@ use pbx_codec::Contents;
 use pbx_json_meaning::{JsonKind, SerializeOptions};
 use pbx_meaning::{FieldShape, Kind, MessageShape, Schema};
 use pbx_wire::{Rec, Recs};
-use pbx_wkt::is_well_known_type;
 use std::alloc::Global;
 
 /// The place of a message type.
@@ -55,13 +53,13 @@ pub(crate) fn field_numbered(schema: &Schema, type_at: usize, number: u32) -> Op
     schema.field_of(type_at, number)
 }
 
-/// Whether the type has the name of a well-known type.
-fn is_well_known(schema: &Schema, type_at: usize) -> bool
-    ensures { result ≡ is_well_known_name (message_name schema.now type_at) }
+/// The kind of the field of a number in the type at a place; where there is none, one that no value is written as.
+pub(crate) fn kind_at(schema: &Schema, type_at: usize, number: u32) -> Kind
+    ensures { result ≡ kind_at_of schema.now type_at number }
 {
-    match message_at(schema, type_at) {
-        Some(found) => is_well_known_type(found.full_name.as_str()),
-        None => false,
+    match schema.field_of(type_at, number) {
+        Some(field) => field.kind,
+        None => Kind::Double,
     }
 }
 
@@ -114,7 +112,11 @@ fn float_field(schema: &Schema, type_at: usize, number: u32) -> Option<&FieldSha
 }
 
 /// The float field of a kept record, if there is one.
-fn kept_float<'s>(schema: &'s Schema, type_at: usize, kept: &Recs) -> Option<&'s FieldShape>
+pub(crate) fn kept_float<'s>(
+    schema: &'s Schema,
+    type_at: usize,
+    kept: &Recs,
+) -> Option<&'s FieldShape>
     ensures found { IfSome result (λ found. IsKeptFloat (declared_of_type schema.now type_at) kept.now found.now) }
     ensures absent { IfNone result (keeps_float (declared_of_type schema.now type_at) kept.now ≡ false) }
 {
@@ -126,23 +128,19 @@ fn kept_float<'s>(schema: &'s Schema, type_at: usize, kept: &Recs) -> Option<&'s
     None
 }
 
-/// Nothing, where a message is written field by field: it has no well-known name, and keeps no record of a float field.
-pub(crate) fn is_plain_message(
+/// Nothing, where the content keeps no record of a float field.
+pub(crate) fn keeps_no_float(
     alloc: Global,
     schema: &Schema,
     options: &SerializeOptions,
     kind: Kind,
     contents: &Contents,
 ) -> Result<(), Refusal>
-    ensures plain { OnOk result (is_well_known_name (message_name schema.now (type_of kind)) ≡ false) }
+    requires { is_object_type schema.now (type_of kind) ≡ true }
     ensures whole { OnOk result (keeps_float (declared_of_type schema.now (type_of kind)) (kept (content_of contents.now)) ≡ false) }
     ensures refused { IfErr result (Refused schema.now options.now (message (content_of contents.now)) kind) }
 {
-    let type_at = message_type(kind);
-    if is_well_known(schema, type_at) {
-        return Err(Refusal::here(alloc, JsonKind::NotBuilt));
-    }
-    match kept_float(schema, type_at, &contents.kept) {
+    match kept_float(schema, message_type(kind), &contents.kept) {
         None => Ok(()),
         Some(field) => Err(Refusal::at_key(alloc, key_of_field(options, field), JsonKind::Float)),
     }

@@ -6,6 +6,7 @@
 mod defaults;
 mod enums;
 mod fields;
+mod forms;
 mod members;
 mod refusal;
 mod scalars;

@@ -1,4 +1,4 @@
-ghost use Rattle.std.specs.Prelude.{◌≡◌, Some, IfOk, IfErr};
+ghost use Rattle.std.specs.Prelude.{◌≡◌, ◌⊎◌, Some, true, Err, IfOk, IfErr};
 ghost use Rattle.std.specs.Fmt.{signed_decimal};
 ghost use Rattle.pbx_text.specs.Base64.{base64_text};
 ghost use Rattle.serde_json.specs.Data.{string};
@@ -10,8 +10,9 @@ ghost use Rattle.pbx_json_meaning.specs.Canonical.{is_wide as is_wide_of, intege
 ghost use Rattle.pbx_json_meaning.specs.Canonical.{tells, truth_by, text_by, bytes_by, key_text as key_text_of};
 ghost use Rattle.pbx_json_meaning.specs.Scalars.{family};
 ghost use Rattle.pbx_json_writing.specs.Indexes.{AreIndexes};
-ghost use Rattle.pbx_json_writing.specs.Kinds.{is_integer as is_integer_of};
+ghost use Rattle.pbx_json_writing.specs.Kinds.{is_integer as is_integer_of, is_scalar};
 ghost use Rattle.pbx_json_writing.specs.Refusals.{Refused, RefusedAnyhow};
+ghost use Rattle.pbx_json_writing.specs.declared.refusal.Refusal.TheVariants as refused;
 
 use crate::enums::{Indexes, is_null_value, value_by_index, value_of_number};
 use crate::refusal::Refusal;
@@ -24,7 +25,7 @@ use serde_json::Value;
 use std::alloc::Global;
 
 /// A text as a tree.
-fn string_tree(alloc: Global, text: &str) -> Result<Value, NoMemory>
+pub(crate) fn string_tree(alloc: Global, text: &str) -> Result<Value, NoMemory>
     ensures { IfOk result (λ tree. view tree ≡ string text.now) }
 {
     Ok(Value::String(String::from_str(alloc, text)?))
@@ -225,6 +226,7 @@ pub(crate) fn scalar_tree(
     requires { AreIndexes schema.now indexes.old }
     ensures written { IfOk result (λ tree. tells schema.now options.now (val_of held.now) (one kind) ≡ Some (view tree)) }
     ensures refused { IfErr result (Refused schema.now options.now (val_of held.now) kind) }
+    ensures alone { (is_scalar (val_of held.now) ≡ true) ⊎ (result ≡ Err refused.Memory) }
     ensures known { AreIndexes schema.now indexes.new }
 {
     match held {

@@ -1,23 +1,26 @@
-ghost use Rattle.std.specs.Prelude.{◌≡◌, ◌⊎◌, Some, None, map as map_list, false, IfOk, IfErr};
+ghost use Rattle.std.specs.Prelude.{◌≡◌, ◌⊎◌, Some, None, map as map_list, true, IfOk, IfErr};
 ghost use Rattle.serde_json.specs.View.{view, members_view};
-ghost use Rattle.pbx_wkt.specs.Names.{is_well_known};
-ghost use Rattle.pbx_meaning.specs.Content.{message, many as many_of, keyed, vals_of, pairs_of};
+ghost use Rattle.pbx_meaning.specs.Content.{message, many as many_of, keyed, vals_of, pairs_of, get, fields};
 ghost use Rattle.pbx_meaning.specs.Encoding.{type_of};
 ghost use Rattle.pbx_meaning.specs.Shape.{declared_of};
 ghost use Rattle.pbx_meaning.specs.Sound.{IsSound};
 ghost use Rattle.pbx_codec.specs.View.{val_of, content_of, pair_of};
-ghost use Rattle.pbx_json_meaning.specs.Types.{message_name};
+ghost use Rattle.pbx_json_meaning.specs.Forms.{is_object_type, kind_at as kind_at_of};
+ghost use Rattle.pbx_wkt.specs.Shapes.{form_of as form_of_type};
 ghost use Rattle.pbx_json_meaning.specs.Asked.{one};
+ghost use Rattle.pbx_json_meaning.specs.Faults.{SomeWith};
 ghost use Rattle.pbx_json_meaning.specs.Canonical.{tells, canonical};
 ghost use Rattle.pbx_json_meaning.specs.WriteFaults.{WriteFault};
 ghost use Rattle.pbx_json_meaning.specs.declared.kind.JsonKind.TheVariants as fault;
 ghost use Rattle.pbx_json_writing.specs.Indexes.{AreIndexes};
+ghost use Rattle.pbx_json_writing.specs.Kinds.{told_value, is_passed_form as is_passed_form_of};
 ghost use Rattle.pbx_json_writing.specs.Lines.{field_members};
 ghost use Rattle.pbx_json_writing.specs.Refusals.{Refused};
 
 use crate::defaults::with_defaults;
 use crate::enums::Indexes;
-use crate::fields::{field_numbered, is_plain_message, key_of_field, message_type};
+use crate::fields::{field_numbered, keeps_no_float, key_of_field, kind_at, message_type};
+use crate::forms::{is_object_form, is_passed_form, number_of_value, own_tree};
 use crate::members::{add_item, add_member};
 use crate::refusal::Refusal;
 use crate::scalars::{key_text, scalar_tree};
@@ -25,6 +28,7 @@ use pbx_codec::{Contents, Held, Pair};
 use pbx_json_meaning::{JsonError, JsonKind, SerializeOptions};
 use pbx_meaning::{Kind, Schema};
 use pbx_wire::List;
+use pbx_wkt::{Form, form_of};
 use serde_json::{Map, Value};
 use std::alloc::Global;
 
@@ -129,7 +133,7 @@ fn field_map(
     kind: Kind,
     room: u32,
 ) -> Result<Map<String, Value>, Refusal>
-    requires plain { is_well_known (message_name schema.now (type_of kind)) ≡ false }
+    requires plain { is_object_type schema.now (type_of kind) ≡ true }
     requires known { AreIndexes schema.now indexes.old }
     ensures written { IfOk result (λ map. field_members schema.now options.now (declared_of schema.now (type_of kind)) (content_of contents.now)
         ≡ Some (members_view map.entries)) }
@@ -148,6 +152,86 @@ fn field_map(
         }
     }
     Ok(map)
+}
+
+/// The value of the field of a number, or another tree where it has none.
+#[cycle(write)]
+fn field_tree(
+    contents: &Contents,
+    alloc: Global,
+    schema: &Schema,
+    options: &SerializeOptions,
+    indexes: &mut Indexes,
+    kind: Kind,
+    number: u32,
+    otherwise: Value,
+    room: u32,
+) -> Result<Value, Refusal>
+    requires { AreIndexes schema.now indexes.old }
+    ensures written { IfOk result (λ tree. told_value schema.now options.now (kind_at_of schema.now (type_of kind) number) (Some (view otherwise))
+        (get number (fields (content_of contents.now))) ≡ Some (view tree)) }
+    ensures refused { IfErr result (λ refusal. SomeWith (get number (fields (content_of contents.now)))
+        (λ held. Refused schema.now options.now held (kind_at_of schema.now (type_of kind) number) refusal)) }
+    ensures known { AreIndexes schema.now indexes.new }
+{
+    match contents.get(number) {
+        Some(held) => {
+            drop(otherwise);
+            let held_kind = kind_at(schema, message_type(kind), number);
+            held_tree(held, alloc, schema, options, indexes, held_kind, room)
+        }
+        None => Ok(otherwise),
+    }
+}
+
+/// A message of a type that is told by the value of a field.
+#[cycle(write)]
+fn passed_tree(
+    contents: &Contents,
+    alloc: Global,
+    schema: &Schema,
+    options: &SerializeOptions,
+    indexes: &mut Indexes,
+    kind: Kind,
+    form: Form,
+    room: u32,
+) -> Result<Value, Refusal>
+    requires form { form ≡ form_of_type schema.now (type_of kind) }
+    requires passed { is_passed_form_of form ≡ true }
+    requires known { AreIndexes schema.now indexes.old }
+    ensures written { IfOk result (λ tree. tells schema.now options.now (message (content_of contents.now)) (one kind) ≡ Some (view tree)) }
+    ensures refused { IfErr result (Refused schema.now options.now (message (content_of contents.now)) kind) }
+    ensures known { AreIndexes schema.now indexes.new }
+{
+    match form {
+        Form::Struct => {
+            let empty = Value::Object(Map::new(alloc));
+            field_tree(
+                contents, alloc, schema, options, indexes, kind, 1, empty, room,
+            )
+        }
+        Form::ListValue => {
+            let empty = Value::Array(Vec::new(alloc));
+            field_tree(
+                contents, alloc, schema, options, indexes, kind, 1, empty, room,
+            )
+        }
+        _ => match number_of_value(contents, alloc, schema, kind) {
+            Ok(1) => Ok(Value::Null),
+            Ok(number) => field_tree(
+                contents,
+                alloc,
+                schema,
+                options,
+                indexes,
+                kind,
+                number,
+                Value::Null,
+                room,
+            ),
+            Err(refusal) => Err(refusal),
+        },
+    }
 }
 
 /// A message as one of a kind.
@@ -169,7 +253,23 @@ fn message_tree(
     if room == 0 {
         return Err(Refusal::Memory);
     }
-    if let Err(refusal) = is_plain_message(alloc, schema, options, kind, contents) {
+    let form = form_of(schema, message_type(kind));
+    if is_passed_form(form) {
+        return passed_tree(
+            contents,
+            alloc,
+            schema,
+            options,
+            indexes,
+            kind,
+            form,
+            room - 1,
+        );
+    }
+    if !is_object_form(form) {
+        return own_tree(contents, alloc, schema, options, indexes, kind, form);
+    }
+    if let Err(refusal) = keeps_no_float(alloc, schema, options, kind, contents) {
         return Err(refusal);
     }
     match field_map(contents, alloc, schema, options, indexes, kind, room - 1) {

@@ -10,6 +10,18 @@ use Rattle.pbx_json_reading.proofs.read.+tree.Given as goal
 abbrev pub decreases-read_message : goal.decreases-read_message
 decreases-read_message l = 8 * l.levels
 
+abbrev pub decreases-read_object : goal.decreases-read_object
+decreases-read_object l = 8 * l.levels + 7
+
+abbrev pub decreases-read_parts : goal.decreases-read_parts
+decreases-read_parts l = 8 * l.levels + 5
+
+abbrev pub decreases-read_elements : goal.decreases-read_elements
+decreases-read_elements l = 8 * l.levels + 4
+
+abbrev pub decreases-read_members : goal.decreases-read_members
+decreases-read_members l = 8 * l.levels + 4
+
 abbrev pub decreases-read_value : goal.decreases-read_value
 decreases-read_value l = 8 * l.levels + 1
 
@@ -34,11 +46,11 @@ decreases-read_field l = 8 * l.levels + 5
 abbrev pub decreases-read_member : goal.decreases-read_member
 decreases-read_member l = 8 * l.levels + 6
 
-abbrev pub invariant-read_message-loop-key : goal.invariant-read_message-loop-key
-invariant-read_message-loop-key l = record {
+abbrev pub invariant-read_object-loop-key : goal.invariant-read_object-loop-key
+invariant-read_object-loop-key l = record {
   walked :
-      walk l.reading.allow (declared_of l.reading.schema.now l.place) (parts l.reading.schema.now l.reading.allow (members_view l.initial.key-iterator)) start
-      ≡ walk l.reading.allow (declared_of l.reading.schema.now l.place) (parts l.reading.schema.now l.reading.allow (members_view l.key-iterator)) (state_of l.state);
+      walk l.skips (declared_of l.reading.schema.now l.place) (parts l.reading.schema.now l.reading.allow (members_view l.initial.key-iterator)) start
+      ≡ walk l.skips (declared_of l.reading.schema.now l.place) (parts l.reading.schema.now l.reading.allow (members_view l.key-iterator)) (state_of l.state);
   names : AreNamesIn l.reading.schema.now l.names;
 }
 

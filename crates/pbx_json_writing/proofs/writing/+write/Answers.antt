@@ -1,5 +1,8 @@
-use Rattle.std.proofs.Common.{ℕ, List, map, sym, ap, subst, ◌∙◌}
-use Rattle.serde_json.specs.View.{members_view}
+use Rattle.std.proofs.Common.{ℕ, List, map, sym, ap, subst, ◌∙◌, rules}
+use Rattle.serde_json.specs.Data.{array, object}
+use Rattle.serde_json.specs.View.{view, members_view}
+use Rattle.serde_json.specs.declared.value.Value.{Null, Array, Object, the_lemmas}
+use Rattle.pbx_json_meaning.specs.Canonical.{items_of}
 use Rattle.pbx_meaning.specs.Content.{content, message}
 use Rattle.pbx_meaning.specs.Encoding.{type_of}
 use Rattle.pbx_meaning.specs.Shape.{declared_of, field_of}
@@ -13,8 +16,9 @@ use Rattle.pbx_json_writing.specs.Refusals.{Refused}
 use Rattle.pbx_json_writing.proofs.Arrays.{list_value, array_refused, array_more, array_done}
 use Rattle.pbx_json_writing.proofs.Entries.{map_value, entry_refused, entry_step, entries_done}
 use Rattle.pbx_json_writing.proofs.OfFields.{field_unknown, field_refused, field_step, fields_done}
+use Rattle.pbx_json_writing.proofs.OfValues.{struct_told, struct_refused, list_told, list_refused, is_value, held_value_told, held_value_refused}
 use Rattle.pbx_json_writing.proofs.Refusing.{refused_here}
-use Rattle.pbx_json_writing.proofs.Views.{content_is, val_of-Pairs}
+use Rattle.pbx_json_writing.proofs.Views.{content_is, val_of-Pairs, array_view, object_view}
 use Rattle.pbx_json_writing.proofs.writing.+write.Goals as goal
 
 pub held_tree-returns-in-Pairs-clause-refused : goal.held_tree-returns-in-Pairs-clause-refused
@@ -82,7 +86,7 @@ field_map-returns-in_default-clause-refused t c =
     c.as_slice-field-items.result.now
     (content_is c.args.contents.now ∙ ap (λ (fs : List (ℕ × Held)). content (fields_in (map entry_of fs)) (out-Contents c.args.contents.now).kept)
     (sym c.as_slice-field-items.ensures.same))
-    c.loop-field.field-index c.field-item.result c.loop-field-test.true c.field-item.is fault.WrongKind
+    c.loop-field.field-index c.field-item.result c.loop-field-test.true c.field-item.is c.requires.plain fault.WrongKind
     (ap (λ n. field_of c.field-item.result.0 (declared_of c.args.schema.now n)) (sym c.message_type-type_at.ensures) ∙ sym c.in_default.ensures.found))
 
 pub field_map-returns-in-Err-clause-refused : goal.field_map-returns-in-Err-clause-refused
@@ -117,3 +121,44 @@ field_map-returns-clause-written t c =
     (content_is c.args.contents.now ∙ ap (λ (fs : List (ℕ × Held)). content (fields_in (map entry_of fs)) (out-Contents c.args.contents.now).kept)
     (sym c.as_slice-field-items.ensures.same))
     c.loop-field.field-index (members_view c.loop-field.map.entries) c.loop-field-test.false c.loop-field.invariant.so
+
+-- ---- messages that are told by the value of a field
+
+pub passed_tree-returns-in-Struct-clause-written : goal.passed_tree-returns-in-Struct-clause-written
+passed_tree-returns-in-Struct-clause-written t c =
+    struct_told c.args.schema.now c.args.options.now c.args.kind (content_of c.args.contents.now) (view (Object c.new.result)) c.field_tree.result
+    (sym c.requires.form ∙ c.in-Struct.is) (sym (object_view c.new.result) ∙ ap (λ es. object (members_view es)) c.new.ensures.empty)
+    c.field_tree.ensures.written
+
+pub passed_tree-returns-in-Struct-clause-refused : goal.passed_tree-returns-in-Struct-clause-refused
+passed_tree-returns-in-Struct-clause-refused t c =
+    struct_refused c.args.schema.now c.args.options.now c.args.kind (content_of c.args.contents.now) c.field_tree.result
+    (sym c.requires.form ∙ c.in-Struct.is) c.field_tree.ensures.refused
+
+pub passed_tree-returns-in-ListValue-clause-written : goal.passed_tree-returns-in-ListValue-clause-written
+passed_tree-returns-in-ListValue-clause-written t c =
+    list_told c.args.schema.now c.args.options.now c.args.kind (content_of c.args.contents.now) (view (Array c.new-in-ListValue.result))
+    c.field_tree-in-ListValue.result (sym c.requires.form ∙ c.in-ListValue.is)
+    (sym (array_view c.new-in-ListValue.result) ∙ ap (λ vs. array (items_of (map view vs))) c.new-in-ListValue.ensures.items)
+    c.field_tree-in-ListValue.ensures.written
+
+pub passed_tree-returns-in-ListValue-clause-refused : goal.passed_tree-returns-in-ListValue-clause-refused
+passed_tree-returns-in-ListValue-clause-refused t c =
+    list_refused c.args.schema.now c.args.options.now c.args.kind (content_of c.args.contents.now) c.field_tree-in-ListValue.result
+    (sym c.requires.form ∙ c.in-ListValue.is) c.field_tree-in-ListValue.ensures.refused
+
+pub passed_tree-returns-in-Ok : goal.passed_tree-returns-in-Ok
+passed_tree-returns-in-Ok t c = record {
+  written =
+      held_value_told c.args.schema.now c.args.options.now c.args.kind (content_of c.args.contents.now)
+      (sym c.requires.form ∙ is_value c.args.form c.requires.passed c.in_default.not-Struct c.in_default.not-ListValue) c.in-Ok.ensures.whole
+      c.in-Ok.number c.in-Ok.ensures.first c.in-Ok.number-test.1 (view Null) (search (rules, the_lemmas)) c.field_tree-in-Ok.result c.field_tree-in-Ok.ensures.written;
+  refused =
+      held_value_refused c.args.schema.now c.args.options.now c.args.kind (content_of c.args.contents.now)
+      (sym c.requires.form ∙ is_value c.args.form c.requires.passed c.in_default.not-Struct c.in_default.not-ListValue) c.in-Ok.ensures.whole
+      c.in-Ok.number c.in-Ok.ensures.first c.in-Ok.number-test.1 (view Null) (search (rules, the_lemmas)) c.field_tree-in-Ok.result c.field_tree-in-Ok.ensures.refused;
+  known = c.field_tree-in-Ok.ensures.known;
+}
+
+pub passed_tree-returns-in-Err : goal.passed_tree-returns-in-Err
+passed_tree-returns-in-Err t c = record { written = tt; refused = c.in-Err.ensures.refused c.args.options.now; known = c.requires.known }

@@ -1,4 +1,4 @@
-use Rattle.std.proofs.Common.{◌≡◌, Some, map, take}
+use Rattle.std.proofs.Common.{◌≡◌, ◌+◌, ◌*◌, Some, map, take}
 use Rattle.serde_json.specs.View.{view, members_view}
 use Rattle.pbx_meaning.specs.Encoding.{type_of}
 use Rattle.pbx_meaning.specs.Shape.{declared_of}
@@ -9,6 +9,28 @@ use Rattle.pbx_json_writing.proofs.Arrays.{told}
 use Rattle.pbx_json_writing.proofs.Entries.{entry}
 use Rattle.pbx_json_writing.proofs.OfFields.{line}
 use Rattle.pbx_json_writing.proofs.writing.+write.Given as goal
+
+-- The room is the measure: what is called at the same room stands below its caller in this order.
+abbrev pub decreases-held_tree : goal.decreases-held_tree
+decreases-held_tree l = 4 * l.room + 1
+
+abbrev pub decreases-array_tree : goal.decreases-array_tree
+decreases-array_tree l = 4 * l.room
+
+abbrev pub decreases-entries_tree : goal.decreases-entries_tree
+decreases-entries_tree l = 4 * l.room
+
+abbrev pub decreases-message_tree : goal.decreases-message_tree
+decreases-message_tree l = 4 * l.room
+
+abbrev pub decreases-field_map : goal.decreases-field_map
+decreases-field_map l = 4 * l.room + 2
+
+abbrev pub decreases-field_tree : goal.decreases-field_tree
+decreases-field_tree l = 4 * l.room + 2
+
+abbrev pub decreases-passed_tree : goal.decreases-passed_tree
+decreases-passed_tree l = 4 * l.room + 3
 
 abbrev pub invariant-array_tree-loop-held : goal.invariant-array_tree-loop-held
 invariant-array_tree-loop-held l = record {
