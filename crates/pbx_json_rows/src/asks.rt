@@ -83,13 +83,17 @@ pub(crate) fn levels(alloc: Global, pool: &DescriptorPool, row: &Row) -> Result<
     Ok(String::from_str(alloc, word)?)
 }
 
-/// The first message with a key that has two meanings, and the key.
+/// The first message with a key that has two meanings, and the key, or the first that has not the shape of its well-known name.
 pub(crate) fn names(alloc: Global, pool: &DescriptorPool) -> Result<String, Stop> {
     match check_names(alloc, pool) {
         Ok(()) => Ok(String::from_str(alloc, "clear")?),
         Err(NameFault::JsonNames { message, key }) => {
             let (message, key) = (message.as_str(), key.as_str());
             Ok(format!(in alloc; "{message} {key}")?)
+        }
+        Err(NameFault::WellKnownShape { message }) => {
+            let message = message.as_str();
+            Ok(format!(in alloc; "{message} has another shape")?)
         }
         Err(NameFault::NoMemory) => Err(Stop::NoMemory),
     }

@@ -12,6 +12,7 @@ use Rattle.pbx_json_meaning.specs.Canonical.{canonical}
 use Rattle.pbx_json_meaning.specs.Clash.{name_fault}
 use Rattle.pbx_json_meaning.specs.Options.{default_writing}
 use Rattle.pbx_json_meaning.specs.Stands.{Stands}
+use Rattle.pbx_json_meaning.specs.declared.names_fault.NameFault.{NameFault}
 use Rattle.pbx_json_meaning.specs.declared.names_fault.NameFault.TheVariants as names
 use Rattle.pbx_json.specs.Fits.{fits}
 use Rattle.pbx_described.specs.Shapes.{shape_of, place_of}
@@ -161,14 +162,13 @@ fits_alone shape t tree wire written h k =
     let same : h.0 ≡ k.0 = (let e : Some h.0 ≡ Some k.0 = sym h.1 ∙ k.1 in cc) in
     not_both (fits h.0) h.2 (ap fits same ∙ k.2)
 
-clear_alone : (files : List FileDescriptorProto) (message key : List ℕ) → HaveClearNames files
-    → name_fault false (shape_of files) ≡ Some (names.JsonNames message key) → ⊥
-clear_alone files message key h k = nothing_there (names.JsonNames message key) (sym h ∙ k)
+clear_alone : (files : List FileDescriptorProto) (fault : NameFault) → HaveClearNames files → name_fault false (shape_of files) ≡ Some fault → ⊥
+clear_alone files fault h k = nothing_there fault (sym h ∙ k)
 
 not_refused : (name : List ℕ) (tree : Data) (files : List FileDescriptorProto) (set wire : List ℕ) (written : Data) (error : TopError) → is_refusal error ≡ true → IsTranscoded name tree files set wire written → IsRefused name tree files error → ⊥
 not_refused name tree files set wire written (top.File error) k h r = decodable files error h.within_levels r
-not_refused name tree files set wire written (top.JsonNames message key) k h r = clear_alone files message key h.clear r.1
-not_refused name tree files set wire written (top.WellKnownShape message) k h r = absurd r
+not_refused name tree files set wire written (top.JsonNames message key) k h r = clear_alone files (names.JsonNames message key) h.clear r.1
+not_refused name tree files set wire written (top.WellKnownShape message) k h r = clear_alone files (names.WellKnownShape message) h.clear r.1
 not_refused name tree files set wire written (top.TypeNotFound n) k h r = nothing_there h.transcodes.0 (sym r.3 ∙ h.transcodes.1)
 not_refused name tree files set wire written (top.Json e) k h r =
     let both = both_of_type name files (λ shape t. Transcodes shape t tree wire written) (λ shape t. IsUnread shape t tree e) h.transcodes r.2 in
@@ -204,7 +204,9 @@ refuses_not once told resolves paths name tree set wire written error k h r = at
     at (top.File kind) k (inl r) = accepted_alone once told resolves paths (λ files. IsTranscoded name tree files set wire written) kind (no_fault kind k) h r
     at (top.File kind) k (inr r) = not_refused name tree (records h.2.0) set wire written (top.File kind) k h.2.2 (here (λ files. IsUndecodable files kind) r)
     at (top.JsonNames message key) k r = not_refused name tree (records h.2.0) set wire written (top.JsonNames message key) k h.2.2 (here (λ files. IsRefused name tree files (top.JsonNames message key)) r)
-    at (top.WellKnownShape message) k r = absurd r.2.2
+    at (top.WellKnownShape message) k r =
+        not_refused name tree (records h.2.0) set wire written (top.WellKnownShape message) k h.2.2
+        (here (λ files. IsRefused name tree files (top.WellKnownShape message)) r)
     at (top.TypeNotFound n) k r = not_refused name tree (records h.2.0) set wire written (top.TypeNotFound n) k h.2.2 (here (λ files. IsRefused name tree files (top.TypeNotFound n)) r)
     at (top.Json e) k r = not_refused name tree (records h.2.0) set wire written (top.Json e) k h.2.2 (here (λ files. IsRefused name tree files (top.Json e)) r)
     at top.TooDeep k r = not_refused name tree (records h.2.0) set wire written top.TooDeep k h.2.2 (here (λ files. IsRefused name tree files top.TooDeep) r)

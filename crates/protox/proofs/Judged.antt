@@ -84,7 +84,7 @@ module _ (told : List ℕ → Told) (resolves : List ℕ → Option (List ℕ)) 
   pub all_refused : (name : List ℕ) (tree : Data) (error : TopError) → IsRefused name tree files error → Refuses told resolves paths name tree error
   all_refused name tree (top.File error) h = inr (for_files (λ fs. IsUndecodable fs error) h)
   all_refused name tree (top.JsonNames message key) h = for_files (λ fs. IsRefused name tree fs (top.JsonNames message key)) h
-  all_refused name tree (top.WellKnownShape message) h = absurd h
+  all_refused name tree (top.WellKnownShape message) h = for_files (λ fs. IsRefused name tree fs (top.WellKnownShape message)) h
   all_refused name tree (top.TypeNotFound n) h = for_files (λ fs. IsRefused name tree fs (top.TypeNotFound n)) h
   all_refused name tree top.TooDeep h = for_files (λ fs. IsRefused name tree fs top.TooDeep) h
   all_refused name tree top.NoMemory h = tt
@@ -253,7 +253,7 @@ pool_caused rose name tree files (top.File (kinds.FileLimit n)) h = absurd h
 pool_caused rose name tree files (top.File (kinds.Undecodable file)) h = tt
 pool_caused rose name tree files (top.File kinds.NoMemory) h = absurd h
 pool_caused rose name tree files (top.JsonNames message key) h = tt
-pool_caused rose name tree files (top.WellKnownShape message) h = absurd h
+pool_caused rose name tree files (top.WellKnownShape message) h = tt
 pool_caused rose name tree files (top.TypeNotFound n) h = tt
 pool_caused rose name tree files top.TooDeep h = tt
 pool_caused rose name tree files top.NoMemory h = tt

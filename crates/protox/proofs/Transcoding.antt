@@ -198,7 +198,7 @@ pub not_clear : (name : List ℕ) (tree : Data) (files : List FileDescriptorProt
     → IsRefused name tree files error
 not_clear name tree files (File error) fit h = absurd h
 not_clear name tree files (JsonNames message key) fit h = (fit, h)
-not_clear name tree files (WellKnownShape message) fit h = absurd h
+not_clear name tree files (WellKnownShape message) fit h = (fit, h)
 not_clear name tree files (TypeNotFound n) fit h = absurd h
 not_clear name tree files (Json e) fit h = absurd h
 not_clear name tree files TooDeep fit h = absurd h

@@ -29,7 +29,7 @@ use Rattle.protox.specs.declared.stop.Object.TheVariants.{Input, File, Path, Out
 use Rattle.protox.specs.declared.stop.Stop.{Stop}
 use Rattle.protox.specs.declared.stop.Stop.TheVariants.{Words, Refused, Broken, NoMemory}
 
--- what reading and writing stand on: what holds of the shape of every pool, and that each key has one meaning
+-- what reading and writing stand on: what holds of the shape of every pool, that each key has one meaning, and well-known names their shapes
 pub record IsClear (shape : Shape) : Type 0 where
   pub proper : IsProper shape
   pub named : IsWellNamed shape
@@ -41,9 +41,10 @@ IsNoSet files (top.File error) = IsUndecodable files error
 IsNoSet files top.NoMemory = Unit {0}
 IsNoSet files error = ⊥
 
--- a key of a message of the files has two meanings, or want of memory
+-- a key of a message of the files has two meanings, a message has not the shape of its well-known name, or want of memory
 abbrev pub IsNotClear : List FileDescriptorProto → TopError → Type 0
 IsNotClear files (top.JsonNames message key) = name_fault false (shape_of files) ≡ Some (names.JsonNames message key)
+IsNotClear files (top.WellKnownShape message) = name_fault false (shape_of files) ≡ Some (names.WellKnownShape message)
 IsNotClear files top.NoMemory = Unit {0}
 IsNotClear files error = ⊥
 

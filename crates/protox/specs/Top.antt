@@ -55,7 +55,7 @@ IsSet files set = (set ≡ encoded descriptor_shape 0 (files_content files)) × 
 abbrev pub AreWithinLevels : List FileDescriptorProto → Type 0
 AreWithinLevels files = find is_deep_file files ≡ None
 
--- each key has one meaning in the JSON of each message of the files
+-- each key has one meaning in the JSON of each message of the files, and each message of a well-known name has its shape
 abbrev pub HaveClearNames : List FileDescriptorProto → Type 0
 HaveClearNames files = name_fault false (shape_of files) ≡ None
 
@@ -63,8 +63,8 @@ HaveClearNames files = name_fault false (shape_of files) ≡ None
 abbrev pub ForType : List ℕ → List FileDescriptorProto → (Shape → ℕ → Type 0) → Type 0
 ForType name files P = (d : Described DescriptorProto) × (message_of_name files name ≡ Some d) × P (shape_of files) (place_of d)
 
--- Of these linked files each can be read again from their set, and each key of their messages' JSON has one meaning; and the tree is transcoded as
--- a message of the type of that name.
+-- Of these linked files each can be read again from their set, each key of their messages' JSON has one meaning, and each message of a well-known
+-- name has its shape; and the tree is transcoded as a message of the type of that name.
 pub record IsTranscoded (name : List ℕ) (tree : Data) (files : List FileDescriptorProto) (set wire : List ℕ) (written : Data) : Type 0 where
   pub within_levels : AreWithinLevels files
   pub set_is : IsSet files set
@@ -86,12 +86,12 @@ IsUnread shape t tree e =
 abbrev pub IsTooDeep : Shape → ℕ → Data → Type 0
 IsTooDeep shape t tree = (c : Content) × Stands shape t false tree c × (fits c ≡ false)
 
--- Why a type's name and a tree are refused among these linked files. A file is told first, then the names of the files' messages, the type's name,
--- and the tree.
+-- Why a type's name and a tree are refused among these linked files. A file is told first, then the names of the files' messages, their shapes, the
+-- type's name, and the tree.
 abbrev pub IsRefused : List ℕ → Data → List FileDescriptorProto → TopError → Type 0
 IsRefused name tree files (File error) = IsUndecodable files error
 IsRefused name tree files (JsonNames message key) = AreWithinLevels files × (name_fault false (shape_of files) ≡ Some (names.JsonNames message key))
-IsRefused name tree files (WellKnownShape message) = ⊥
+IsRefused name tree files (WellKnownShape message) = AreWithinLevels files × (name_fault false (shape_of files) ≡ Some (names.WellKnownShape message))
 IsRefused name tree files (TypeNotFound n) = AreWithinLevels files × HaveClearNames files × (n ≡ name) × (message_of_name files name ≡ None)
 IsRefused name tree files (Json error) = AreWithinLevels files × HaveClearNames files × ForType name files (λ shape t. IsUnread shape t tree error)
 IsRefused name tree files TooDeep = AreWithinLevels files × HaveClearNames files × ForType name files (λ shape t. IsTooDeep shape t tree)
@@ -139,7 +139,6 @@ IsCaused rose (File (kinds.OpenFile name path fault)) = rose
 IsCaused rose (File (kinds.Custom text is_io)) = rose
 IsCaused rose (File kinds.NoMemory) = ⊥
 IsCaused rose (File error) = Unit {0}
-IsCaused rose (WellKnownShape message) = ⊥
 IsCaused rose (Json error) = ¬ (error.kind ≡ json.NoMemory)
 IsCaused rose error = Unit {0}
 
@@ -171,7 +170,8 @@ of_json_kind kind error = Json error
 abbrev pub of_json : JsonError → TopError
 of_json error = of_json_kind error.kind error
 
--- the error of a message whose JSON has a key with two meanings
+-- the error of a message whose JSON has a key with two meanings, or that has not the shape of its well-known name
 abbrev pub of_names : NameFault → TopError
 of_names (names.JsonNames message key) = JsonNames message key
+of_names (names.WellKnownShape message) = WellKnownShape message
 of_names names.NoMemory = NoMemory

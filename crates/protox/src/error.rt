@@ -22,7 +22,7 @@ pub enum TopError {
         /// The key.
         key: Text,
     },
-    /// A message of the name of a well-known type has another shape. It does not come so far.
+    /// A message has the name of a well-known type, and not the shape that the name's public file declares.
     WellKnownShape {
         /// The full name of the message.
         message: Text,
@@ -124,12 +124,13 @@ pub(crate) fn json_error(error: JsonError) -> TopError
     TopError::Json(error)
 }
 
-/// The error of a message whose JSON has a key with two meanings.
+/// The error of a message whose JSON has a key with two meanings, or that has not the shape of its well-known name.
 pub(crate) fn names_error(fault: NameFault) -> TopError
     ensures { result ≡ of_names fault }
 {
     match fault {
         NameFault::JsonNames { message, key } => TopError::JsonNames { message, key },
+        NameFault::WellKnownShape { message } => TopError::WellKnownShape { message },
         NameFault::NoMemory => TopError::NoMemory,
     }
 }
