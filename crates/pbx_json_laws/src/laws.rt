@@ -6,7 +6,8 @@ pub fn stands_sound()
     ensures { StandsSound }
 {}
 
-/// What a tree stands for has a tree under any options, where no key has two meanings under them.
+/// What a tree stands for has a tree under any options, where no key has two meanings under them and well-known names
+/// have their shapes.
 pub fn standing_is_written()
     ensures { StandingIsWritten }
 {}

@@ -50,7 +50,7 @@ CanonicalWithoutFault =
     → ((d : Data) × (canonical shape t c o ≡ Some d)) ↔ ((place : List Step) (kind : JsonKind) → ¬ WriteFault shape t c o place kind)
 
 -- Of a content that some tree stands for, each tree written under the fields' JSON names stands for it too, where no key of the shape's messages has
--- two meanings.
+-- two meanings and each well-known name has its shape.
 abbrev pub CanonicalStands : Type 0
 CanonicalStands =
     (shape : Shape) (t : ℕ) (allow : Bool) (tree d : Data) (c : Content) (o : SerializeOptions)
@@ -64,7 +64,7 @@ WrittenStands =
     → IsProper shape → IsWellNamed shape → name_fault true shape ≡ None → HasTexts tree
     → Stands shape t allow tree c → canonical shape t c o ≡ Some d → Stands shape t false d c
 
--- A content that some tree stands for has a tree under any options, where no key has two meanings under them.
+-- A content that some tree stands for has a tree under any options, where no key has two meanings under them and well-known names have their shapes.
 abbrev pub StandingIsWritten : Type 0
 StandingIsWritten =
     (shape : Shape) (t : ℕ) (allow : Bool) (tree : Data) (c : Content) (o : SerializeOptions) → IsProper shape → IsWellNamed shape
