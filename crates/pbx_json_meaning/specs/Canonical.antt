@@ -1,6 +1,6 @@
 -- The one tree that is written for a content (ProtoJSON Format). None: a rule of writing is broken somewhere, or a value is not of its field's kind.
-use Rattle.std.specs.Prelude.{ℕ, ◌==◌, ℤ, List, [], ◌∷◌, ◌++◌, map as map_list, filter, find, codes, Bool, true, false, not, ◌&&◌, ◌||◌}
-use Rattle.std.specs.Prelude.{if◌then◌else◌, Option, Some, None, option_map}
+use Rattle.std.specs.Prelude.{ℕ, zero, suc, ◌==◌, ℤ, List, [], ◌∷◌, ◌++◌, length, map as map_list, filter, find, codes, Bool, true, false, not, ◌&&◌, ◌||◌}
+use Rattle.std.specs.Prelude.{if◌then◌else◌, Option, Some, None, option_map, option_and_then}
 use Rattle.std.specs.List.{list_any}
 use Rattle.std.specs.Str.{bytes_eq}
 use Rattle.std.specs.Fmt.{signed_decimal}
@@ -21,16 +21,22 @@ use Rattle.std.specs.Ordering.{int_eq}
 use Rattle.pbx_meaning.specs.Records.{number_of}
 use Rattle.pbx_meaning.specs.Shape.{declared_of, field_of, is_float, enum_values_of}
 use Rattle.pbx_meaning.specs.Encoding.{type_of}
-use Rattle.pbx_meaning.specs.Meaning.{zero_of}
+use Rattle.pbx_meaning.specs.Meaning.{zero_of, meaning_of}
 use Rattle.pbx_text.specs.Base64.{base64_text}
 use Rattle.pbx_wkt.specs.Shapes.{form_of}
 use Rattle.pbx_wkt.specs.declared.form.Form.{Form}
 use Rattle.pbx_wkt.specs.declared.form.Form.TheVariants as forms
 use Rattle.pbx_json_meaning.specs.Scalars.{Family, integers, truths, texts, bytes_texts, enums, family, is_null_value}
 use Rattle.pbx_json_meaning.specs.Asked.{Asked, field, one, has_presence}
-use Rattle.pbx_json_meaning.specs.Forms.{is_object_type, kind_at, timestamp_tree, duration_tree, mask_tree}
+use Rattle.pbx_json_meaning.specs.Urls.{type_of_url, stands_beside}
+use Rattle.pbx_json_meaning.specs.Forms.{is_object_type, kind_at, timestamp_tree, duration_tree, mask_tree, text_at, bytes_at}
 use Rattle.pbx_json_meaning.specs.Stands.{is_there, all_read, ok_of}
 use Rattle.pbx_json_meaning.specs.declared.options.SerializeOptions.{SerializeOptions}
+
+-- What writing goes by: the options, and the tree of the payload of a type that is these bytes, if there is one.
+pub record Writing : Type 0 where
+  pub options : SerializeOptions
+  pub payloads : ℕ → List ℕ → Option Data
 
 -- ---- scalars
 
@@ -48,8 +54,8 @@ abbrev pub integer : ℤ → Data
 integer z = number (of_integer z)
 
 -- an integer: of 64 bits as a decimal text, unless the option is off
-abbrev pub integer_tree : SerializeOptions → Kind → ℤ → Data
-integer_tree o k z = if is_wide k && o.stringify_64_bit_integers then string (signed_decimal z) else integer z
+abbrev pub integer_tree : Writing → Kind → ℤ → Data
+integer_tree o k z = if is_wide k && o.options.stringify_64_bit_integers then string (signed_decimal z) else integer z
 
 -- the first declared value of a number
 abbrev pub value_of_number : ℤ → List EnumValueShape → Option EnumValueShape
@@ -61,20 +67,20 @@ name_or_number z None = integer z
 name_or_number z (Some v) = string v.name
 
 -- an enum: the first declared name of the number, else the number, or always the number; null for `NullValue`
-abbrev pub enum_tree : Shape → SerializeOptions → ℕ → ℤ → Data
+abbrev pub enum_tree : Shape → Writing → ℕ → ℤ → Data
 enum_tree shape o e z =
     if is_null_value shape e then null
-    else if o.use_enum_numbers then integer z
+    else if o.options.use_enum_numbers then integer z
     else name_or_number z (value_of_number z (enum_values_of shape e))
 
 -- a number of an integer kind or of an enum
-abbrev pub number_by : Shape → SerializeOptions → Kind → Family → ℤ → Option Data
+abbrev pub number_by : Shape → Writing → Kind → Family → ℤ → Option Data
 number_by shape o k (integers min max) z = Some (integer_tree o k z)
 number_by shape o k (enums e) z = Some (enum_tree shape o e z)
 number_by shape o k _ z = None
 
 -- the tree of a number
-abbrev pub number_tree : Shape → SerializeOptions → Kind → ℤ → Option Data
+abbrev pub number_tree : Shape → Writing → Kind → ℤ → Option Data
 number_tree shape o k z = number_by shape o k (family k) z
 
 -- `true` or `false`
@@ -135,8 +141,8 @@ pub record Told : Type 0 where
   pub tells : Tells
 
 -- the key that a field is written under: its JSON name, or by option its own name; an extension keeps its JSON name
-abbrev pub key_of_field : SerializeOptions → FieldShape → List ℕ
-key_of_field o f = if o.use_proto_field_name && not f.is_extension then f.name else f.json_name
+abbrev pub key_of_field : Writing → FieldShape → List ℕ
+key_of_field o f = if o.options.use_proto_field_name && not f.is_extension then f.name else f.json_name
 
 -- a kept record of the field
 abbrev pub is_kept_of : List Rec → FieldShape → Bool
@@ -147,7 +153,7 @@ abbrev pub keeps_float : List FieldShape → List Rec → Bool
 keeps_float gs kept = list_any (λ f. is_float f.kind && is_kept_of kept f) gs
 
 -- the tree of a kind's default
-abbrev pub default_by : Shape → SerializeOptions → Kind → Val → Option Data
+abbrev pub default_by : Shape → Writing → Kind → Val → Option Data
 default_by shape o k (content.number z) = number_tree shape o k z
 default_by shape o k (content.truth b) = Some (boolean b)
 default_by shape o k (content.text s) = Some (string s)
@@ -155,38 +161,38 @@ default_by shape o k (content.octets s) = Some (string (base64_text s))
 default_by shape o k _ = None
 
 -- the tree of a field that has no value: its default, an empty array or an empty object
-abbrev pub default_tree : Shape → SerializeOptions → FieldShape → Cardinality → Option Data
+abbrev pub default_tree : Shape → Writing → FieldShape → Cardinality → Option Data
 default_tree shape o f Singular = default_by shape o f.kind (zero_of shape f.kind)
 default_tree shape o f Repeated = Some (array no_items)
 default_tree shape o f (Map k) = Some (object no_members)
 
 -- where defaults are not skipped: fields without a value and without presence are written too, except floats and extensions
-abbrev pub is_written_default : SerializeOptions → Fields → FieldShape → Bool
+abbrev pub is_written_default : Writing → Fields → FieldShape → Bool
 is_written_default o fs f =
-    not o.skip_default_fields && not (has_presence f) && not (is_float f.kind) && not f.is_extension && not (is_there (get f.number fs))
+    not o.options.skip_default_fields && not (has_presence f) && not (is_float f.kind) && not f.is_extension && not (is_there (get f.number fs))
 
 -- the line of a field that has no value
-abbrev pub default_line : Shape → SerializeOptions → FieldShape → Line
+abbrev pub default_line : Shape → Writing → FieldShape → Line
 default_line shape o f = (key_of_field o f, default_tree shape o f f.cardinality)
 
 -- the line of a field that has a value
-abbrev pub told_line : SerializeOptions → Tells → Option FieldShape → Line
+abbrev pub told_line : Writing → Tells → Option FieldShape → Line
 told_line o tells None = ([], None)
 told_line o tells (Some f) = (key_of_field o f, tells (field f))
 
 -- a line for each field that is written
-abbrev pub lines : Shape → SerializeOptions → List FieldShape → Fields → List Told → List Line
+abbrev pub lines : Shape → Writing → List FieldShape → Fields → List Told → List Line
 lines shape o gs fs told =
     map_list (λ t. told_line o t.tells (field_of t.number gs)) told ++ map_list (default_line shape o) (filter (is_written_default o fs) gs)
 
 -- a message of fields
-abbrev pub object_tree : Shape → SerializeOptions → List FieldShape → Fields → List Rec → List Told → Option Data
+abbrev pub object_tree : Shape → Writing → List FieldShape → Fields → List Rec → List Told → Option Data
 object_tree shape o gs fs kept told = if keeps_float gs kept then None else option_map object (members_of_lines (lines shape o gs fs told))
 
 -- ---- well-known types
 
 -- a value of a kind that is no message, or its default
-abbrev pub scalar_tree : Shape → SerializeOptions → Kind → Option Val → Option Data
+abbrev pub scalar_tree : Shape → Writing → Kind → Option Val → Option Data
 scalar_tree shape o k None = default_by shape o k (zero_of shape k)
 scalar_tree shape o k (Some (content.number z)) = number_tree shape o k z
 scalar_tree shape o k (Some (content.truth b)) = truth_by (family k) b
@@ -214,8 +220,30 @@ value_tree shape t fs kept told =
     if keeps_float (declared_of shape t) kept then None
     else if first_field fs == 1 then Some null else field_tree shape t (first_field fs) (Some null) told
 
+-- an object with the type's URL among its members; None: that key is there already
+abbrev pub with_type : List ℕ → Data → Option Data
+with_type url (object ms) = option_map object (with_member (codes "@type") (string url) ms)
+with_type url _ = None
+
+-- the type's URL, and a payload under `value`
+abbrev pub type_and_value : List ℕ → Data → Data
+type_and_value url d = object (put (codes "@type") (string url) (put (codes "value") d no_members))
+
+-- the object of an `Any` with its payload's tree
+abbrev pub any_with : Shape → List ℕ → ℕ → Data → Option Data
+any_with shape url u d = if stands_beside shape u then with_type url d else Some (type_and_value url d)
+
+-- the tree of a payload of the type that the URL names
+abbrev pub payload_in : Shape → Writing → List ℕ → List ℕ → Option ℕ → Option Data
+payload_in shape o url bytes None = None
+payload_in shape o url bytes (Some u) = option_and_then (any_with shape url u) (o.payloads u bytes)
+
+-- an `Any`: the type's URL, and the payload's tree under `value` or its members beside
+abbrev pub any_tree : Shape → Writing → List ℕ → List ℕ → Option Data
+any_tree shape o url bytes = payload_in shape o url bytes (type_of_url shape url)
+
 -- what a message of a type of this form, which is no object of fields, is written as
-abbrev pub form_tree : Shape → SerializeOptions → ℕ → Form → Fields → List Rec → List Told → Option Data
+abbrev pub form_tree : Shape → Writing → ℕ → Form → Fields → List Rec → List Told → Option Data
 form_tree shape o t forms.Timestamp fs kept told = ok_of (timestamp_tree fs)
 form_tree shape o t forms.Duration fs kept told = ok_of (duration_tree fs)
 form_tree shape o t forms.FieldMask fs kept told = ok_of (mask_tree fs)
@@ -223,14 +251,15 @@ form_tree shape o t forms.Wrapper fs kept told = scalar_tree shape o (kind_at sh
 form_tree shape o t forms.Struct fs kept told = field_tree shape t 1 (Some (object no_members)) told
 form_tree shape o t forms.ListValue fs kept told = field_tree shape t 1 (Some (array no_items)) told
 form_tree shape o t forms.Value fs kept told = value_tree shape t fs kept told
+form_tree shape o t forms.Any fs kept told = any_tree shape o (text_at (get 1 fs)) (bytes_at (get 2 fs))
 form_tree shape o t _ fs kept told = None
 
 -- the same by the type's own form
-abbrev pub own_tree : Shape → SerializeOptions → ℕ → Fields → List Rec → List Told → Option Data
+abbrev pub own_tree : Shape → Writing → ℕ → Fields → List Rec → List Told → Option Data
 own_tree shape o t fs kept told = form_tree shape o t (form_of shape t) fs kept told
 
 -- the tree of a message: an object of fields, or what the type's own form writes
-abbrev pub message_tree : Shape → SerializeOptions → ℕ → Fields → List Rec → List Told → Option Data
+abbrev pub message_tree : Shape → Writing → ℕ → Fields → List Rec → List Told → Option Data
 message_tree shape o t fs kept told =
     if is_object_type shape t then object_tree shape o (declared_of shape t) fs kept told else own_tree shape o t fs kept told
 
@@ -260,7 +289,7 @@ entries_tree k all = option_map object (members_of_lines (map_list (entry_line k
 
 abbrev mutual
   -- the tree of a value, where something is asked of it
-  pub tells : Shape → SerializeOptions → Val → Tells
+  pub tells : Shape → Writing → Val → Tells
   tells shape o (content.number z) a = number_tree shape o (kind_asked a) z
   tells shape o (content.truth b) a = truth_by (family (kind_asked a)) b
   tells shape o (content.text s) a = text_by (family (kind_asked a)) s
@@ -270,24 +299,41 @@ abbrev mutual
   tells shape o (content.keyed ps) a = entries_tree (kind_asked a) (pairs_tell shape o ps)
 
   -- the tree of a content as a message of a type
-  pub content_tree : Shape → SerializeOptions → Content → ℕ → Option Data
+  pub content_tree : Shape → Writing → Content → ℕ → Option Data
   content_tree shape o (content.content fs kept) t = message_tree shape o t fs kept (fields_tell shape o fs)
 
   -- each field with the tree of its value
-  pub fields_tell : Shape → SerializeOptions → Fields → List Told
+  pub fields_tell : Shape → Writing → Fields → List Told
   fields_tell shape o no_fields = []
   fields_tell shape o (field_of_number n v fs) = record { number = n; tells = tells shape o v } ∷ fields_tell shape o fs
 
   -- each element with its tree
-  pub vals_tell : Shape → SerializeOptions → Vals → List Tells
+  pub vals_tell : Shape → Writing → Vals → List Tells
   vals_tell shape o no_vals = []
   vals_tell shape o (val v vs) = tells shape o v ∷ vals_tell shape o vs
 
   -- each key with the tree of its value
-  pub pairs_tell : Shape → SerializeOptions → Pairs → List (Key × Tells)
+  pub pairs_tell : Shape → Writing → Pairs → List (Key × Tells)
   pairs_tell shape o no_pairs = []
   pairs_tell shape o (pair k v ps) = (k, tells shape o v) ∷ pairs_tell shape o ps
 
+-- ---- payloads
+
+-- The tree of a payload as a message of a type. Bytes inside a payload are shorter than it, so payloads inside payloads end: `turns` bounds how deep
+-- they stand, and one more than the payload's length is enough.
+unfoldable pub payload_tree : Shape → SerializeOptions → ℕ → ℕ → List ℕ → Option Data
+payload_tree shape o zero u bytes = None
+payload_tree shape o (suc turns) u bytes =
+    option_and_then (λ c. content_tree shape (record { options = o; payloads = payload_tree shape o turns }) c u) (meaning_of shape u bytes)
+
+-- the tree of a payload, with the payloads inside it
+abbrev pub tree_of_payload : Shape → SerializeOptions → ℕ → List ℕ → Option Data
+tree_of_payload shape o u bytes = payload_tree shape o (suc (length bytes)) u bytes
+
+-- writing under the options
+abbrev pub writing : Shape → SerializeOptions → Writing
+writing shape o = record { options = o; payloads = tree_of_payload shape o }
+
 -- the canonical tree of a content as a message of the type at a place of the shape, under the options
 abbrev pub canonical : Shape → ℕ → Content → SerializeOptions → Option Data
-canonical shape t c o = content_tree shape o c t
+canonical shape t c o = content_tree shape (writing shape o) c t

@@ -1,5 +1,5 @@
 -- Which keys of a message's JSON have two meanings (Protocol Buffers "Language Guide (proto 3)": JSON Options; ProtoJSON Format).
-use Rattle.std.specs.Prelude.{ℕ, suc, ◌==◌, nat_le, List, [], ◌∷◌, map, filter, length, codes, Bool, not, ◌&&◌, ◌||◌, if◌then◌else◌, Option, Some, None}
+use Rattle.std.specs.Prelude.{ℕ, suc, ◌==◌, nat_le, List, [], ◌∷◌, map, filter, length, Bool, not, ◌&&◌, ◌||◌, if◌then◌else◌, Option, Some, None}
 use Rattle.std.specs.Prelude.{option_map}
 use Rattle.std.specs.List.{list_any}
 use Rattle.std.specs.Option.{option_or}
@@ -11,16 +11,13 @@ use Rattle.pbx_meaning.specs.declared.shape.MessageShape.{MessageShape}
 use Rattle.pbx_meaning.specs.declared.shape.FieldShape.{FieldShape}
 use Rattle.pbx_wkt.specs.Shapes.{form_of, is_misshapen}
 use Rattle.pbx_json_meaning.specs.Names.{json_name_is, name_is, extension_is}
+use Rattle.pbx_json_meaning.specs.Urls.{is_type_key}
 use Rattle.pbx_json_meaning.specs.declared.names_fault.NameFault.{NameFault}
 use Rattle.pbx_json_meaning.specs.declared.names_fault.NameFault.TheVariants.{JsonNames, WellKnownShape}
 
 -- two fields share the JSON name
 abbrev pub is_shared : List FieldShape → List ℕ → Bool
 is_shared fs key = nat_le 2 (length (filter (json_name_is key) fs))
-
--- it is the key of an `Any`'s type
-abbrev pub is_type_key : List ℕ → Bool
-is_type_key key = bytes_eq key (codes "@type")
 
 -- it is an extension's too
 abbrev pub is_of_extension : List FieldShape → List ℕ → Bool

@@ -16,7 +16,8 @@ use Rattle.pbx_meaning.specs.Shape.{declared_of, is_float, is_other}
 use Rattle.pbx_json_meaning.specs.Names.{field_named}
 use Rattle.pbx_json_meaning.specs.Scalars.{if_ok, scalar_read, key_read}
 use Rattle.pbx_json_meaning.specs.Asked.{Asked, field, one, root, Target, nothing, single, list, map, target}
-use Rattle.pbx_json_meaning.specs.Forms.{is_object_type, skips_keys, own_read, Own, whole, a_list, a_map}
+use Rattle.pbx_json_meaning.specs.Urls.{is_value_key, is_type_or_value, without_type}
+use Rattle.pbx_json_meaning.specs.Forms.{is_object_type, skips_keys, own_read, Own, whole, a_list, a_map, beside, under}
 use Rattle.pbx_json_meaning.specs.Stands.{said, is_there, is_alike}
 use Rattle.pbx_json_meaning.specs.Place.{IsUpTo}
 use Rattle.pbx_json_meaning.specs.declared.kind.JsonKind.{JsonKind}
@@ -24,13 +25,14 @@ use Rattle.pbx_json_meaning.specs.declared.kind.JsonKind.TheVariants as fault
 use Rattle.pbx_json_meaning.specs.declared.place.Step.{Step}
 use Rattle.pbx_json_meaning.specs.declared.place.Step.TheVariants.{Key, Index}
 
--- What is read below a tree: nothing, elements of a kind, entries whose keys and values are of two kinds, or members that name fields, where keys
--- that name none are skipped or not.
+-- What is read below a tree: nothing, elements of a kind, entries whose keys and values are of two kinds, members that name fields, where keys
+-- that name none are skipped or not, or a payload of a kind under `value`, where other keys than `@type` are skipped or not.
 pub data Inside : Type 0 where
   leaf : Inside
   elements : Kind → Items → Inside
   keyed : Kind → Kind → Members → Inside
   members : Bool → List FieldShape → Members → Inside
+  payload : Bool → Kind → Members → Inside
 
 -- what is read below, or the rule that the tree itself breaks
 abbrev pub Opened : Type 0
@@ -70,6 +72,8 @@ own_opened (Err k) d = Err k
 own_opened (Ok (whole c)) d = Ok leaf
 own_opened (Ok (a_list k wrap)) d = list_opened k d
 own_opened (Ok (a_map k wrap)) d = map_opened kind.String k d
+own_opened (Ok (beside allow fs wrap)) d = object_opened (λ ms. Ok (members allow fs (without_type ms))) d
+own_opened (Ok (under allow k wrap)) d = object_opened (λ ms. Ok (payload allow k ms)) d
 
 -- a tree that is read as a message: an object of fields, or what the type's own form reads
 abbrev pub message_opened : Shape → Bool → ℕ → Data → Opened
@@ -100,6 +104,7 @@ abbrev pub into : Inside → Step → Option (Data × Asked)
 into (elements k ds) (Index i) = option_map (λ d. (d, one k)) (get_item i ds)
 into (keyed kk vk ms) (Key k) = option_map (λ d. (d, one vk)) (get_member k ms)
 into (members allow fs ms) (Key k) = option_and_then (λ f. option_map (λ d. (d, field f)) (get_member k ms)) (field_named k fs)
+into (payload allow pk ms) (Key k) = if is_value_key k then option_map (λ d. (d, one pk)) (get_member k ms) else None
 into _ _ = None
 
 -- the members of lesser keys, by bytes
@@ -145,19 +150,21 @@ reads_alike _ _ = false
 abbrev pub is_second_alike : Kind → Members → List ℕ → Bool
 is_second_alike kk ms k = list_any (λ m. reads_alike (key_read kk m.0) (key_read kk k)) (lesser k ms)
 
--- the rule that a key breaks: of an object of fields, or of one of entries
+-- the rule that a key breaks: of an object of fields, of one of entries, or beside a payload
 abbrev pub KeyBreaks : Shape → Bool → Inside → List ℕ → JsonKind → Type 0
 KeyBreaks shape allow (members skips fs ms) k fault.UnknownField = (field_named k fs ≡ None) × (skips ≡ false)
 KeyBreaks shape allow (members skips fs ms) k fault.DuplicateField = is_second_key fs ms k ≡ true
 KeyBreaks shape allow (members skips fs ms) k fault.OneofTwice = is_second_member shape allow fs ms k (field_named k fs) (get_member k ms) ≡ true
 KeyBreaks shape allow (keyed kk vk ms) k fault.DuplicateKey = is_second_alike kk ms k ≡ true
 KeyBreaks shape allow (keyed kk vk ms) k kind = key_read kk k ≡ Err kind
+KeyBreaks shape allow (payload skips pk ms) k fault.UnknownField = (is_type_or_value k ≡ false) × (skips ≡ false)
 KeyBreaks _ _ _ _ _ = ⊥
 
 -- the members whose keys are judged
 abbrev pub members_of : Inside → Members
 members_of (keyed kk vk ms) = ms
 members_of (members skips fs ms) = ms
+members_of (payload skips pk ms) = ms
 members_of _ = no_members
 
 -- the last step is to a member whose key breaks the rule

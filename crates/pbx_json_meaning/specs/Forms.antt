@@ -1,15 +1,16 @@
 -- What a tree stands for as a message of a well-known type that has a form of its own, and what such a message is written as (ProtoJSON Format: the
 -- table of types; google/protobuf/timestamp.proto, duration.proto, field_mask.proto, wrappers.proto, struct.proto).
-use Rattle.std.specs.Prelude.{ℕ, ℤ, pos, List, [], ◌∷◌, map as map_list, Bool, true, false, if◌then◌else◌, Option, Some, None, Result, Ok, Err}
-use Rattle.serde_json.specs.Data.{Data, null, boolean, number, string, array, object}
+use Rattle.std.specs.Prelude.{ℕ, ℤ, pos, List, [], ◌∷◌, map as map_list, codes, Bool, true, false, if◌then◌else◌, Option, Some, None, Result, Ok, Err}
+use Rattle.serde_json.specs.Data.{Data, null, boolean, number, string, array, object, Members}
+use Rattle.serde_json.specs.Find.{get_member}
 use Rattle.pbx_meaning.specs.Content as content
 use Rattle.pbx_meaning.specs.Content.{Content, Fields, no_fields, field as field_of_number, Val, Vals, no_vals, val, vals_of, get}
 use Rattle.pbx_meaning.specs.declared.shape.Kind.{Kind}
 use Rattle.pbx_meaning.specs.declared.shape.Kind.TheVariants as kind
 use Rattle.pbx_meaning.specs.declared.shape.Shape.{Shape}
 use Rattle.pbx_meaning.specs.declared.shape.FieldShape.{FieldShape}
-use Rattle.pbx_meaning.specs.Shape.{fields_of, field_of}
-use Rattle.pbx_meaning.specs.Encoding.{type_of}
+use Rattle.pbx_meaning.specs.Shape.{fields_of, declared_of, field_of}
+use Rattle.pbx_meaning.specs.Encoding.{type_of, encoded}
 use Rattle.pbx_meaning.specs.Meaning.{shown}
 use Rattle.pbx_wkt.specs.Shapes.{form_of}
 use Rattle.pbx_wkt.specs.declared.form.Form.{Form}
@@ -20,6 +21,7 @@ use Rattle.pbx_text.specs.Mask.{mask_read, mask_written}
 use Rattle.pbx_text.specs.declared.fault.TextFault.{TextFault}
 use Rattle.pbx_json_meaning.specs.Scalars.{if_ok, scalar_read}
 use Rattle.pbx_json_meaning.specs.Asked.{has_presence}
+use Rattle.pbx_json_meaning.specs.Urls.{type_url, type_of_url, stands_beside}
 use Rattle.pbx_json_meaning.specs.declared.kind.JsonKind.{JsonKind}
 use Rattle.pbx_json_meaning.specs.declared.kind.JsonKind.TheVariants as fault
 
@@ -95,12 +97,14 @@ abbrev pub text_form : {X : Type 0} → JsonKind → (List ℕ → Result X Text
 text_form k grammar content_of (string s) = judged k content_of (grammar s)
 text_form k grammar content_of _ = Err fault.WrongKind
 
--- What is read of a tree as a message of a form of its own: a content at once, or the list or the map that the tree is read as, and the content of
--- the value that it says.
+-- What is read of a tree as a message of a form of its own: a content at once; or the list or the map that the tree is read as; or the message that
+-- its members beside `@type` are, by their fields, or that its member `value` is, where other keys are skipped or not; and the content of what that says.
 pub data Own : Type 0 where
   whole : Content → Own
   a_list : Kind → (Option Val → Content) → Own
   a_map : Kind → (Option Val → Content) → Own
+  beside : Bool → List FieldShape → (Content → Content) → Own
+  under : Bool → Kind → (Content → Content) → Own
 
 -- a content that is read at once
 abbrev pub at_once : Result Content JsonKind → Result Own JsonKind
@@ -141,6 +145,36 @@ value_read shape t (string s) = Ok (whole (holding shape t 3 (Some (content.text
 value_read shape t (array ds) = list_value_read shape (type_at shape t 6) (value_with shape t 6)
 value_read shape t (object ms) = struct_read shape (type_at shape t 5) (value_with shape t 5)
 
+-- an `Any`: the type's URL, and the canonical encoding of the payload as its value (google/protobuf/any.proto)
+abbrev pub packed : Shape → ℕ → List ℕ → ℕ → Content → Content
+packed shape t url u p = made shape t ((1, content.text url) ∷ (2, content.octets (encoded shape u p)) ∷ [])
+
+-- the member `value` as a payload, if it is there
+abbrev pub under_value : Shape → Bool → ℕ → List ℕ → ℕ → Option Data → Result Own JsonKind
+under_value shape allow t url u None = Err fault.AnyValue
+under_value shape allow t url u (Some d) = Ok (under allow (kind.Message u) (packed shape t url u))
+
+-- the payload of a type: its fields stand beside `@type`, or where its name is well known it stands under `value`
+abbrev pub payload_read : Shape → Bool → ℕ → Members → List ℕ → ℕ → Result Own JsonKind
+payload_read shape allow t ms url u =
+    if stands_beside shape u then Ok (beside allow (declared_of shape u) (packed shape t url u))
+    else under_value shape allow t url u (get_member (codes "value") ms)
+
+-- the payload of the type that the URL names
+abbrev pub typed_read : Shape → Bool → ℕ → Members → List ℕ → Option ℕ → Result Own JsonKind
+typed_read shape allow t ms url None = Err fault.AnyType
+typed_read shape allow t ms url (Some u) = payload_read shape allow t ms url u
+
+-- the members of an `Any`, of which one is the type's URL
+abbrev pub members_read : Shape → Bool → ℕ → Members → Option (List ℕ) → Result Own JsonKind
+members_read shape allow t ms None = Err fault.AnyType
+members_read shape allow t ms (Some url) = typed_read shape allow t ms url (type_of_url shape url)
+
+-- an `Any`: an object that names the type of its payload
+abbrev pub any_read : Shape → Bool → ℕ → Data → Result Own JsonKind
+any_read shape allow t (object ms) = members_read shape allow t ms (type_url ms)
+any_read shape allow t _ = Err fault.WrongKind
+
 -- the content itself
 abbrev pub itself : Content → Content
 itself c = c
@@ -156,7 +190,8 @@ form_read shape allow t forms.Misshapen d = Err fault.Shape
 form_read shape allow t forms.Struct d = struct_read shape t itself
 form_read shape allow t forms.ListValue d = list_value_read shape t itself
 form_read shape allow t forms.Value d = value_read shape t d
-form_read shape allow t _ d = Err fault.NotBuilt
+form_read shape allow t forms.Any d = any_read shape allow t d
+form_read shape allow t _ d = Err fault.WrongKind
 
 -- the same by the type's own form
 abbrev pub own_read : Shape → Bool → ℕ → Data → Result Own JsonKind
@@ -176,6 +211,16 @@ skips_keys shape allow t = skips (form_of shape t) allow
 abbrev pub number_in : Option Val → ℤ
 number_in (Some (content.number z)) = z
 number_in _ = pos 0
+
+-- the text that a field holds, empty where it is absent
+abbrev pub text_at : Option Val → List ℕ
+text_at (Some (content.text s)) = s
+text_at _ = []
+
+-- the bytes that a field holds, none where it is absent
+abbrev pub bytes_at : Option Val → List ℕ
+bytes_at (Some (content.octets b)) = b
+bytes_at _ = []
 
 -- the text that a value holds
 abbrev pub text_in : Val → List ℕ

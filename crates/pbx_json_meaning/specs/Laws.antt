@@ -12,6 +12,7 @@ use Rattle.pbx_json_meaning.specs.Faults.{JsonFault, FirstJsonFault}
 use Rattle.pbx_json_meaning.specs.Canonical.{canonical}
 use Rattle.pbx_json_meaning.specs.WriteFaults.{WriteFault}
 use Rattle.pbx_json_meaning.specs.Clash.{name_fault}
+use Rattle.pbx_json_meaning.specs.Fits.{payloads_fit}
 use Rattle.pbx_json_meaning.specs.declared.kind.JsonKind.{JsonKind}
 use Rattle.pbx_json_meaning.specs.declared.options.SerializeOptions.{SerializeOptions}
 use Rattle.pbx_json_meaning.specs.declared.place.Step.{Step}
@@ -64,11 +65,13 @@ WrittenStands =
     → IsProper shape → IsWellNamed shape → name_fault true shape ≡ None → HasTexts tree
     → Stands shape t allow tree c → canonical shape t c o ≡ Some d → Stands shape t false d c
 
--- A content that some tree stands for has a tree under any options, where no key has two meanings under them and well-known names have their shapes.
-abbrev pub StandingIsWritten : Type 0
-StandingIsWritten =
+-- A content that some tree stands for has a tree under any options, where no key has two meanings under them, well-known names have their shapes, and
+-- the payloads of its `Any` messages are read again.
+abbrev pub FittingIsWritten : Type 0
+FittingIsWritten =
     (shape : Shape) (t : ℕ) (allow : Bool) (tree : Data) (c : Content) (o : SerializeOptions) → IsProper shape → IsWellNamed shape
-    → name_fault o.use_proto_field_name shape ≡ None → HasTexts tree → Stands shape t allow tree c → (d : Data) × (canonical shape t c o ≡ Some d)
+    → name_fault o.use_proto_field_name shape ≡ None → HasTexts tree → Stands shape t allow tree c → payloads_fit shape t c ≡ true
+    → (d : Data) × (canonical shape t c o ≡ Some d)
 
 -- What is written is ordered as `serde_json` holds objects, and has no number with a fraction or an exponent.
 abbrev pub CanonicalIsPlain : Type 0

@@ -1,6 +1,7 @@
 pub mod Names
 pub mod Scalars
 pub mod Asked
+pub mod Urls
 pub mod Forms
 pub mod Place
 pub mod Trees
@@ -10,6 +11,7 @@ pub mod FirstFaults
 pub mod Canonical
 pub mod WriteFaults
 pub mod Clash
+pub mod Fits
 pub mod Options
 pub mod Named
 pub mod Laws

@@ -1,6 +1,6 @@
 -- Which content a tree stands for: said for each field over the whole object (ProtoJSON Format). None is a fault, so at most one content stands
 -- for a tree.
-use Rattle.std.specs.Prelude.{◌≡◌, ℕ, ◌==◌, List, [], ◌∷◌, Bool, true, false, not, ◌&&◌, if◌then◌else◌, nat_lt, Option, Some, None, option_map}
+use Rattle.std.specs.Prelude.{◌≡◌, ℕ, ◌==◌, List, [], ◌∷◌, filter, find, Bool, true, false, not, ◌&&◌, ◌||◌, if◌then◌else◌, nat_lt, Option, Some, None, option_map}
 use Rattle.std.specs.Prelude.{option_and_then, Result, Ok, Err}
 use Rattle.std.specs.List.{list_all, list_any}
 use Rattle.serde_json.specs.Data.{Data, null, boolean, number, string, array, object, Items, no_items, item, Members, no_members, member}
@@ -17,7 +17,8 @@ use Rattle.pbx_meaning.specs.Sound.{has_one_member}
 use Rattle.pbx_json_meaning.specs.Names.{field_named}
 use Rattle.pbx_json_meaning.specs.Scalars.{scalar_read, key_read}
 use Rattle.pbx_json_meaning.specs.Asked.{Asked, field, one, root, Target, nothing, single, list, map, target, has_presence}
-use Rattle.pbx_json_meaning.specs.Forms.{is_object_type, skips_keys, own_read, Own, whole, a_list, a_map}
+use Rattle.pbx_json_meaning.specs.Urls.{is_type_key, is_value_key, is_type_or_value}
+use Rattle.pbx_json_meaning.specs.Forms.{is_object_type, skips_keys, own_read, Own, whole, a_list, a_map, beside, under}
 use Rattle.pbx_json_meaning.specs.declared.kind.JsonKind.{JsonKind}
 
 -- What a tree says where something is asked of it: None is a fault, and `Some None` is absent, or dropped. Without presence a default is absent.
@@ -171,12 +172,26 @@ map_as kk vk (object no_members) es = Some None
 map_as kk vk (object (member k d ms)) es = if is_float vk then None else entries_read kk vk es
 map_as kk vk _ es = None
 
+-- the entries but that of the type of an `Any`
+abbrev pub beside_type : List Entry → List Entry
+beside_type es = filter (λ e. not (is_type_key e.key)) es
+
+-- what the entry `value` says as a message
+abbrev pub value_said : Kind → List Entry → Option Content
+value_said k es = option_and_then (λ e. message_in (e.says (one k))) (find (λ e. is_value_key e.key) es)
+
+-- the same, where beside it and the type no other entry stands, or others are skipped
+abbrev pub payload_said : Bool → Kind → List Entry → Option Content
+payload_said allow k es = if allow || list_all (λ e. is_type_or_value e.key) es then value_said k es else None
+
 -- what a tree is as a message of a form of its own; an empty list and an empty map are absent
 abbrev pub own_as : Shape → Result Own JsonKind → Data → List Says → List Entry → Option Content
 own_as shape (Err k) d items es = None
 own_as shape (Ok (whole c)) d items es = Some c
 own_as shape (Ok (a_list k wrap)) d items es = option_map wrap (option_map (shown shape false k) (list_as k d items))
 own_as shape (Ok (a_map k wrap)) d items es = option_map wrap (option_map (shown shape false k) (map_as kind.String k d es))
+own_as shape (Ok (beside allow fs wrap)) d items es = option_map wrap (object_of (message_of allow fs) d (beside_type es))
+own_as shape (Ok (under allow k wrap)) d items es = option_map wrap (object_of (payload_said allow k) d es)
 
 -- what a tree is as a message: an object of fields, or what the type's own form reads
 abbrev pub message_as : Shape → Bool → ℕ → Data → List Says → List Entry → Option Content

@@ -1,14 +1,16 @@
 -- Which rule of the JSON mapping a content breaks where it is written, and where in the tree (ProtoJSON Format). A place is followed from the root,
 -- through what is written of the values on the way; a rule is broken by the value that stands there, or by the key that leads there.
-use Rattle.std.specs.Prelude.{◌≡◌, ◌⊎◌, ℕ, zero, suc, nat_le, List, [], ◌∷◌, ◌++◌, map as map_list, filter, length, Bool, true, false, ◌&&◌}
+use Rattle.std.specs.Prelude.{◌≡◌, ◌⊎◌, ℕ, zero, suc, nat_le, List, [], ◌∷◌, ◌++◌, map as map_list, filter, length, codes, Bool, true, false, ◌&&◌}
 use Rattle.std.specs.Prelude.{if◌then◌else◌, Option, Some, None, option_map, Result, Ok, Err}
 use Rattle.std.specs.List.{list_any}
 use Rattle.std.specs.Str.{bytes_eq}
 use Rattle.pbx_wire.specs.declared.rec.Rec.{Rec}
 use Rattle.pbx_meaning.specs.Content as content
-use Rattle.pbx_meaning.specs.Content.{Content, Fields, no_fields, field as field_of_number, Val, Vals, no_vals, val, Pairs, no_pairs, pair, get, fields}
+use Rattle.pbx_meaning.specs.Content.{Content, Fields, no_fields, field as field_of_number, Val, Vals, no_vals, val, Pairs, no_pairs, pair, get, fields, kept}
 use Rattle.pbx_meaning.specs.Content.{Key as MapKey}
 use Rattle.pbx_meaning.specs.declared.shape.Kind.{Kind}
+use Rattle.pbx_meaning.specs.declared.shape.Kind.TheVariants as kind
+use Rattle.pbx_meaning.specs.Meaning.{meaning_of}
 use Rattle.pbx_meaning.specs.declared.shape.Shape.{Shape}
 use Rattle.pbx_meaning.specs.declared.shape.FieldShape.{FieldShape}
 use Rattle.pbx_meaning.specs.Encoding.{type_of}
@@ -18,21 +20,24 @@ use Rattle.pbx_json_meaning.specs.Scalars.{if_ok}
 use Rattle.pbx_wkt.specs.Shapes.{form_of}
 use Rattle.pbx_wkt.specs.declared.form.Form.{Form}
 use Rattle.pbx_wkt.specs.declared.form.Form.TheVariants as forms
-use Rattle.pbx_json_meaning.specs.Forms.{is_object_type, kind_at, type_at, timestamp_tree, duration_tree, mask_tree}
+use Rattle.pbx_json_meaning.specs.Urls.{type_of_url, stands_beside, is_value_key}
+use Rattle.pbx_json_meaning.specs.Forms.{is_object_type, kind_at, type_at, timestamp_tree, duration_tree, mask_tree, text_at, bytes_at}
 use Rattle.pbx_json_meaning.specs.Faults.{SomeWith, OkWith}
-use Rattle.pbx_json_meaning.specs.Canonical.{key_of_field, is_kept_of, is_written_default, kind_asked, key_text, keeps_float, first_field}
+use Rattle.pbx_json_meaning.specs.Canonical.{Writing, writing, key_of_field, is_kept_of, is_written_default, kind_asked, key_text, keeps_float, first_field}
 use Rattle.pbx_json_meaning.specs.declared.kind.JsonKind.{JsonKind}
 use Rattle.pbx_json_meaning.specs.declared.kind.JsonKind.TheVariants as fault
 use Rattle.pbx_json_meaning.specs.declared.options.SerializeOptions.{SerializeOptions}
 use Rattle.pbx_json_meaning.specs.declared.place.Step.{Step}
 use Rattle.pbx_json_meaning.specs.declared.place.Step.TheVariants.{Key, Index}
 
--- what is written below a value: nothing, elements, entries, or fields of a message with its kept records
+-- what is written below a value: nothing, elements, entries, fields of a message with its kept records, beside `@type` or not, or a payload of a type
+-- under `value`
 pub data Parts : Type 0 where
   leaf : Parts
   elements : Kind → Vals → Parts
   keyed : Kind → Pairs → Parts
-  members : List FieldShape → Fields → List Rec → Parts
+  members : Bool → List FieldShape → Fields → List Rec → Parts
+  payload : ℕ → Content → Parts
 
 -- what is written below, or the rule that the value itself breaks
 abbrev pub Taken : Type 0
@@ -64,6 +69,20 @@ value_parts shape t fs kept =
     if keeps_float (declared_of shape t) kept then Err fault.Float
     else held_parts shape (type_at shape t (first_field fs)) (form_of shape (type_at shape t (first_field fs))) (get (first_field fs) fs)
 
+-- what is written below an `Any` with the content of its payload, if that decodes
+abbrev pub payload_parts : Shape → ℕ → Option Content → Taken
+payload_parts shape u None = Err fault.AnyPayload
+payload_parts shape u (Some c) = if stands_beside shape u then Ok (members true (declared_of shape u) (fields c) (kept c)) else Ok (payload u c)
+
+-- the same with a payload of the type that the URL names
+abbrev pub typed_parts : Shape → List ℕ → Option ℕ → Taken
+typed_parts shape bytes None = Err fault.AnyType
+typed_parts shape bytes (Some u) = payload_parts shape u (meaning_of shape u bytes)
+
+-- what is written below an `Any`
+abbrev pub any_parts : Shape → Fields → Taken
+any_parts shape fs = typed_parts shape (bytes_at (get 2 fs)) (type_of_url shape (text_at (get 1 fs)))
+
 -- what is written below a message of a type of this form, which is no object of fields
 abbrev pub form_parts : Shape → ℕ → Form → Fields → List Rec → Taken
 form_parts shape t forms.Timestamp fs kept = as_leaf (timestamp_tree fs)
@@ -75,11 +94,12 @@ form_parts shape t forms.Misshapen fs kept = Err fault.Shape
 form_parts shape t forms.Struct fs kept = struct_parts shape t fs
 form_parts shape t forms.ListValue fs kept = struct_parts shape t fs
 form_parts shape t forms.Value fs kept = value_parts shape t fs kept
-form_parts shape t _ fs kept = Err fault.NotBuilt
+form_parts shape t forms.Any fs kept = any_parts shape fs
+form_parts shape t _ fs kept = Err fault.WrongKind
 
 -- what is written below a message: fields, or what its own form has
 abbrev pub message_parts : Shape → ℕ → Fields → List Rec → Taken
-message_parts shape t fs kept = if is_object_type shape t then Ok (members (declared_of shape t) fs kept) else form_parts shape t (form_of shape t) fs kept
+message_parts shape t fs kept = if is_object_type shape t then Ok (members false (declared_of shape t) fs kept) else form_parts shape t (form_of shape t) fs kept
 
 -- what is written below a content of a type
 abbrev pub content_parts : Shape → ℕ → Content → Taken
@@ -106,7 +126,7 @@ val_under s no_pairs = None
 val_under s (pair k v ps) = if bytes_eq (key_text k) s then Some v else val_under s ps
 
 -- the field is written under a key
-abbrev pub is_under : SerializeOptions → List ℕ → Option FieldShape → Bool
+abbrev pub is_under : Writing → List ℕ → Option FieldShape → Bool
 is_under o s None = false
 is_under o s (Some f) = bytes_eq (key_of_field o f) s
 
@@ -116,48 +136,53 @@ asked_of None v = None
 asked_of (Some f) v = Some (v, field f)
 
 -- the value of the field that is written under a key
-abbrev pub field_under : SerializeOptions → List ℕ → List FieldShape → Fields → Option (Val × Asked)
+abbrev pub field_under : Writing → List ℕ → List FieldShape → Fields → Option (Val × Asked)
 field_under o s gs no_fields = None
 field_under o s gs (field_of_number n v fs) = if is_under o s (field_of n gs) then asked_of (field_of n gs) v else field_under o s gs fs
 
 -- the value that is written at an element or under a key, and what is asked of it
-abbrev pub into_written : SerializeOptions → Parts → Step → Option (Val × Asked)
+abbrev pub into_written : Writing → Parts → Step → Option (Val × Asked)
 into_written o (elements k vs) (Index i) = option_map (λ v. (v, one k)) (val_at i vs)
 into_written o (keyed k ps) (Key s) = option_map (λ v. (v, one k)) (val_under s ps)
-into_written o (members gs fs kept) (Key s) = field_under o s gs fs
+into_written o (members typed gs fs kept) (Key s) = field_under o s gs fs
+into_written o (payload u c) (Key s) = if is_value_key s then Some (content.message c, one (kind.Message u)) else None
 into_written o _ _ = None
 
 -- the key of a field
-abbrev pub key_in : SerializeOptions → Option FieldShape → List (List ℕ)
+abbrev pub key_in : Writing → Option FieldShape → List (List ℕ)
 key_in o None = []
 key_in o (Some f) = key_of_field o f ∷ []
 
 -- the keys of the fields that have a value
-abbrev pub value_keys : SerializeOptions → List FieldShape → Fields → List (List ℕ)
+abbrev pub value_keys : Writing → List FieldShape → Fields → List (List ℕ)
 value_keys o gs no_fields = []
 value_keys o gs (field_of_number n v fs) = key_in o (field_of n gs) ++ value_keys o gs fs
 
--- the keys that are written: of the fields that have a value, and of the defaults
-abbrev pub written_keys : SerializeOptions → List FieldShape → Fields → List (List ℕ)
-written_keys o gs fs = value_keys o gs fs ++ map_list (key_of_field o) (filter (is_written_default o fs) gs)
+-- the key of the type beside which fields stand, if they do
+abbrev pub type_keys : Bool → List (List ℕ)
+type_keys typed = if typed then codes "@type" ∷ [] else []
+
+-- the keys that are written: of the type, of the fields that have a value, and of the defaults
+abbrev pub written_keys : Writing → Bool → List FieldShape → Fields → List (List ℕ)
+written_keys o typed gs fs = type_keys typed ++ value_keys o gs fs ++ map_list (key_of_field o) (filter (is_written_default o fs) gs)
 
 -- the key is written twice
 abbrev pub is_twice : List ℕ → List (List ℕ) → Bool
 is_twice s keys = nat_le 2 (length (filter (λ k. bytes_eq k s) keys))
 
 -- the rule that a key breaks: two are written, or a float field that would stand there has a kept record
-abbrev pub KeyBreaks : SerializeOptions → Parts → List ℕ → JsonKind → Type 0
-KeyBreaks o (members gs fs kept) s fault.DuplicateField = is_twice s (written_keys o gs fs) ≡ true
-KeyBreaks o (members gs fs kept) s fault.Float = list_any (λ f. is_float f.kind && is_kept_of kept f && bytes_eq (key_of_field o f) s) gs ≡ true
+abbrev pub KeyBreaks : Writing → Parts → List ℕ → JsonKind → Type 0
+KeyBreaks o (members typed gs fs kept) s fault.DuplicateField = is_twice s (written_keys o typed gs fs) ≡ true
+KeyBreaks o (members typed gs fs kept) s fault.Float = list_any (λ f. is_float f.kind && is_kept_of kept f && bytes_eq (key_of_field o f) s) gs ≡ true
 KeyBreaks o _ s _ = ⊥
 
 -- the last step is to a key that breaks the rule
-abbrev pub IsKeyFault : SerializeOptions → Parts → Step → List Step → JsonKind → Type 0
+abbrev pub IsKeyFault : Writing → Parts → Step → List Step → JsonKind → Type 0
 IsKeyFault o parts (Key s) place kind = (place ≡ []) × KeyBreaks o parts s kind
 IsKeyFault o parts (Index i) place kind = ⊥
 
 -- The rule of the kind is broken at the place of the tree: by the value that is written there, or by the key that leads there.
-abbrev pub WriteFaultAt : Shape → SerializeOptions → List Step → Val → Asked → JsonKind → Type 0
+abbrev pub WriteFaultAt : Shape → Writing → List Step → Val → Asked → JsonKind → Type 0
 WriteFaultAt shape o [] v a kind = parts_of shape v a ≡ Err kind
 WriteFaultAt shape o (step ∷ place) v a kind =
     OkWith (parts_of shape v a) (λ parts.
@@ -165,4 +190,4 @@ WriteFaultAt shape o (step ∷ place) v a kind =
 
 -- a content of the type breaks the rule of the kind at the place, where it is written under the options
 abbrev pub WriteFault : Shape → ℕ → Content → SerializeOptions → List Step → JsonKind → Type 0
-WriteFault shape t c o place kind = WriteFaultAt shape o place (content.message c) (root t) kind
+WriteFault shape t c o place kind = WriteFaultAt shape (writing shape o) place (content.message c) (root t) kind

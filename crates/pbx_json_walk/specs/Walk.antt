@@ -1,5 +1,5 @@
 -- What the reader does, one key and one element after another: what it answers for each tree where something is asked of it.
-use Rattle.std.specs.Prelude.{◌≡◌, ◌⊎◌, ℕ, ◌+◌, ℤ, List, [], ◌∷◌, ◌++◌, Bool, true, false, ◌&&◌, if◌then◌else◌, Option, Some, None, option_map, Result, Ok, Err}
+use Rattle.std.specs.Prelude.{◌≡◌, ◌⊎◌, ℕ, ◌+◌, ℤ, List, [], ◌∷◌, ◌++◌, filter, Bool, true, false, not, ◌&&◌, if◌then◌else◌, Option, Some, None, option_map, Result, Ok, Err}
 use Rattle.std.specs.BTreeSet.{BTreeSet, contains, insert_key}
 use Rattle.std.specs.Ordering.{nat_cmp, int_cmp, is_lt}
 use Rattle.std.specs.Cmp.Lexicographic.{slice_cmp}
@@ -14,7 +14,9 @@ use Rattle.pbx_meaning.specs.declared.shape.Shape.{Shape}
 use Rattle.pbx_meaning.specs.declared.shape.FieldShape.{FieldShape}
 use Rattle.pbx_json_meaning.specs.Names.{field_named}
 use Rattle.pbx_json_meaning.specs.Scalars.{scalar_read, key_read, if_ok}
-use Rattle.pbx_json_meaning.specs.Forms.{is_object_type, skips_keys, own_read, Own, whole, a_list, a_map}
+use Rattle.pbx_json_meaning.specs.Urls.{is_type_key, is_value_key, without_type}
+use Rattle.pbx_json_meaning.specs.Forms.{is_object_type, skips_keys, own_read, Own, whole, a_list, a_map, beside, under}
+use Rattle.pbx_json_meaning.specs.Stands.{message_in}
 use Rattle.pbx_json_walk.specs.Opened.{members_in, items_of_list, members_of_map}
 use Rattle.pbx_json_meaning.specs.Asked.{Asked, field, one, root, Target, nothing, single, list, map, target, has_presence}
 use Rattle.pbx_json_meaning.specs.declared.error.JsonError.{JsonError}
@@ -240,6 +242,40 @@ entries_answer kk vk ps ms = if_ascending ms (answer_map map_value (walk_entries
 abbrev pub map_answer : Kind → Kind → Data → List Part → Answer (Option Val)
 map_answer kk vk d ps = and_then (or_here (members_of_map vk d)) (entries_answer kk vk ps)
 
+-- ---- payloads
+
+-- the keys but that of the type of an `Any`
+abbrev pub beside_type : List Part → List Part
+beside_type ps = filter (λ p. not (is_type_key p.key)) ps
+
+-- the message that was read
+abbrev pub message_found : Option Val → Option Content
+message_found o = message_in (Some o)
+
+-- what one key beside a payload of a kind does, which stands under `value`
+abbrev pub payload_turn : Bool → Kind → List ℕ → Answers → Option Content → Answer (Option Content)
+payload_turn allow k key answers found =
+    if is_type_key key then Ok found
+    else if is_value_key key then answer_map message_found (answers (one k)) else if allow then Ok found else here fault.UnknownField
+
+-- what all keys do, one after another
+abbrev pub walk_payload : Bool → Kind → List Part → Option Content → Answer (Option Content)
+walk_payload allow k [] found = Ok found
+walk_payload allow k (p ∷ ps) found = and_then (at_step (to_key p.key) (payload_turn allow k p.key p.answers found)) (walk_payload allow k ps)
+
+-- the payload that was found
+abbrev pub payload_found : Option Content → Answer Content
+payload_found None = here fault.AnyValue
+payload_found (Some c) = Ok c
+
+-- the payload that the members say
+abbrev pub payload_answer : Bool → Kind → List Part → Members → Answer Content
+payload_answer allow k ps ms = if_ascending ms (and_then (walk_payload allow k ps None) payload_found)
+
+-- the message that the members beside the type say
+abbrev pub beside_answer : Bool → List FieldShape → List Part → Members → Answer Content
+beside_answer allow fs ps ms = members_answer allow fs (beside_type ps) (without_type ms)
+
 -- ---- one value
 
 -- a message of a form of its own; an empty list and an empty map are absent
@@ -248,6 +284,8 @@ own_answer shape (Err k) d as' ps = here k
 own_answer shape (Ok (whole c)) d as' ps = Ok c
 own_answer shape (Ok (a_list k wrap)) d as' ps = answer_map wrap (answer_map (shown shape false k) (list_answer k d as'))
 own_answer shape (Ok (a_map k wrap)) d as' ps = answer_map wrap (answer_map (shown shape false k) (map_answer kind.String k d ps))
+own_answer shape (Ok (beside allow fs wrap)) d as' ps = answer_map wrap (and_then (or_here (members_in d)) (beside_answer allow fs ps))
+own_answer shape (Ok (under allow k wrap)) d as' ps = answer_map wrap (and_then (or_here (members_in d)) (payload_answer allow k ps))
 
 -- a message: an object of fields, or what the type's own form reads
 abbrev pub message_answer : Shape → Bool → ℕ → Data → List Answers → List Part → Answer Content
