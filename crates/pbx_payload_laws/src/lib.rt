@@ -5,4 +5,4 @@
 
 mod laws;
 
-pub use laws::meaning_shrinks;
+pub use laws::{meaning_shrinks, more_levels};
