@@ -2,3 +2,4 @@ pub mod Inside
 pub mod Shrinks
 pub mod More
 pub mod NoKept
+pub mod Long
