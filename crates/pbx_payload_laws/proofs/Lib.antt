@@ -3,3 +3,4 @@ pub mod Shrinks
 pub mod More
 pub mod NoKept
 pub mod Long
+pub mod Writable
