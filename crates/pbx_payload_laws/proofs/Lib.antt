@@ -4,3 +4,5 @@ pub mod More
 pub mod NoKept
 pub mod Long
 pub mod Writable
+pub mod Values
+pub mod FieldsRead

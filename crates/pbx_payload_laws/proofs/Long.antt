@@ -1,9 +1,8 @@
 -- A record whose payload is too long for a length of 64 bits is not read: the varint of its length breaks a rule.
-use Rattle.std.proofs.Common.{◌≡◌, ◌⊎◌, ℕ, zero, suc, ◌+◌, ◌*◌, ◌/◌, ◌%◌, ◌^◌, ◌<◌, ◌≤◌, Bool, true, false, ◌&&◌, nat_lt, List, [], ◌∷◌, ◌++◌, length, map, Some, inl, inr, refl, sym, ap, ◌∙◌, subst, arith}
+use Rattle.std.proofs.Common.{◌≡◌, ◌⊎◌, ℕ, zero, suc, ◌+◌, ◌*◌, ◌/◌, ◌%◌, ◌^◌, ◌<◌, ◌≤◌, true, nat_lt, List, [], ◌∷◌, ◌++◌, length, Some, inl, inr, refl, sym, ap, ◌∙◌, subst, arith}
 use Rattle.std.proofs.Common.{append_assoc, rules}
 use Rattle.std.proofs.Math.Nat.{pow-suc, one-le-pow}
 use Rattle.std.proofs.lemmas.Bool.{lt-ltb, le-ltb, ltb-true, cases_lt}
-use Rattle.std.proofs.lemmas.List.{map-append}
 use Rattle.std.specs.List.{AllByRecursion}
 use Rattle.pbx_wire.specs.declared.error.DecodeError.TheVariants as errors
 use Rattle.pbx_wire.specs.declared.rec.Rec.{Rec, Varint, Fixed64, Bytes, Group', Fixed32, the_lemmas as rec_lemmas}
@@ -12,12 +11,12 @@ use Rattle.pbx_wire.specs.declared.rec.Rec.TheVariants.{outs-Bytes}
 use Rattle.pbx_wire.specs.Varint.{varint, varint_within}
 use Rattle.pbx_wire.specs.Spelling.{IsKey, SpellsBelow}
 use Rattle.pbx_wire.specs.Faults.{GoesOn, IsLongVarint, HasLongVarint, FaultsBelow, IsFault}
-use Rattle.pbx_wire.specs.Text.{text, text_of, is_record_number, is_numbered, are_numbered, is_fit, fit_step, are_fit, all_true, depth as rec_depth, depth_of}
+use Rattle.pbx_wire.specs.Text.{text_of, is_record_number, is_numbered, are_numbered, is_fit, are_fit, depth_of}
 use Rattle.pbx_wire.proofs.Varints.{within_suc}
 use Rattle.pbx_wire.proofs.Written.{both, varint_spelled, written_spelled}
 use Rattle.pbx_wire.proofs.Texts.{text_of-append, bytes_text}
 use Rattle.pbx_wire.proofs.Breaking.{are_spelled, not_both}
-use Rattle.pbx_meaning.specs.Records.{bytes_of, records_in}
+use Rattle.pbx_meaning.specs.Records.{records_in}
 use Rattle.pbx_payload_laws.proofs.Shrinks.{IsPayloadBelow, ArePayloadsBelow}
 
 -- ---- a number of more than 64 bits

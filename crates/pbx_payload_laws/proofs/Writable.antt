@@ -1,5 +1,5 @@
 -- The records of a content may be written, but that a payload may be too long.
-use Rattle.std.proofs.Common.{◌≡◌, ◌⊎◌, ℕ, ◌+◌, ◌*◌, ◌^◌, ◌<◌, ◌≤◌, max, Bool, true, false, ◌&&◌, if◌then◌else◌, nat_lt, List, [], ◌∷◌, ◌++◌, length, map, Option, Some, None, inl, inr, refl, ap, ◌∙◌, arith, rules}
+use Rattle.std.proofs.Common.{◌≡◌, ℕ, ◌^◌, ◌<◌, ◌≤◌, max, Bool, true, false, ◌&&◌, if◌then◌else◌, nat_lt, List, [], ◌∷◌, ◌++◌, length, map, Option, Some, None, inl, inr, refl, ap, ◌∙◌, arith, rules}
 use Rattle.std.proofs.lemmas.Bool.{lt-ltb, cases_lt}
 use Rattle.std.proofs.lemmas.List.{map-append}
 use Rattle.std.specs.List.{AllByRecursion}
@@ -12,7 +12,7 @@ use Rattle.pbx_meaning.specs.declared.shape.Kind.{Kind}
 use Rattle.pbx_meaning.specs.declared.shape.Kind.TheVariants as kind
 use Rattle.pbx_meaning.specs.declared.shape.Shape.{Shape}
 use Rattle.pbx_meaning.specs.declared.shape.FieldShape.{FieldShape}
-use Rattle.pbx_meaning.specs.Content.{Content, content, Fields, no_fields, field, Val, number, truth, text as text_val, octets, message, many, keyed, Vals, no_vals, val}
+use Rattle.pbx_meaning.specs.Content.{content, Fields, no_fields, field, Val, number, truth, text as text_val, octets, message, many, keyed, Vals, no_vals, val}
 use Rattle.pbx_meaning.specs.Content.{Pairs, no_pairs, pair}
 use Rattle.pbx_meaning.specs.Records.{number_of, bytes_of, insert, sorted}
 use Rattle.pbx_meaning.specs.Shape.{Form, as_varint, as_four, as_eight, as_payload, fields_of, keeps_order_of, field_of, form_of}
@@ -24,7 +24,7 @@ use Rattle.pbx_meaning.proofs.WrittenNumbers.{FitsForm, number_numeral, truth_nu
 use Rattle.pbx_meaning.proofs.WrittenOrder.{AreAbove, fields_above, numbered_field}
 use Rattle.pbx_meaning.proofs.WrittenShort.{size, size_first, bytes_within}
 use Rattle.pbx_meaning.proofs.WrittenValues.{entry_recs}
-use Rattle.pbx_payload_laws.proofs.Shrinks.{IsPayloadBelow, ArePayloadsBelow}
+use Rattle.pbx_payload_laws.proofs.Shrinks.{ArePayloadsBelow}
 use Rattle.pbx_payload_laws.proofs.Long.{IsFitOrLong}
 
 -- ---- payloads are no longer than the whole text
