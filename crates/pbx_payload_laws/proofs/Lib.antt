@@ -6,3 +6,4 @@ pub mod Long
 pub mod Writable
 pub mod Values
 pub mod FieldsRead
+pub mod Read
