@@ -14,6 +14,8 @@ pub mod KeyOrder
 pub mod Payloads
 pub mod FitTrees
 pub mod FitSound
+pub mod NoKept
+pub mod Payload
 pub mod ScalarsBack
 pub mod Told
 pub mod EntriesBack
