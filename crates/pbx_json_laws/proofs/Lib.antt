@@ -36,6 +36,9 @@ pub mod FaultParts
 pub mod FaultFields
 pub mod FaultFound
 pub mod LinesMade
+pub mod TypeKeys
+pub mod PayloadTrees
+pub mod LongestBytes
 pub mod WriteAsked
 pub mod ValueFields
 pub mod HeldTrees
