@@ -1,0 +1,4 @@
+pub mod Inside
+pub mod Shrinks
+pub mod More
+pub mod NoKept

@@ -1,0 +1,14 @@
+// Laws that callers use in their proofs. They have no bodies.
+ghost use Rattle.pbx_payload_laws.specs.Laws.{MeaningShrinks, MoreLevels};
+
+/// Bytes that stand as values inside what bytes mean are shorter than these.
+#[tactic(auto, using(crate::proofs::Shrinks::meaning_shrinks))]
+pub fn meaning_shrinks()
+    ensures { MeaningShrinks }
+{}
+
+/// Levels that are not needed change nothing of what bytes mean.
+#[tactic(auto, using(crate::proofs::More::more_levels))]
+pub fn more_levels()
+    ensures { MoreLevels }
+{}

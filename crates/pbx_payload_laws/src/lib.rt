@@ -1,0 +1,8 @@
+//! What holds of payloads: bytes that stand as a value inside what bytes mean are shorter than these, more levels
+//! change nothing of what bytes mean, and what is written of a content is read as no other one. The laws are the
+//! contracts of functions that do nothing.
+#![tactic(auto)]
+
+mod laws;
+
+pub use laws::{meaning_shrinks, more_levels};
