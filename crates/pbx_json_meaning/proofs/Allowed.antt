@@ -1,6 +1,7 @@
 -- Where unknown fields are allowed, a tree says what it says where they are denied.
 use Rattle.std.proofs.Common.{◌≡◌, ℕ, List, [], ◌∷◌, Bool, true, false, ◌==◌, ◌&&◌, if◌then◌else◌, Option, Some, None, option_map, option_and_then}
-use Rattle.std.proofs.Common.{refl, codes, ap, Result, Ok, Err}
+use Rattle.std.proofs.Common.{refl, codes, ap, subst, find, filter, not, ◌||◌, ◌⊎◌, inl, inr, Result, Ok, Err}
+use Rattle.std.specs.List.{list_all}
 use Rattle.std.specs.Str.{bytes_eq}
 use Rattle.serde_json.specs.Data.{Data, null, boolean, number, string, array, object, Items, no_items, item, Members, no_members, member}
 use Rattle.pbx_wkt.specs.Shapes.{form_of}
@@ -20,7 +21,11 @@ use Rattle.pbx_json_meaning.specs.Scalars.{scalar_of, scalar_read, is_null_value
 use Rattle.pbx_json_meaning.specs.Scalars.{enum_read, null_value_read, if_ok}
 use Rattle.pbx_json_meaning.specs.Asked.{Asked, field, one, root, Target, nothing, single, list, map, target}
 use Rattle.pbx_json_meaning.specs.declared.kind.JsonKind.{JsonKind}
-use Rattle.pbx_json_meaning.specs.Forms.{is_object_form, skips, form_read, own_read, kind_at, holding, Own, whole, a_list, a_map, at_once}
+use Rattle.serde_json.specs.Find.{get_member}
+use Rattle.pbx_json_meaning.specs.Urls.{is_type_key, is_value_key, is_type_or_value, type_url, type_of_url, without_type, stands_beside}
+use Rattle.pbx_json_meaning.specs.Forms.{is_object_form, skips, form_read, own_read, kind_at, holding, Own, whole, a_list, a_map, beside, under, at_once}
+use Rattle.pbx_json_meaning.specs.Forms.{packed, under_value, payload_read, typed_read, members_read, any_read}
+use Rattle.pbx_json_meaning.specs.Stands.{beside_type, value_said, payload_said}
 use Rattle.pbx_json_meaning.specs.Laws.{ReadWhenAllowed}
 use Rattle.pbx_json_meaning.specs.Stands.{Reading, Entry, ok_of, is_known_key, all_known, told_by, told, only, put, with_reading, gathered, if_oneofs}
 use Rattle.pbx_json_meaning.specs.Stands.{message_of, all_read, elements_read, entry_read, if_differ, entries_read, message_in, message_as, object_of, own_as}
@@ -150,9 +155,9 @@ module _ (shape : Shape) where
       known None = refl
       known (Some f) = refl
 
-  message_goes : (fs : List FieldShape) (ms : Members) → MembersGo ms
-      → Goes (message_of false fs (entries_said shape false ms)) (message_of true fs (entries_said shape true ms))
-  message_goes fs ms g v h = rw (all_allowed fs (entries_said shape true ms)) (at (all_known false fs (entries_said shape false ms)) h)
+  message_goes : (a : Bool) (fs : List FieldShape) (ms : Members) → MembersGo ms
+      → Goes (message_of a fs (entries_said shape false ms)) (message_of true fs (entries_said shape true ms))
+  message_goes a fs ms g v h = rw (all_allowed fs (entries_said shape true ms)) (at (all_known a fs (entries_said shape false ms)) h)
     where
       denied : Option Fields
       denied = gathered (λ n. only (told fs n (entries_said shape false ms))) fs
@@ -168,14 +173,14 @@ module _ (shape : Shape) where
       at false k = absurd (cc)
 
   -- the keys are the same
-  denied_alike : (fs : List FieldShape) (ms : Members)
-      → all_known false fs (entries_said shape true ms) ≡ all_known false fs (entries_said shape false ms)
-  denied_alike fs no_members = refl
-  denied_alike fs (member k d ms) = ap (λ b. is_known_key false (field_named k fs) && b) (denied_alike fs ms)
+  keys_alike : (a : Bool) (fs : List FieldShape) (ms : Members)
+      → all_known a fs (entries_said shape true ms) ≡ all_known a fs (entries_said shape false ms)
+  keys_alike a fs no_members = refl
+  keys_alike a fs (member k d ms) = ap (λ b. is_known_key a (field_named k fs) && b) (keys_alike a fs ms)
 
-  denied_goes : (fs : List FieldShape) (ms : Members) → MembersGo ms
-      → Goes (message_of false fs (entries_said shape false ms)) (message_of false fs (entries_said shape true ms))
-  denied_goes fs ms g v h = rw (denied_alike fs ms) (at (all_known false fs (entries_said shape false ms)) h)
+  alike_message_goes : (a : Bool) (fs : List FieldShape) (ms : Members) → MembersGo ms
+      → Goes (message_of a fs (entries_said shape false ms)) (message_of a fs (entries_said shape true ms))
+  alike_message_goes a fs ms g v h = rw (keys_alike a fs ms) (at (all_known a fs (entries_said shape false ms)) h)
     where
       denied : Option Fields
       denied = gathered (λ n. only (told fs n (entries_said shape false ms))) fs
@@ -194,18 +199,18 @@ module _ (shape : Shape) where
   -- whatever keys are skipped
   form_message_goes : (form : Form) (fs : List FieldShape) (ms : Members) → MembersGo ms
       → Goes (message_of (skips form false) fs (entries_said shape false ms)) (message_of (skips form true) fs (entries_said shape true ms))
-  form_message_goes forms.Empty fs ms g = denied_goes fs ms g
-  form_message_goes forms.Fields fs ms g = message_goes fs ms g
-  form_message_goes forms.Any fs ms g = message_goes fs ms g
-  form_message_goes forms.Timestamp fs ms g = message_goes fs ms g
-  form_message_goes forms.Duration fs ms g = message_goes fs ms g
-  form_message_goes forms.Struct fs ms g = message_goes fs ms g
-  form_message_goes forms.ListValue fs ms g = message_goes fs ms g
-  form_message_goes forms.Value fs ms g = message_goes fs ms g
-  form_message_goes forms.FieldMask fs ms g = message_goes fs ms g
-  form_message_goes forms.Wrapper fs ms g = message_goes fs ms g
-  form_message_goes forms.FloatWrapper fs ms g = message_goes fs ms g
-  form_message_goes forms.Misshapen fs ms g = message_goes fs ms g
+  form_message_goes forms.Empty fs ms g = alike_message_goes false fs ms g
+  form_message_goes forms.Fields fs ms g = message_goes false fs ms g
+  form_message_goes forms.Any fs ms g = message_goes false fs ms g
+  form_message_goes forms.Timestamp fs ms g = message_goes false fs ms g
+  form_message_goes forms.Duration fs ms g = message_goes false fs ms g
+  form_message_goes forms.Struct fs ms g = message_goes false fs ms g
+  form_message_goes forms.ListValue fs ms g = message_goes false fs ms g
+  form_message_goes forms.Value fs ms g = message_goes false fs ms g
+  form_message_goes forms.FieldMask fs ms g = message_goes false fs ms g
+  form_message_goes forms.Wrapper fs ms g = message_goes false fs ms g
+  form_message_goes forms.FloatWrapper fs ms g = message_goes false fs ms g
+  form_message_goes forms.Misshapen fs ms g = message_goes false fs ms g
 
   -- ---- lists and maps
 
@@ -264,6 +269,8 @@ module _ (shape : Shape) where
   -- what a form of its own reads
   abbrev OwnGoes : Result Own JsonKind → Result Own JsonKind → Type 0
   OwnGoes (Err k) s = Unit {0}
+  OwnGoes (Ok (beside a fs wrap)) s = (s ≡ Ok (beside true fs wrap)) ⊎ (s ≡ Ok (beside a fs wrap))
+  OwnGoes (Ok (under a k wrap)) s = (s ≡ Ok (under true k wrap)) ⊎ (s ≡ Ok (under a k wrap))
   OwnGoes (Ok x) s = s ≡ Ok x
 
   wrapper_goes : (t : ℕ) (r s : Judged) → Goes (ok_of r) (ok_of s)
@@ -274,12 +281,45 @@ module _ (shape : Shape) where
 
   alike_goes : (r : Result Own JsonKind) → OwnGoes r r
   alike_goes (Err k) = tt
-  alike_goes (Ok x) = refl
+  alike_goes (Ok (whole c)) = refl
+  alike_goes (Ok (a_list k wrap)) = refl
+  alike_goes (Ok (a_map k wrap)) = refl
+  alike_goes (Ok (beside a fs wrap)) = inr refl
+  alike_goes (Ok (under a k wrap)) = inr refl
+
+  under_goes : (t : ℕ) (url : List ℕ) (u : ℕ) (d : Option Data) → OwnGoes (under_value shape false t url u d) (under_value shape true t url u d)
+  under_goes t url u None = tt
+  under_goes t url u (Some d) = inl refl
+
+  payload_goes : (t : ℕ) (ms : Members) (url : List ℕ) (u : ℕ) → OwnGoes (payload_read shape false t ms url u) (payload_read shape true t ms url u)
+  payload_goes t ms url u = at (stands_beside shape u)
+    where
+      at : (b : Bool) → OwnGoes (if b then Ok (beside false (declared_of shape u) (packed shape t url u))
+          else under_value shape false t url u (get_member (codes "value") ms))
+          (if b then Ok (beside true (declared_of shape u) (packed shape t url u)) else under_value shape true t url u (get_member (codes "value") ms))
+      at true = inl refl
+      at false = under_goes t url u (get_member (codes "value") ms)
+
+  typed_goes : (t : ℕ) (ms : Members) (url : List ℕ) (u : Option ℕ) → OwnGoes (typed_read shape false t ms url u) (typed_read shape true t ms url u)
+  typed_goes t ms url None = tt
+  typed_goes t ms url (Some u) = payload_goes t ms url u
+
+  members_any_goes : (t : ℕ) (ms : Members) (url : Option (List ℕ)) → OwnGoes (members_read shape false t ms url) (members_read shape true t ms url)
+  members_any_goes t ms None = tt
+  members_any_goes t ms (Some url) = typed_goes t ms url (type_of_url shape url)
+
+  any_goes : (t : ℕ) (d : Data) → OwnGoes (any_read shape false t d) (any_read shape true t d)
+  any_goes t (object ms) = members_any_goes t ms (type_url ms)
+  any_goes t null = tt
+  any_goes t (boolean b) = tt
+  any_goes t (number n) = tt
+  any_goes t (string s) = tt
+  any_goes t (array ds) = tt
 
   own_goes : (form : Form) (t : ℕ) (d : Data) → OwnGoes (form_read shape false t form d) (form_read shape true t form d)
   own_goes forms.Wrapper t d = wrapper_goes t _ _ (scalar_goes shape (kind_at shape t 1) d)
   own_goes forms.Fields t d = alike_goes (form_read shape false t forms.Fields d)
-  own_goes forms.Any t d = alike_goes (form_read shape false t forms.Any d)
+  own_goes forms.Any t d = any_goes t d
   own_goes forms.Timestamp t d = alike_goes (form_read shape false t forms.Timestamp d)
   own_goes forms.Duration t d = alike_goes (form_read shape false t forms.Duration d)
   own_goes forms.Struct t d = alike_goes (form_read shape false t forms.Struct d)
@@ -290,6 +330,71 @@ module _ (shape : Shape) where
   own_goes forms.FloatWrapper t d = alike_goes (form_read shape false t forms.FloatWrapper d)
   own_goes forms.Misshapen t d = alike_goes (form_read shape false t forms.Misshapen d)
 
+  -- ---- payloads
+
+  beside_entries : (a : Bool) (ms : Members) → beside_type (entries_said shape a ms) ≡ entries_said shape a (without_type ms)
+  beside_entries a no_members = refl
+  beside_entries a (member k d ms) = at (is_type_key k) (beside_entries a ms)
+    where
+      rest : List Entry
+      rest = beside_type (entries_said shape a ms)
+
+      at : (b : Bool) → rest ≡ entries_said shape a (without_type ms)
+          → (if not b then record { key = k; says = said shape a d } ∷ rest else rest)
+          ≡ entries_said shape a (if b then without_type ms else member k d (without_type ms))
+      at true h = h
+      at false h = ap (λ es. record { key = k; says = said shape a d } ∷ es) h
+
+  go_without : (ms : Members) → MembersGo ms → MembersGo (without_type ms)
+  go_without no_members g = tt
+  go_without (member k d ms) g = at (is_type_key k) (go_without ms g.1)
+    where
+      at : (b : Bool) → MembersGo (without_type ms) → MembersGo (if b then without_type ms else member k d (without_type ms))
+      at true h = h
+      at false h = (g.0, h)
+
+  message_in_goes : (x y : Reading) → Goes x y → Goes (message_in x) (message_in y)
+  message_in_goes None y g v h = absurd (cc)
+  message_in_goes (Some r) y g v h = rw (g r refl) h
+
+  value_said_goes : (k : Kind) (ms : Members) → MembersGo ms → Goes (value_said k (entries_said shape false ms)) (value_said k (entries_said shape true ms))
+  value_said_goes k no_members g v h = absurd (cc)
+  value_said_goes k (member key d ms) g v h = at (is_value_key key) (value_said_goes k ms g.1) h
+    where
+      first : Bool → Entry
+      first a = record { key = key; says = said shape a d }
+
+      found : (a : Bool) → Option Entry
+      found a = find (λ e. is_value_key e.key) (entries_said shape a ms)
+
+      at : (b : Bool) → Goes (value_said k (entries_said shape false ms)) (value_said k (entries_said shape true ms))
+          → option_and_then (λ e. message_in (e.says (one k))) (if b then Some (first false) else found false) ≡ Some v
+          → option_and_then (λ e. message_in (e.says (one k))) (if b then Some (first true) else found true) ≡ Some v
+      at true ih e = message_in_goes _ _ (g.0 (one k)) v e
+      at false ih e = ih v e
+
+  others_alike : (ms : Members)
+      → list_all (λ e. is_type_or_value e.key) (entries_said shape true ms) ≡ list_all (λ e. is_type_or_value e.key) (entries_said shape false ms)
+  others_alike no_members = refl
+  others_alike (member k d ms) = ap (λ b. is_type_or_value k && b) (others_alike ms)
+
+  payload_goes_on : (a : Bool) (k : Kind) (ms : Members) → MembersGo ms
+      → Goes (payload_said a k (entries_said shape false ms)) (payload_said true k (entries_said shape true ms))
+  payload_goes_on a k ms g v h = at (a || list_all (λ e. is_type_or_value e.key) (entries_said shape false ms)) h
+    where
+      at : (b : Bool) → (if b then value_said k (entries_said shape false ms) else None) ≡ Some v → value_said k (entries_said shape true ms) ≡ Some v
+      at true e = value_said_goes k ms g v e
+      at false e = absurd (cc)
+
+  alike_payload_goes : (a : Bool) (k : Kind) (ms : Members) → MembersGo ms
+      → Goes (payload_said a k (entries_said shape false ms)) (payload_said a k (entries_said shape true ms))
+  alike_payload_goes a k ms g v h = rw (others_alike ms) (at (a || list_all (λ e. is_type_or_value e.key) (entries_said shape false ms)) h)
+    where
+      at : (b : Bool) → (if b then value_said k (entries_said shape false ms) else None) ≡ Some v
+          → (if b then value_said k (entries_said shape true ms) else None) ≡ Some v
+      at true e = value_said_goes k ms g v e
+      at false e = absurd (cc)
+
   -- what is read as a message of a form of its own
   own_as_goes : (r s : Result Own JsonKind) (d : Data) (ds : Items) (ms : Members) → ItemsGo ds → MembersGo ms → OwnGoes r s
       → Goes (own_as shape r d (items_said shape false ds) (entries_said shape false ms)) (own_as shape s d (items_said shape true ds) (entries_said shape true ms))
@@ -297,6 +402,36 @@ module _ (shape : Shape) where
   own_as_goes (Ok (whole c)) s d ds ms g m h v e = rw h e
   own_as_goes (Ok (a_list k wrap)) s d ds ms g m h v e = rw h (map_goes wrap _ _ (map_goes (shown shape false k) _ _ (list_goes k d ds g)) v e)
   own_as_goes (Ok (a_map k wrap)) s d ds ms g m h v e = rw h (map_goes wrap _ _ (map_goes (shown shape false k) _ _ (map_as_goes kind.String k d ms m)) v e)
+
+  own_as_goes (Ok (beside a fs wrap)) s d ds ms g m h v e = at h
+    where
+      object_goes : (b : Bool) → Goes (message_of a fs (entries_said shape false (without_type ms))) (message_of b fs (entries_said shape true (without_type ms)))
+          → (x : Data) → Goes (object_of (message_of a fs) x (beside_type (entries_said shape false ms)))
+          (object_of (message_of b fs) x (beside_type (entries_said shape true ms)))
+      object_goes b w (object all) u k = rw (beside_entries true ms) (w u (subst (λ es. message_of a fs es ≡ Some u) (beside_entries false ms) k))
+      object_goes b w null u k = absurd (cc)
+      object_goes b w (boolean c) u k = absurd (cc)
+      object_goes b w (number n) u k = absurd (cc)
+      object_goes b w (string t) u k = absurd (cc)
+      object_goes b w (array es) u k = absurd (cc)
+
+      at : (s ≡ Ok (beside true fs wrap)) ⊎ (s ≡ Ok (beside a fs wrap)) → own_as shape s d (items_said shape true ds) (entries_said shape true ms) ≡ Some v
+      at (inl p) = rw p (map_goes wrap _ _ (object_goes true (message_goes a fs (without_type ms) (go_without ms m)) d) v e)
+      at (inr p) = rw p (map_goes wrap _ _ (object_goes a (alike_message_goes a fs (without_type ms) (go_without ms m)) d) v e)
+  own_as_goes (Ok (under a k wrap)) s d ds ms g m h v e = at h
+    where
+      object_goes : (b : Bool) → Goes (payload_said a k (entries_said shape false ms)) (payload_said b k (entries_said shape true ms))
+          → (x : Data) → Goes (object_of (payload_said a k) x (entries_said shape false ms)) (object_of (payload_said b k) x (entries_said shape true ms))
+      object_goes b w (object all) u h = w u h
+      object_goes b w null u h = absurd (cc)
+      object_goes b w (boolean c) u h = absurd (cc)
+      object_goes b w (number n) u h = absurd (cc)
+      object_goes b w (string t) u h = absurd (cc)
+      object_goes b w (array es) u h = absurd (cc)
+
+      at : (s ≡ Ok (under true k wrap)) ⊎ (s ≡ Ok (under a k wrap)) → own_as shape s d (items_said shape true ds) (entries_said shape true ms) ≡ Some v
+      at (inl p) = rw p (map_goes wrap _ _ (object_goes true (payload_goes_on a k ms m) d) v e)
+      at (inr p) = rw p (map_goes wrap _ _ (object_goes a (alike_payload_goes a k ms m) d) v e)
 
   message_as_goes : (t : ℕ) (d : Data) (ds : Items) (ms : Members) → ItemsGo ds → MembersGo ms
       → Goes (message_as shape false t d (items_said shape false ds) (entries_said shape false ms))

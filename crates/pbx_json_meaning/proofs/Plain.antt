@@ -1,6 +1,6 @@
 -- Trees that are written have ordered keys and no number with a fraction or an exponent.
 use Rattle.std.proofs.Common.{◌≡◌, ℕ, ℤ, pos, negsuc, List, [], ◌∷◌, ◌++◌, map as map_list, Bool, true, false, ◌||◌, ◌&&◌, ◌==◌, if◌then◌else◌, Option}
-use Rattle.std.proofs.Common.{Some, None, option_map}
+use Rattle.std.proofs.Common.{Some, None, option_map, zero, suc, length, codes}
 use Rattle.std.proofs.Common.{option_and_then, refl, ap, subst, ◌∙◌, Result, Ok, Err}
 use Rattle.std.specs.Cmp.{IsTotalOrder}
 use Rattle.std.specs.Fmt.{signed_decimal}
@@ -9,14 +9,14 @@ use Rattle.std.specs.Ordering.{match_ordering, nat_cmp, is_lt, ordering_reverse}
 use Rattle.std.specs.declared.cmp.Ordering.{Ordering}
 use Rattle.std.specs.declared.cmp.Ordering.TheVariants.{Less, Equal, Greater}
 use Rattle.std.proofs.lemmas.Cmp.{nat_list_cmp_total}
-use Rattle.serde_json.specs.Data.{Data, null, number, string, array, object, Items, no_items, Members, no_members, member, put}
+use Rattle.serde_json.specs.Data.{Data, null, boolean, number, string, array, object, Items, no_items, Members, no_members, member, put}
 use Rattle.serde_json.specs.Find.{of_integer}
 use Rattle.serde_json.specs.Written.{has_float, items_have_float, members_have_float}
 use Rattle.pbx_wire.specs.declared.rec.Rec.{Rec}
 use Rattle.pbx_meaning.specs.Content as content
 use Rattle.pbx_meaning.specs.Content.{Content, Fields, Val, Vals, Pairs, Key}
 use Rattle.pbx_meaning.specs.Encoding.{type_of}
-use Rattle.pbx_meaning.specs.Meaning.{zero_of}
+use Rattle.pbx_meaning.specs.Meaning.{zero_of, meaning_of}
 use Rattle.pbx_meaning.specs.Shape.{declared_of, field_of, enum_values_of}
 use Rattle.pbx_meaning.specs.declared.shape.Kind.{Kind}
 use Rattle.pbx_meaning.specs.declared.shape.Cardinality.{Cardinality}
@@ -39,6 +39,9 @@ use Rattle.pbx_json_meaning.specs.Canonical.{is_wide, integer_tree, value_of_num
 use Rattle.pbx_json_meaning.specs.Canonical.{Line, has_key, with_line, members_of_lines, Tells, Told, default_by, default_tree}
 use Rattle.pbx_json_meaning.specs.Canonical.{default_line, told_line, message_tree, scalar_tree, form_tree, told_tree, first_field, kind_asked, items_of, array_tree, entry_line}
 use Rattle.pbx_json_meaning.specs.Canonical.{tells, content_tree, fields_tell, vals_tell, pairs_tell}
+use Rattle.pbx_json_meaning.specs.Canonical.{Writing, writing, with_member, with_type, type_and_value, any_with, payload_in, payload_tree}
+use Rattle.pbx_json_meaning.specs.Urls.{stands_beside, type_of_url}
+use Rattle.pbx_json_meaning.specs.Forms.{text_at, bytes_at}
 use Rattle.pbx_json_meaning.specs.declared.options.SerializeOptions.{SerializeOptions}
 
 -- ---- trees
@@ -156,10 +159,52 @@ if_plain : (b : Bool) (x y : Data) → IsPlain x → IsPlain y → IsPlain (if b
 if_plain true x y p q = p
 if_plain false x y p q = q
 
-module _ (shape : Shape) (o : SerializeOptions) where
+-- ---- the object of an `Any`
+
+object_of_plain : (ms : Members) → MembersArePlain ms → IsPlain (object ms)
+object_of_plain ms q = ((q.0, q.1), q.2)
+
+members_of_plain : (ms : Members) → IsPlain (object ms) → MembersArePlain ms
+members_of_plain ms p = (p.0.0, p.0.1, p.1)
+
+then_plain : (f : Data → Option Data) (x : Option Data) → IfPlain x → ((d : Data) → IsPlain d → IfPlain (f d)) → IfPlain (option_and_then f x)
+then_plain f None p q d h = absurd (cc)
+then_plain f (Some x) p q d h = q x (p x refl) d h
+
+typed_plain : (url : List ℕ) (d : Data) → IsPlain d → IfPlain (with_type url d)
+typed_plain url (object ms) p e h = map_from IsPlain object _ (λ ns k. at (has_key (codes "@type") ms) ns k) e h
+  where
+    at : (b : Bool) (ns : Members) → (if b then None else Some (put (codes "@type") (string url) ms)) ≡ Some ns → IsPlain (object ns)
+    at true ns k = absurd (cc)
+    at false ns k =
+        let same : put (codes "@type") (string url) ms ≡ ns = cc in
+        subst (λ xs. IsPlain (object xs)) same (object_of_plain _ (put_plain (codes "@type") (string url) ms (tt, refl) (members_of_plain ms p)))
+typed_plain url null p e h = absurd (cc)
+typed_plain url (boolean b) p e h = absurd (cc)
+typed_plain url (number n) p e h = absurd (cc)
+typed_plain url (string s) p e h = absurd (cc)
+typed_plain url (array ds) p e h = absurd (cc)
+
+type_and_value_plain : (url : List ℕ) (d : Data) → IsPlain d → IsPlain (type_and_value url d)
+type_and_value_plain url d p =
+    let value : Members = put (codes "value") d no_members in
+    object_of_plain (put (codes "@type") (string url) value)
+    (put_plain (codes "@type") (string url) value (tt, refl) (put_plain (codes "value") d no_members p (tt, tt, refl)))
+
+any_plain : (shape : Shape) (url : List ℕ) (u : ℕ) (d : Data) → IsPlain d → IfPlain (any_with shape url u d)
+any_plain shape url u d p = at (stands_beside shape u)
+  where
+    at : (b : Bool) → IfPlain (if b then with_type url d else Some (type_and_value url d))
+    at true e h = typed_plain url d p e h
+    at false e h = some_plain _ (type_and_value_plain url d p) e h
+
+abbrev PayloadsArePlain : (ℕ → List ℕ → Option Data) → Type 0
+PayloadsArePlain payloads = (u : ℕ) (b : List ℕ) → IfPlain (payloads u b)
+
+module _ (shape : Shape) (o : Writing) (payloads_plain : PayloadsArePlain o.payloads) where
   integer_tree_plain : (k : Kind) (z : ℤ) → IsPlain (integer_tree o k z)
   integer_tree_plain k z =
-      if_plain (is_wide k && o.stringify_64_bit_integers) (string (signed_decimal z)) (number (of_integer z)) (tt, refl) (integer_plain z)
+      if_plain (is_wide k && o.options.stringify_64_bit_integers) (string (signed_decimal z)) (number (of_integer z)) (tt, refl) (integer_plain z)
 
   named_plain : (z : ℤ) (v : Option EnumValueShape) → IsPlain (name_or_number z v)
   named_plain z None = integer_plain z
@@ -168,8 +213,8 @@ module _ (shape : Shape) (o : SerializeOptions) where
   enum_plain : (e : ℕ) (z : ℤ) → IsPlain (enum_tree shape o e z)
   enum_plain e z =
       let named : Data = name_or_number z (value_of_number z (enum_values_of shape e)) in
-      if_plain (is_null_value shape e) null (if o.use_enum_numbers then number (of_integer z) else named) (tt, refl)
-      (if_plain o.use_enum_numbers (number (of_integer z)) named (integer_plain z) (named_plain z (value_of_number z (enum_values_of shape e))))
+      if_plain (is_null_value shape e) null (if o.options.use_enum_numbers then number (of_integer z) else named) (tt, refl)
+      (if_plain o.options.use_enum_numbers (number (of_integer z)) named (integer_plain z) (named_plain z (value_of_number z (enum_values_of shape e))))
 
   number_plain : (k : Kind) (z : ℤ) (f : Family) → IfPlain (number_by shape o k f z)
   number_plain k z (integers min max) d h = some_plain _ (integer_tree_plain k z) d h
@@ -291,6 +336,10 @@ module _ (shape : Shape) (o : SerializeOptions) where
   no_object_plain : IfPlain (Some (object no_members))
   no_object_plain d h = some_plain _ ((tt, tt), refl) d h
 
+  payload_plain : (url b : List ℕ) (u : Option ℕ) → IfPlain (payload_in shape o url b u)
+  payload_plain url b None d h = absurd (cc)
+  payload_plain url b (Some u) d h = then_plain (any_with shape url u) (o.payloads u b) (payloads_plain u b) (any_plain shape url u) d h
+
   form_plain : (t : ℕ) (form : Form) (fs : Fields) (kept : List Rec) (ts : List Told) → ToldPlain ts → IfPlain (form_tree shape o t form fs kept ts)
   form_plain t forms.Timestamp fs kept ts p d h = as_text_plain _ _ d h
   form_plain t forms.Duration fs kept ts p d h = as_text_plain _ _ d h
@@ -301,7 +350,7 @@ module _ (shape : Shape) (o : SerializeOptions) where
   form_plain t forms.Value fs kept ts p d h =
       if_some_plain _ _ (either_plain (first_field fs == 1) _ _ null_plain (told_plain (first_field fs) _ _ ts null_plain p)) d h
   form_plain t forms.Fields fs kept ts p d h = absurd (cc)
-  form_plain t forms.Any fs kept ts p d h = absurd (cc)
+  form_plain t forms.Any fs kept ts p d h = payload_plain _ _ (type_of_url shape (text_at (content.get 1 fs))) d h
   form_plain t forms.Empty fs kept ts p d h = absurd (cc)
   form_plain t forms.FloatWrapper fs kept ts p d h = absurd (cc)
   form_plain t forms.Misshapen fs kept ts p d h = absurd (cc)
@@ -360,5 +409,17 @@ module _ (shape : Shape) (o : SerializeOptions) where
     pairs_plain content.no_pairs = tt
     pairs_plain (content.pair k v ps) = (tells_plain v, pairs_plain ps)
 
+turns_plain : (shape : Shape) (o : SerializeOptions) (turns : ℕ) → PayloadsArePlain (payload_tree shape o turns)
+unfolding payload_tree
+turns_plain shape o zero u b d h = absurd (cc)
+turns_plain shape o (suc turns) u b d h = at (meaning_of shape u b) (turns_plain shape o turns) h
+  where
+    inner : Writing
+    inner = record { options = o; payloads = payload_tree shape o turns }
+
+    at : (c : Option Content) → PayloadsArePlain (payload_tree shape o turns) → option_and_then (λ c. content_tree shape inner c u) c ≡ Some d → IsPlain d
+    at None plain k = absurd (cc)
+    at (Some c) plain k = content_plain shape inner plain c u d k
+
 pub canonical_is_plain : CanonicalIsPlain
-canonical_is_plain shape t c o d h = content_plain shape o c t d h
+canonical_is_plain shape t c o d h = content_plain shape (writing shape o) (λ u b. turns_plain shape o (suc (length b)) u b) c t d h
