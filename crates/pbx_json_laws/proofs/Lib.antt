@@ -25,7 +25,10 @@ pub mod Back
 pub mod DefaultsBack
 pub mod FormsBack
 pub mod OwnBack
+pub mod Written
+pub mod AnyBack
 pub mod Again
+pub mod Rewritten
 pub mod ValueTexts
 pub mod In
 pub mod Read
