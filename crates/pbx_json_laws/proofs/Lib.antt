@@ -29,6 +29,8 @@ pub mod Written
 pub mod AnyBack
 pub mod Again
 pub mod Rewritten
+pub mod PlainKeys
+pub mod Fitting
 pub mod ValueTexts
 pub mod In
 pub mod Read

@@ -165,6 +165,20 @@ own_parts false false true x n e h = absurd (cc)
 own_parts false false false true n e h = absurd (cc)
 own_parts false false false false true e h = absurd (cc)
 
+own_type : (own shared type extended named : Bool) → own ≡ false → not (not own && (shared || type || extended || named)) ≡ true → type ≡ false
+own_type false s false x n e h = refl
+own_type true s type x n e h = absurd (cc)
+own_type false true true x n e h = absurd (cc)
+own_type false false true x n e h = absurd (cc)
+
+-- the JSON name of a field of the message itself is not that of the type of an `Any`
+pub json_plain : (b : Bool) (shape : Shape) (t n : ℕ) (f : FieldShape) → name_fault b shape ≡ None → field_of n (declared_of shape t) ≡ Some f
+    → f.is_extension ≡ false → is_type_key f.json_name ≡ false
+json_plain b shape t n f clean e own =
+    let ds = declared_of shape t in
+    own_type f.is_extension (is_shared ds f.json_name) (is_type_key f.json_name) (is_of_extension ds f.json_name) (b && is_name_of_another ds f) own
+    (field_passes (λ f. not (clashes b ds f)) n ds f (no_clash b shape t clean) e)
+
 module _ (b : Bool) (shape : Shape) (t : ℕ) (proper : IsProper shape) (well : IsWellNamed shape) (clean : name_fault b shape ≡ None) where
   -- what is known of a field's JSON name
   record Apart (g : FieldShape) : Type 0 where
