@@ -22,13 +22,12 @@ use Rattle.pbx_json_meaning.specs.Canonical.{Writing, key_of_field, Tells}
 use Rattle.pbx_json_meaning.specs.Canonical.{items_of, entry_line, tells, content_tree, fields_tell, vals_tell, pairs_tell}
 use Rattle.pbx_json_meaning.specs.Clash.{name_fault}
 use Rattle.pbx_json_meaning.specs.Named.{IsWellNamed}
-use Rattle.pbx_json_meaning.specs.Trees.{HasTexts}
-use Rattle.pbx_json_meaning.specs.Stands.{Stands, message_in, pairs_of, if_differ, Says, all_read, present, entries_read, own_as, message_as, map_as, said}
+use Rattle.pbx_json_meaning.specs.Stands.{pairs_of, if_differ, Says, all_read, present, entries_read, own_as, message_as, map_as, said}
 use Rattle.pbx_json_meaning.specs.Stands.{items_said, entries_said}
 use Rattle.pbx_json_laws.proofs.EntriesBack.{LinesSay, ReadsAs, lines_read}
 use Rattle.pbx_json_laws.proofs.Fits.{Fits, FitsAs, IsOwnRead, FieldsFit, AllFit, PairsFit, FitsOption}
 use Rattle.pbx_json_laws.proofs.LinesBack.{ValuesBack, lines_back}
-use Rattle.pbx_json_laws.proofs.NamesBack.{key_names, fault_by_name}
+use Rattle.pbx_json_laws.proofs.NamesBack.{key_names}
 use Rattle.pbx_json_laws.proofs.ScalarsBack.{number_back, truth_back, text_as_is, bytes_back, key_back, no_null}
 use Rattle.pbx_json_laws.proofs.Back.{kind_in, kind_by, tells_kind, IsBack, element_says, field_says, scalar_is_back, no_float}
 use Rattle.pbx_json_laws.proofs.DefaultsBack.{default_back}
@@ -38,7 +37,7 @@ use Rattle.pbx_json_laws.proofs.Written.{has_parts, HasTree, IsWritten, FieldsAr
 use Rattle.pbx_json_laws.proofs.OwnBack.{none_kept, ContentBack, FieldBack, FirstBack, several_back, value_back_of}
 use Rattle.pbx_json_laws.proofs.Numbers.{field_of-by_number}
 use Rattle.pbx_json_laws.proofs.Payload.{payload_fits}
-use Rattle.pbx_json_laws.proofs.Read.{said_is, items_in, entries_in}
+use Rattle.pbx_json_laws.proofs.Read.{items_in, entries_in}
 use Rattle.pbx_json_laws.proofs.Parts.{of_some}
 use Rattle.pbx_json_laws.proofs.FitSound.{no_number}
 

@@ -1,31 +1,27 @@
 -- An `Any` that has a tree reads back as it, where the tree of its payload reads back as the payload.
-use Rattle.std.proofs.Common.{◌≡◌, ℕ, ◌==◌, ◌||◌, List, [], ◌∷◌, length, Bool, true, false, codes, if◌then◌else◌, Option, Some, None, option_and_then, option_map, Ordering, Less, Equal, Greater, nat_cmp, refl, ap, sym, ◌∙◌, subst, arith}
-use Rattle.std.specs.Prelude.{Ok, not}
+use Rattle.std.proofs.Common.{◌≡◌, ℕ, ◌==◌, List, [], length, Bool, true, false, codes, if◌then◌else◌, Option, Some, None, option_and_then, option_map, Ordering, Less, Equal, Greater, nat_cmp, refl, ap, sym, ◌∙◌, subst}
+use Rattle.std.specs.Prelude.{Ok}
 use Rattle.std.specs.Ordering.{match_ordering}
 use Rattle.std.specs.Cmp.Lexicographic.{slice_cmp}
 use Rattle.std.specs.Str.{bytes_eq}
-use Rattle.std.proofs.lemmas.Bool.{eqb-true}
 use Rattle.std.proofs.lemmas.Slice.Eq.{bytes_eq-Decides}
 use Rattle.serde_json.specs.Data.{Data, null, boolean, number, string, array, object, Members, no_members, member, put}
 use Rattle.serde_json.specs.Find.{get_member, as_str}
 use Rattle.pbx_meaning.specs.Content as content
 use Rattle.pbx_meaning.specs.Content.{Content, Fields, fields, Val, get}
 use Rattle.pbx_meaning.specs.Encoding.{encoded}
-use Rattle.pbx_meaning.specs.Meaning.{shown}
 use Rattle.pbx_meaning.specs.Shape.{declared_of, fields_of, field_of}
-use Rattle.pbx_meaning.specs.declared.shape.Kind.{Kind}
 use Rattle.pbx_meaning.specs.declared.shape.Kind.TheVariants as kind
 use Rattle.pbx_meaning.specs.declared.shape.FieldShape.{FieldShape}
 use Rattle.pbx_meaning.specs.declared.shape.Shape.{Shape}
 use Rattle.pbx_wkt.specs.Shapes.{form_of}
-use Rattle.pbx_wkt.specs.declared.form.Form.{Form}
 use Rattle.pbx_wkt.specs.declared.form.Form.TheVariants as forms
 use Rattle.pbx_wkt.proofs.Forms.{HasPayload, any_fields}
 use Rattle.pbx_json_meaning.specs.Asked.{has_presence, one}
-use Rattle.pbx_json_meaning.specs.Canonical.{Writing, Told, content_tree, form_tree, fields_tell, object_tree, has_key, with_member, with_type, type_and_value, any_with, payload_in, any_tree}
-use Rattle.pbx_json_meaning.specs.Forms.{is_object_form, skips, shown_at, with_first, packed, payload_read, typed_read, members_read, under_value, beside, under, form_read, text_at, bytes_at}
-use Rattle.pbx_json_meaning.specs.Stands.{Says, Entry, message_of, object_of, beside_type, message_in, value_said, payload_said, own_as, message_as, said, entries_said}
-use Rattle.pbx_json_meaning.specs.Urls.{type_of_url, type_url, is_type_key, without_type, is_beside_type, stands_beside}
+use Rattle.pbx_json_meaning.specs.Canonical.{Writing, form_tree, fields_tell, object_tree, has_key, with_member, with_type, type_and_value, any_with, payload_in, any_tree}
+use Rattle.pbx_json_meaning.specs.Forms.{is_object_form, skips, shown_at, packed, payload_read, typed_read, members_read, beside, under, form_read, text_at, bytes_at}
+use Rattle.pbx_json_meaning.specs.Stands.{message_of, object_of, beside_type, message_in, payload_said, own_as, message_as, said, entries_said}
+use Rattle.pbx_json_meaning.specs.Urls.{type_of_url, type_url, without_type, stands_beside}
 use Rattle.pbx_json_laws.proofs.Fits.{IsPacked}
 use Rattle.pbx_json_laws.proofs.FormsBack.{first_of_two, second_of_two, no_length}
 use Rattle.pbx_json_laws.proofs.In.{equal_itself}

@@ -1,8 +1,7 @@
 -- What a tree stands for is written, where the payloads of its `Any` messages are read again.
-use Rattle.std.proofs.Common.{◌≡◌, ℕ, zero, suc, ◌&&◌, ◌++◌, List, [], ◌∷◌, length, Bool, true, false, Option, Some, None, option_and_then, refl, ap, sym, ◌∙◌, subst}
+use Rattle.std.proofs.Common.{◌≡◌, ℕ, zero, suc, ◌++◌, List, [], ◌∷◌, length, Bool, true, Option, Some, None, option_and_then, refl, ap, sym, ◌∙◌, subst}
 use Rattle.std.specs.List.{list_all}
 use Rattle.std.proofs.lemmas.List.Folds.{list_all-append}
-use Rattle.pbx_wire.specs.declared.rec.Rec.{Rec}
 use Rattle.serde_json.specs.Data.{Data}
 use Rattle.pbx_meaning.specs.Content as content
 use Rattle.pbx_meaning.specs.Content.{Content, Fields, fields, Val, Vals, Pairs, get}
@@ -22,10 +21,9 @@ use Rattle.pbx_json_meaning.specs.Canonical.{Writing, writing, canonical, conten
 use Rattle.pbx_json_meaning.specs.Clash.{name_fault}
 use Rattle.pbx_json_meaning.specs.Fits.{Payload, payload_with, payload_by, payloads, fields_payloads, val_payloads, vals_payloads, pairs_payloads, decoded_passes, decodes_within}
 use Rattle.pbx_json_meaning.specs.Fits.{payload_fits, payloads_fit}
-use Rattle.pbx_json_meaning.specs.Forms.{kind_in as kind_of, packed, text_at, bytes_at}
+use Rattle.pbx_json_meaning.specs.Forms.{kind_in as kind_of, packed, bytes_at}
+use Rattle.pbx_json_meaning.specs.Laws.{FittingIsWritten}
 use Rattle.pbx_json_meaning.specs.Named.{IsWellNamed}
-use Rattle.pbx_json_meaning.specs.Stands.{Stands}
-use Rattle.pbx_json_meaning.specs.Trees.{HasTexts}
 use Rattle.pbx_json_meaning.specs.Urls.{type_of_url}
 use Rattle.pbx_json_meaning.specs.declared.options.SerializeOptions.{SerializeOptions}
 use Rattle.pbx_json_laws.proofs.Again.{content_back}
@@ -37,7 +35,7 @@ use Rattle.pbx_json_laws.proofs.Numbers.{field_of-by_number}
 use Rattle.pbx_json_laws.proofs.Parts.{both}
 use Rattle.pbx_json_laws.proofs.Payload.{payload_fits as payload_is_read}
 use Rattle.pbx_json_laws.proofs.Rewritten.{within, PayloadsBack, means_itself, turns_back, writing_back}
-use Rattle.pbx_json_laws.proofs.PlainKeys.{HasPlainNames, any_made}
+use Rattle.pbx_json_laws.proofs.PlainKeys.{any_made}
 use Rattle.pbx_json_laws.proofs.Written.{HasTree, IsWritten, FieldsAreWritten, ValIsWritten, ValsAreWritten, PairsAreWritten}
 
 -- ---- payloads that pass a test
@@ -144,7 +142,7 @@ module _ (shape : Shape) (o : Writing) (passes : Payload → Bool) where
 
 -- ---- turns
 
-module _ (shape : Shape) (proper : IsProper shape) (well : IsWellNamed shape) (plain : HasPlainNames shape) (o : SerializeOptions)
+module _ (shape : Shape) (proper : IsProper shape) (well : IsWellNamed shape) (o : SerializeOptions)
     (clean : name_fault o.use_proto_field_name shape ≡ None) where
   -- a content whose payloads pass has a tree
   tree_made : (w : Writing) (same : w.options ≡ o) (passes : Payload → Bool) → PayloadsBack shape proper well o clean w → AreMade shape w passes
@@ -174,7 +172,7 @@ module _ (shape : Shape) (proper : IsProper shape) (well : IsWellNamed shape) (p
           let it = tree_made w refl (decodes_within shape turns) (turns_back shape proper well o clean turns) below p u h all in (
             it.0,
             ap (option_and_then (λ c. content_tree shape w c u)) means ∙ ap (λ c. content_tree shape w c u) same ∙ it.1,
-            λ url. any_made shape proper plain w clean url u p it.0 it.1,
+            λ url. any_made shape proper well w clean url u p it.0 it.1,
           )
 
   writing_made : AreMade shape (writing shape o) (payload_fits shape)
@@ -185,9 +183,6 @@ module _ (shape : Shape) (proper : IsProper shape) (well : IsWellNamed shape) (p
 
 -- ---- the law
 
--- what a tree stands for is written, where no field's name is `@type`, and no extension's JSON name
-pub written_if_plain : (shape : Shape) → HasPlainNames shape → (t : ℕ) (allow : Bool) (tree : Data) (c : Content) (o : SerializeOptions) → IsProper shape
-    → IsWellNamed shape → name_fault o.use_proto_field_name shape ≡ None → HasTexts tree → Stands shape t allow tree c → payloads_fit shape t c ≡ true
-    → (d : Data) × (canonical shape t c o ≡ Some d)
-written_if_plain shape plain t allow tree c o proper well clean texts h fit =
-    fitting_tree shape proper well plain o clean t c (standing_fits shape t allow tree c proper well texts h) fit
+pub fitting_is_written : FittingIsWritten
+fitting_is_written shape t allow tree c o proper well clean texts h fit =
+    fitting_tree shape proper well o clean t c (standing_fits shape t allow tree c proper well texts h) fit

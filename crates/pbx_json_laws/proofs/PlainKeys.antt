@@ -1,8 +1,6 @@
 -- No key of an ordinary message is that of the type of an `Any`, so the URL of its type can stand among its members.
-use Rattle.std.proofs.Common.{◌≡◌, ℕ, ◌&&◌, ◌||◌, ◌++◌, List, [], ◌∷◌, map as map_list, filter, codes, Bool, true, false, not, if◌then◌else◌, Option, Some, None, option_map, refl, ap, sym, ◌∙◌, subst}
+use Rattle.std.proofs.Common.{◌≡◌, ℕ, ◌&&◌, ◌++◌, List, [], ◌∷◌, map as map_list, filter, codes, Bool, true, false, not, if◌then◌else◌, Option, Some, None, refl, ap, sym, ◌∙◌}
 use Rattle.std.specs.List.{list_all}
-use Rattle.std.specs.Str.{bytes_eq}
-use Rattle.pbx_wire.specs.declared.rec.Rec.{Rec}
 use Rattle.serde_json.specs.Data.{Data, string, object, Members, put}
 use Rattle.pbx_meaning.specs.Content as content
 use Rattle.pbx_meaning.specs.Content.{Content, Fields}
@@ -11,12 +9,11 @@ use Rattle.pbx_meaning.specs.Sound.{IsProper}
 use Rattle.pbx_meaning.specs.declared.shape.FieldShape.{FieldShape}
 use Rattle.pbx_meaning.specs.declared.shape.Shape.{Shape}
 use Rattle.pbx_wkt.specs.Shapes.{form_of}
-use Rattle.pbx_wkt.specs.declared.form.Form.TheVariants as forms
 use Rattle.pbx_json_meaning.specs.Canonical.{Writing, Line, Told, key_of_field, told_line, default_line, is_written_default, lines, members_of_lines, has_key, with_type, type_and_value, any_with}
 use Rattle.pbx_json_meaning.specs.Canonical.{content_tree, fields_tell}
 use Rattle.pbx_json_meaning.specs.Clash.{name_fault}
 use Rattle.pbx_json_meaning.specs.Forms.{is_object_form}
-use Rattle.pbx_json_meaning.specs.Named.{IsOwn, IsExtension}
+use Rattle.pbx_json_meaning.specs.Named.{IsWellNamed}
 use Rattle.pbx_json_meaning.specs.Urls.{is_type_key, stands_beside}
 use Rattle.pbx_json_laws.proofs.FaultFields.{failing}
 use Rattle.pbx_json_laws.proofs.LinesMade.{keys_of, any_key, keys_made}
@@ -26,19 +23,14 @@ use Rattle.pbx_json_laws.proofs.Parts.{both, from_not, found_passes, nor_of}
 use Rattle.pbx_json_laws.proofs.Payloads.{beside_is}
 use Rattle.pbx_json_laws.proofs.Written.{object_made}
 
--- what is asked of names for it: of that of a field, and of the JSON name of an extension
-pub record HasPlainNames (shape : Shape) : Type 0 where
-  pub fields : (t n : ℕ) (f : FieldShape) → IsOwn shape t n f → is_type_key f.name ≡ false
-  pub extensions : (t n : ℕ) (f : FieldShape) → IsExtension shape t n f → is_type_key f.json_name ≡ false
-
-module _ (shape : Shape) (proper : IsProper shape) (plain : HasPlainNames shape) (o : Writing) (clean : name_fault o.options.use_proto_field_name shape ≡ None) where
+module _ (shape : Shape) (proper : IsProper shape) (well : IsWellNamed shape) (o : Writing) (clean : name_fault o.options.use_proto_field_name shape ≡ None) where
   key_plain : (t n : ℕ) (f : FieldShape) → field_of n (declared_of shape t) ≡ Some f → is_type_key (key_of_field o f) ≡ false
   key_plain t n f e = at o.options.use_proto_field_name f.is_extension refl
     where
       at : (b x : Bool) → f.is_extension ≡ x → is_type_key (if b && not x then f.name else f.json_name) ≡ false
-      at true true q = plain.extensions t n f (e, q)
-      at true false q = plain.fields t n f (e, q)
-      at false true q = plain.extensions t n f (e, q)
+      at true true q = well.plain_extensions t n f (e, q)
+      at true false q = well.plain_names t n f (e, q)
+      at false true q = well.plain_extensions t n f (e, q)
       at false false q = json_plain o.options.use_proto_field_name shape t n f clean e q
 
   -- the key is not that of the type

@@ -1,5 +1,5 @@
 -- The laws of what is written of a content that a tree stands for.
-use Rattle.std.proofs.Common.{◌≡◌, ℕ, zero, suc, List, [], ◌∷◌, length, Bool, true, false, Option, Some, None, option_and_then, option_map, refl, ap, sym, ◌∙◌, subst}
+use Rattle.std.proofs.Common.{◌≡◌, ℕ, zero, suc, length, Bool, false, Some, None, option_map, refl, ap, sym, ◌∙◌, subst}
 use Rattle.serde_json.specs.Data.{Data}
 use Rattle.pbx_meaning.specs.Content as content
 use Rattle.pbx_meaning.specs.Content.{Content}
@@ -24,10 +24,9 @@ use Rattle.pbx_json_laws.proofs.FitSound.{content_sound}
 use Rattle.pbx_json_laws.proofs.FitTrees.{standing_fits}
 use Rattle.pbx_json_laws.proofs.NamesBack.{fault_by_name}
 use Rattle.pbx_json_laws.proofs.NoKept.{fits_kept}
-use Rattle.pbx_json_laws.proofs.OwnBack.{ContentBack}
 use Rattle.pbx_json_laws.proofs.Parts.{of_some, from_then}
 use Rattle.pbx_json_laws.proofs.Read.{said_is}
-use Rattle.pbx_json_laws.proofs.Written.{IsWritten, content_down}
+use Rattle.pbx_json_laws.proofs.Written.{content_down}
 
 module _ (shape : Shape) (proper : IsProper shape) (well : IsWellNamed shape) (o : SerializeOptions) (clean : name_fault o.use_proto_field_name shape ≡ None) where
   -- what is written where payloads stand no deeper than this many turns
