@@ -19,7 +19,8 @@ pub no_slash : (s : List ℕ) → NoCharPasses (λ d. d == 47) s → after_slash
 no_slash s h = none_without s (λ i lt. NoCharPasses-char 47 s i h (omega arith) lt)
 
 pub slash_at : (s : List ℕ) (i : ℕ) (rest : List ℕ) → drop i s ≡ 47 ∷ rest → after_slash rest ≡ None → after_slash s ≡ Some rest
-slash_at [] i rest e h = absurd (cc)
+slash_at [] zero rest e h = absurd (cc)
+slash_at [] (suc i) rest e h = absurd (cc)
 slash_at (c ∷ cs) zero rest e h =
     let first : c ≡ 47 = cc in
     let same : cs ≡ rest = cc in
