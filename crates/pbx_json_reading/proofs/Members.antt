@@ -28,7 +28,13 @@ use Rattle.pbx_json_meaning.specs.declared.kind.JsonKind.TheVariants.{NoMemory}
 use Rattle.pbx_json_walk.specs.Opened.{members_of_map, members_if_none, members_in}
 use Rattle.pbx_json_walk.specs.Walk.{Answer, answer_map, and_then, or_here, are_ascending, members_answer, message_answer, content_found, walk, start, parts, elements_in, parts_in}
 use Rattle.pbx_meaning.specs.declared.shape.FieldShape.{FieldShape}
-use Rattle.pbx_json_reading.specs.Objects.{object_answer}
+use Rattle.std.specs.Prelude.{not}
+use Rattle.pbx_json_meaning.specs.Names.{field_named}
+use Rattle.pbx_json_meaning.specs.Urls.{is_type_key}
+use Rattle.pbx_json_meaning.specs.declared.place.Step.TheVariants.{Key as to_key}
+use Rattle.pbx_json_walk.specs.Walk.{Part, State, at_step, turn, beside_type, beside_answer, walk_payload, payload_found, payload_answer}
+use Rattle.pbx_json_walk_laws.proofs.Beside.{ascending_without}
+use Rattle.pbx_json_reading.specs.Objects.{object_answer, beside_object, beside_turn, payload_object}
 use Rattle.pbx_json_walk.specs.Walk.{map_answer, map_value, walk_entries, no_entries, entries_answer}
 
 above_from_sorted : (k : String Global) (v : Value) (ms : List (String Global × Value)) → IsStrictlySortedBy string_cmp (keys_of ((k, v) ∷ ms))
@@ -62,6 +68,34 @@ object_walk shape allow skip fs d ms sorted h =
     ∙ ap (λ ps. members_answer skip fs ps (members_view ms)) (object_parts shape allow d (members_view ms) h)
     ∙ rw (ascending ms sorted) refl
 
+-- the members but that of the type of an `Any`
+pub beside_walk : (shape : Shape) (allow skip : Bool) (fs : List FieldShape) (d : Data) (ms : List (String Global × Value)) → IsStrictlySortedBy string_cmp (keys_of ms)
+    → Ok (members_view ms) ≡ members_in d
+    → beside_object skip fs d (parts_in shape allow d) ≡ answer_map content_found (walk skip fs (beside_type (parts shape allow (members_view ms))) start)
+beside_walk shape allow skip fs d ms sorted h =
+    ap (λ r. and_then (or_here r) (beside_answer skip fs (parts_in shape allow d))) (sym h)
+    ∙ ap (λ ps. beside_answer skip fs ps (members_view ms)) (object_parts shape allow d (members_view ms) h)
+    ∙ rw (ascending_without (members_view ms) (ascending ms sorted)) refl
+
+-- the first of them
+pub beside_first : (skip : Bool) (fs : List FieldShape) (p : Part) (ps : List Part) (s : State)
+    → walk skip fs (beside_type (p ∷ ps)) s ≡ and_then (beside_turn skip fs p.key p.answers s) (walk skip fs (beside_type ps))
+beside_first skip fs p ps s = at (is_type_key p.key)
+  where
+    at : (b : Bool) → walk skip fs (if not b then p ∷ beside_type ps else beside_type ps) s
+        ≡ and_then (if b then Ok s else at_step (to_key p.key) (turn skip (field_named p.key fs) p.answers s)) (walk skip fs (beside_type ps))
+    at true = refl
+    at false = refl
+
+-- the payload of an `Any`
+pub payload_walk : (shape : Shape) (allow skip : Bool) (k : Kind) (d : Data) (ms : List (String Global × Value)) → IsStrictlySortedBy string_cmp (keys_of ms)
+    → Ok (members_view ms) ≡ members_in d
+    → payload_object skip k d (parts_in shape allow d) ≡ and_then (walk_payload skip k (parts shape allow (members_view ms)) None) payload_found
+payload_walk shape allow skip k d ms sorted h =
+    ap (λ r. and_then (or_here r) (payload_answer skip k (parts_in shape allow d))) (sym h)
+    ∙ ap (λ ps. payload_answer skip k ps (members_view ms)) (object_parts shape allow d (members_view ms) h)
+    ∙ rw (ascending ms sorted) refl
+
 -- the object that is read as a map
 map_object : (shape : Shape) (allow : Bool) (k : Kind) (d : Data) (ms : Members) → Ok ms ≡ members_of_map k d → parts_in shape allow d ≡ parts shape allow ms
 map_object shape allow k (object ns) ms h = at (is_float k) ns h
@@ -93,6 +127,11 @@ fault_from a b e (inr is) f = inr (f is)
 pub on_if_ok : {T E : Type 0} (r : Result T E) (P Q : T → Type 0) → ((x : T) → P x → Q x) → IfOk r P → IfOk r Q
 on_if_ok (Ok x) P Q f h = f x h
 on_if_ok (Err e) P Q f h = tt
+
+-- what follows of an error that there is
+pub on_if_err : {T E : Type 0} (r : Result T E) (P Q : E → Type 0) → ((e : E) → P e → Q e) → IfErr r P → IfErr r Q
+on_if_err (Ok x) P Q f h = tt
+on_if_err (Err e) P Q f h = f e h
 
 -- ---- what the answers tell
 

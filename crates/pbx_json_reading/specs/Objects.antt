@@ -1,15 +1,31 @@
 -- What a tree is as an object of fields, and what is put into the content of a message that is none.
-use Rattle.std.specs.Prelude.{ℕ, List, [], ◌∷◌, Bool, Option, Some, None}
+use Rattle.std.specs.Prelude.{ℕ, List, [], ◌∷◌, Bool, if◌then◌else◌, Option, Some, None, Ok}
 use Rattle.serde_json.specs.Data.{Data}
 use Rattle.pbx_meaning.specs.Content.{Content}
 use Rattle.pbx_meaning.specs.declared.shape.FieldShape.{FieldShape}
+use Rattle.pbx_meaning.specs.declared.shape.Kind.{Kind}
 use Rattle.pbx_codec.specs.declared.contents.Held.{Held}
+use Rattle.pbx_json_meaning.specs.Names.{field_named}
+use Rattle.pbx_json_meaning.specs.Urls.{is_type_key}
+use Rattle.pbx_json_meaning.specs.declared.place.Step.TheVariants.{Key as to_key}
 use Rattle.pbx_json_walk.specs.Opened.{members_in}
-use Rattle.pbx_json_walk.specs.Walk.{Answer, Part, and_then, or_here, members_answer}
+use Rattle.pbx_json_walk.specs.Walk.{Answer, Answers, Part, State, and_then, or_here, at_step, turn, members_answer, beside_answer, payload_answer}
 
 -- an object of these fields, where keys that name none are skipped or not
 abbrev pub object_answer : Bool → List FieldShape → Data → List Part → Answer Content
 object_answer skips fs d ps = and_then (or_here (members_in d)) (members_answer skips fs ps)
+
+-- the members but that of the type of an `Any`, as an object of these fields
+abbrev pub beside_object : Bool → List FieldShape → Data → List Part → Answer Content
+beside_object skips fs d ps = and_then (or_here (members_in d)) (beside_answer skips fs ps)
+
+-- what one key of such an object does
+abbrev pub beside_turn : Bool → List FieldShape → List ℕ → Answers → State → Answer State
+beside_turn skips fs key answers s = if is_type_key key then Ok s else at_step (to_key key) (turn skips (field_named key fs) answers s)
+
+-- the payload of a kind under `value`
+abbrev pub payload_object : Bool → Kind → Data → List Part → Answer Content
+payload_object skips k d ps = and_then (or_here (members_in d)) (payload_answer skips k ps)
 
 -- the value at its number, if there is one
 abbrev pub entry_at : ℕ → Option Held → List (ℕ × Held)

@@ -1,5 +1,5 @@
 // Messages of well-known types that are told by a value of their own (ProtoJSON Format: the table of types).
-ghost use Rattle.std.specs.Prelude.{◌≡◌, ◌⊎◌, ◌++◌, false, Ok, Err, IfOk, IfErr, OnOk, option_map, map};
+ghost use Rattle.std.specs.Prelude.{◌≡◌, ◌⊎◌, [], ◌∷◌, ◌++◌, false, Ok, Err, IfOk, IfErr, OnOk, option_map, map};
 ghost use Rattle.serde_json.specs.View.{view};
 ghost use Rattle.pbx_meaning.specs.Content.{text as text_val};
 ghost use Rattle.pbx_meaning.specs.Shape.{field_of, fields_of};
@@ -8,7 +8,7 @@ ghost use Rattle.pbx_text.specs.Timestamp.{timestamp_read};
 ghost use Rattle.pbx_text.specs.Duration.{duration_read};
 ghost use Rattle.pbx_text.specs.Mask.{mask_read};
 ghost use Rattle.pbx_json_meaning.specs.Forms.{is_object_form as is_object_form_of, skips, kind_at as kind_at_of, shown_at as shown_at_of, whole};
-ghost use Rattle.pbx_json_meaning.specs.Forms.{time_of, mask_of_paths, holding as holding_of, judged, text_form, form_read, own_read};
+ghost use Rattle.pbx_json_meaning.specs.Forms.{made, time_of, mask_of_paths, holding as holding_of, judged, text_form, form_read, own_read};
 ghost use Rattle.pbx_json_meaning.specs.declared.kind.JsonKind.TheVariants.{NoMemory as OutOfMemory, Timestamp as NoTimestamp};
 ghost use Rattle.pbx_json_meaning.specs.declared.kind.JsonKind.TheVariants.{Duration as NoDuration, Mask as NoMask};
 ghost use Rattle.pbx_json_meaning.specs.Scalars.{if_ok, scalar_read};
@@ -18,7 +18,8 @@ ghost use Rattle.pbx_json_reading.specs.Holders.{has_any_parts, own_of};
 ghost use Rattle.pbx_json_reading.specs.Objects.{entry_at};
 
 use crate::defaults::shown;
-use crate::holders::{Holder, Own, read_any};
+use crate::holders::{Holder, Own, read_value_tree};
+use crate::payload::read_any_tree;
 use crate::scalar::read_scalar;
 use crate::state::contents_with;
 use pbx_codec::{Contents, Held};
@@ -72,6 +73,24 @@ fn add_value(
     }
 }
 
+/// The content of two values at 1 and at 2.
+pub(crate) fn two_values(
+    alloc: Global,
+    schema: &Schema,
+    place: usize,
+    first: Held,
+    second: Held,
+) -> Result<Contents, NoMemory>
+    ensures { IfOk result (λ contents. content_of contents ≡ made schema.now place ((1, val_of first) ∷ (2, val_of second) ∷ [])) }
+{
+    let first = shown_at(schema, place, 1, first);
+    let second = shown_at(schema, place, 2, second);
+    let mut values = List::new(alloc);
+    add_value(&mut values, 1, first)?;
+    add_value(&mut values, 2, second)?;
+    contents_with(alloc, values)
+}
+
 /// The content of seconds and nanoseconds.
 fn time_contents(
     alloc: Global,
@@ -82,12 +101,8 @@ fn time_contents(
 ) -> Result<Contents, NoMemory>
     ensures { IfOk result (λ contents. content_of contents ≡ time_of schema.now place (seconds, nanos)) }
 {
-    let seconds = shown_at(schema, place, 1, Held::I64(seconds));
-    let nanos = shown_at(schema, place, 2, Held::I32(nanos));
-    let mut values = List::new(alloc);
-    add_value(&mut values, 1, seconds)?;
-    add_value(&mut values, 2, nanos)?;
-    contents_with(alloc, values)
+    let seconds = Held::I64(seconds);
+    two_values(alloc, schema, place, seconds, Held::I32(nanos))
 }
 
 /// The content of one value at a number, if there is one.
@@ -288,20 +303,20 @@ fn read_whole(
         Form::Wrapper => read_wrapper(alloc, schema, names, allow, place, tree),
         Form::FloatWrapper => Err(JsonKind::Float),
         Form::Misshapen => Err(JsonKind::Shape),
-        _ => Err(JsonKind::NotBuilt),
+        _ => Err(JsonKind::WrongKind),
     }
 }
 
 /// What a message of a type, whose form is no object of fields, is read as.
-pub(crate) fn read_own(
+pub(crate) fn read_own<'t>(
     alloc: Global,
     schema: &Schema,
     names: &mut SchemaNames,
     allow: bool,
     form: Form,
     place: usize,
-    tree: &Value,
-) -> Result<Own, JsonKind>
+    tree: &'t Value,
+) -> Result<Own<'t>, JsonKind>
     requires names { AreNamesIn schema.now names.old }
     requires form { form ≡ form_of schema.now place }
     ensures ok { IfOk result (λ own. own_read schema.now allow place (view tree.now) ≡ Ok (own_of schema.now own)) }
@@ -311,7 +326,8 @@ pub(crate) fn read_own(
     match form {
         Form::Struct => Ok(Own::Members(Holder { place, outer: None })),
         Form::ListValue => Ok(Own::Elements(Holder { place, outer: None })),
-        Form::Value => read_any(alloc, schema, place, tree),
+        Form::Value => read_value_tree(alloc, schema, place, tree),
+        Form::Any => read_any_tree(alloc, schema, names, allow, place, tree),
         _ => match read_whole(alloc, schema, names, allow, form, place, tree) {
             Ok(contents) => Ok(Own::Whole(contents)),
             Err(rule) => Err(rule),

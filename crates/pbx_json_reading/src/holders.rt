@@ -1,4 +1,4 @@
-// Messages of `Struct`, `ListValue` and `Value`, whose trees have elements or members of any sort.
+// Messages whose trees have elements or members of any sort: `Struct`, `ListValue`, `Value`, and the payload of an `Any`.
 ghost use Rattle.std.specs.Prelude.{◌≡◌, ◌⊎◌, false, Some, Ok, Err, IfOk, IfErr, option_map};
 ghost use Rattle.serde_json.specs.View.{view};
 ghost use Rattle.pbx_meaning.specs.Content.{text as text_val};
@@ -34,15 +34,29 @@ pub(crate) struct Holder {
     pub(crate) outer: Option<Outer>,
 }
 
+/// The payload of an `Any`: the place of the type of the `Any`, the URL of the payload's type, and the place of that type.
+#[derive(Clone, Copy)]
+pub(crate) struct Packing<'t> {
+    pub(crate) place: usize,
+    pub(crate) url: &'t str,
+    pub(crate) payload: usize,
+    /// Whether keys that name nothing are skipped.
+    pub(crate) skips: bool,
+}
+
 /// What a message of a form of its own is read as.
 #[derive(Drop)]
-pub(crate) enum Own {
+pub(crate) enum Own<'t> {
     /// Contents, which were read at once.
     Whole(Contents),
     /// The elements of the tree, of a `ListValue`.
     Elements(Holder),
     /// The members of the tree, of a `Struct`.
     Members(Holder),
+    /// The members of the tree but that of the type, of the payload of an `Any`.
+    Beside(Packing<'t>),
+    /// The member `value` of the tree, which is the payload of an `Any`.
+    Under(Packing<'t>),
 }
 
 /// The place of the type of the messages of a field.
@@ -56,7 +70,7 @@ fn type_at(schema: &Schema, place: usize, number: u32) -> usize
 }
 
 /// The `Struct` of a `Value`.
-fn struct_inside(schema: &Schema, place: usize) -> Result<Own, JsonKind>
+fn struct_inside<'t>(schema: &Schema, place: usize) -> Result<Own<'t>, JsonKind>
     ensures ok { IfOk result (λ own. struct_read schema.now (type_at_of schema.now place 5) (value_with schema.now place 5)
         ≡ Ok (own_of schema.now own)) }
     ensures err { IfErr result (λ e. struct_read schema.now (type_at_of schema.now place 5) (value_with schema.now place 5) ≡ Err e) }
@@ -72,7 +86,7 @@ fn struct_inside(schema: &Schema, place: usize) -> Result<Own, JsonKind>
 }
 
 /// The `ListValue` of a `Value`.
-fn list_inside(schema: &Schema, place: usize) -> Result<Own, JsonKind>
+fn list_inside<'t>(schema: &Schema, place: usize) -> Result<Own<'t>, JsonKind>
     ensures ok { IfOk result (λ own. list_value_read schema.now (type_at_of schema.now place 6) (value_with schema.now place 6)
         ≡ Ok (own_of schema.now own)) }
     ensures err { IfErr result (λ e. list_value_read schema.now (type_at_of schema.now place 6) (value_with schema.now place 6) ≡ Err e) }
@@ -88,13 +102,13 @@ fn list_inside(schema: &Schema, place: usize) -> Result<Own, JsonKind>
 }
 
 /// A `Value` of one value at a number.
-fn whole_value(
+fn whole_value<'t>(
     alloc: Global,
     schema: &Schema,
     place: usize,
     number: u32,
     held: Held,
-) -> Result<Own, JsonKind>
+) -> Result<Own<'t>, JsonKind>
     ensures ok { IfOk result (λ own. own_of schema.now own ≡ whole (holding_of schema.now place number (Some (val_of held)))) }
     ensures err { IfErr result (λ e. e ≡ OutOfMemory) }
 {
@@ -106,7 +120,12 @@ fn whole_value(
 
 /// A `Value` of a text.
 #[tactic(auto, using(crate::proofs::Tree::val_of_text))]
-fn text_value(alloc: Global, schema: &Schema, place: usize, text: &str) -> Result<Own, JsonKind>
+fn text_value<'t>(
+    alloc: Global,
+    schema: &Schema,
+    place: usize,
+    text: &str,
+) -> Result<Own<'t>, JsonKind>
     ensures ok { IfOk result (λ own. own_of schema.now own ≡ whole (holding_of schema.now place 3 (Some (text_val text.now)))) }
     ensures err { IfErr result (λ e. e ≡ OutOfMemory) }
 {
@@ -117,12 +136,12 @@ fn text_value(alloc: Global, schema: &Schema, place: usize, text: &str) -> Resul
 }
 
 /// A `Value`.
-pub(crate) fn read_any(
+pub(crate) fn read_value_tree<'t>(
     alloc: Global,
     schema: &Schema,
     place: usize,
     tree: &Value,
-) -> Result<Own, JsonKind>
+) -> Result<Own<'t>, JsonKind>
     ensures ok { IfOk result (λ own. value_read schema.now place (view tree.now) ≡ Ok (own_of schema.now own)) }
     ensures err { IfErr result (λ e. (e ≡ OutOfMemory) ⊎ (value_read schema.now place (view tree.now) ≡ Err e)) }
 {

@@ -1,5 +1,4 @@
-//! Reads the content that a JSON tree stands for, as a message of a type (ProtoJSON Format). The form of `google.protobuf.Any` is
-//! not built yet.
+//! Reads the content that a JSON tree stands for, as a message of a type (ProtoJSON Format).
 #![tactic(auto)]
 
 mod defaults;
@@ -9,6 +8,7 @@ mod forms;
 mod holders;
 mod integers;
 mod opened;
+mod payload;
 mod read;
 mod scalar;
 mod state;

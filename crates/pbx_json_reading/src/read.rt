@@ -1,6 +1,7 @@
 ghost use Rattle.std.specs.Prelude.{◌≡◌, ◌⊎◌, None, Ok, Err, not, OnOk, IfOk, IfErr, option_map, map};
 ghost use Rattle.serde_json.specs.View.{view};
 ghost use Rattle.pbx_meaning.specs.Shape.{declared_of};
+ghost use Rattle.pbx_meaning.specs.declared.shape.Kind.TheVariants.{Message};
 ghost use Rattle.pbx_codec.specs.View.{content_of, val_of, key_of};
 ghost use Rattle.pbx_json_meaning.specs.Asked.{field as asked_field, one as asked_one, target_by};
 ghost use Rattle.pbx_json_meaning.specs.Names.{field_named};
@@ -9,20 +10,21 @@ ghost use Rattle.pbx_json_meaning.specs.Faults.{FirstJsonFault};
 ghost use Rattle.pbx_json_meaning.specs.declared.kind.JsonKind.TheVariants.{NoMemory as OutOfMemory};
 ghost use Rattle.pbx_json_meaning.specs.declared.place.Step.TheVariants.{Key as to_key};
 ghost use Rattle.pbx_field_names.specs.Index.{AreNamesIn};
-ghost use Rattle.pbx_json_walk.specs.Walk.{IsFaultOf, answers, at_step, key_judged, noted};
+ghost use Rattle.pbx_json_walk.specs.Walk.{IsFaultOf, answer_map, answers, at_step, key_judged, noted, message_found, payload_turn};
 ghost use Rattle.pbx_json_walk.specs.Walk.{turn, message_answer, own_answer, value_answer, list_answer, map_answer, target_answer};
 ghost use Rattle.pbx_json_walk.specs.Walk.{parts_in, elements_in, entry_key, entry_turn, item_turn, with_present, with_entry, map_value};
 ghost use Rattle.pbx_json_reading.specs.States.{state_of, entries_of};
-ghost use Rattle.pbx_json_reading.specs.Objects.{object_answer};
+ghost use Rattle.pbx_json_reading.specs.Objects.{object_answer, beside_object, beside_turn, payload_object};
 ghost use Rattle.pbx_json_reading.specs.Holders.{own_of};
-ghost use Rattle.pbx_json_reading.specs.declared.holders.Own.TheVariants.{Elements, Members};
+ghost use Rattle.pbx_json_reading.specs.declared.holders.Own.TheVariants.{Elements, Members, Beside, Under};
 
 use crate::defaults::shown;
 use crate::entries::MapEntries;
 use crate::fault::{at_key, at_tree, below_index, below_key};
 use crate::forms::{is_object_form, kind_at, read_own, skips_keys};
-use crate::holders::{Holder, Own, hold};
+use crate::holders::{Holder, Own, Packing, hold};
 use crate::opened::{is_left_out, list_items, map_members, object_members};
+use crate::payload::{is_type_key, is_value_key, pack, payload_found};
 use crate::scalar::{read_key, read_scalar};
 use crate::state::ObjectState;
 use pbx_codec::{Contents, Held, MapKey};
@@ -235,14 +237,14 @@ fn read_parts(
     reading: &Reading<'_>,
     names: &mut SchemaNames,
     levels: u32,
-    own: Own,
+    own: Own<'_>,
     tree: &Value,
 ) -> Result<Contents, JsonError>
     requires { AreNamesIn reading.now.schema.now names.old }
-    ensures ok { IfOk result (λ r. own_answer reading.now.schema.now (Ok (own_of reading.now.schema.now own)) (view tree.now)
+    ensures ok { IfOk result (λ r. own_answer reading.now.schema.now (Ok (own_of reading.now.schema.now own.entry)) (view tree.now)
         (elements_in reading.now.schema.now reading.now.allow (view tree.now))
         (parts_in reading.now.schema.now reading.now.allow (view tree.now)) ≡ Ok (content_of r)) }
-    ensures err { IfErr result (λ e. IsFaultOf (own_answer reading.now.schema.now (Ok (own_of reading.now.schema.now own)) (view tree.now)
+    ensures err { IfErr result (λ e. IsFaultOf (own_answer reading.now.schema.now (Ok (own_of reading.now.schema.now own.entry)) (view tree.now)
         (elements_in reading.now.schema.now reading.now.allow (view tree.now))
         (parts_in reading.now.schema.now reading.now.allow (view tree.now))) e) }
     ensures names { AreNamesIn reading.now.schema.now names.new }
@@ -251,6 +253,223 @@ fn read_parts(
         Own::Whole(contents) => Ok(contents),
         Own::Elements(holder) => read_elements(reading, names, levels, holder, tree),
         Own::Members(holder) => read_members(reading, names, levels, holder, tree),
+        Own::Beside(packing) => read_beside(reading, names, levels, packing, tree),
+        Own::Under(packing) => read_under(reading, names, levels, packing, tree),
+    }
+}
+
+/// What a tree is as an `Any` whose payload stands beside the type.
+#[cycle(tree)]
+fn read_beside(
+    reading: &Reading<'_>,
+    names: &mut SchemaNames,
+    levels: u32,
+    packing: Packing<'_>,
+    tree: &Value,
+) -> Result<Contents, JsonError>
+    requires { AreNamesIn reading.now.schema.now names.old }
+    ensures ok { IfOk result (λ r. own_answer reading.now.schema.now (Ok (own_of reading.now.schema.now (Beside packing.entry))) (view tree.now)
+        (elements_in reading.now.schema.now reading.now.allow (view tree.now))
+        (parts_in reading.now.schema.now reading.now.allow (view tree.now)) ≡ Ok (content_of r)) }
+    ensures err { IfErr result (λ e. IsFaultOf (own_answer reading.now.schema.now (Ok (own_of reading.now.schema.now (Beside packing.entry))) (view tree.now)
+        (elements_in reading.now.schema.now reading.now.allow (view tree.now))
+        (parts_in reading.now.schema.now reading.now.allow (view tree.now))) e) }
+    ensures names { AreNamesIn reading.now.schema.now names.new }
+{
+    let Packing { payload, skips, .. } = packing;
+    match read_rest(reading, names, levels, payload, skips, tree) {
+        Ok(contents) => pack(reading.alloc, reading.schema, packing, contents),
+        Err(error) => Err(error),
+    }
+}
+
+/// What the members of a tree but that of the type are as an object of the fields of the type at a place.
+#[cycle(tree)]
+fn read_rest(
+    reading: &Reading<'_>,
+    names: &mut SchemaNames,
+    levels: u32,
+    place: usize,
+    skips: bool,
+    tree: &Value,
+) -> Result<Contents, JsonError>
+    requires { AreNamesIn reading.now.schema.now names.old }
+    ensures ok { IfOk result (λ r. beside_object skips (declared_of reading.now.schema.now place) (view tree.now)
+        (parts_in reading.now.schema.now reading.now.allow (view tree.now)) ≡ Ok (content_of r)) }
+    ensures err { IfErr result (λ e. IsFaultOf (beside_object skips (declared_of reading.now.schema.now place) (view tree.now)
+        (parts_in reading.now.schema.now reading.now.allow (view tree.now))) e) }
+    ensures names { AreNamesIn reading.now.schema.now names.new }
+{
+    let members = match object_members(tree) {
+        Ok(members) => members,
+        Err(rule) => return Err(at_tree(reading.alloc, rule)),
+    };
+    let mut state = ObjectState::new(reading.alloc);
+    for (key, member) in members.iter() {
+        if let Err(error) = read_rest_member(
+            reading,
+            names,
+            levels,
+            place,
+            skips,
+            key.as_str(),
+            member,
+            &mut state,
+        ) {
+            drop(state);
+            return Err(error);
+        }
+    }
+    state.into_contents(reading.alloc)
+}
+
+/// What one key adds, which adds nothing where it is that of the type.
+#[cycle(tree)]
+fn read_rest_member(
+    reading: &Reading<'_>,
+    names: &mut SchemaNames,
+    levels: u32,
+    place: usize,
+    skips: bool,
+    key: &str,
+    tree: &Value,
+    state: &mut ObjectState,
+) -> Result<(), JsonError>
+    requires { AreNamesIn reading.now.schema.now names.old }
+    ensures ok { OnOk result (beside_turn skips (declared_of reading.now.schema.now place) key.now
+        (answers reading.now.schema.now reading.now.allow (view tree.now)) (state_of state.old) ≡ Ok (state_of state.new)) }
+    ensures err { IfErr result (λ e. IsFaultOf (beside_turn skips (declared_of reading.now.schema.now place) key.now
+        (answers reading.now.schema.now reading.now.allow (view tree.now)) (state_of state.old)) e) }
+    ensures names { AreNamesIn reading.now.schema.now names.new }
+{
+    if is_type_key(key) {
+        return Ok(());
+    }
+    read_member(reading, names, levels, place, skips, key, tree, state)
+}
+
+/// What a tree is as an `Any` whose payload stands under `value`.
+#[cycle(tree)]
+fn read_under(
+    reading: &Reading<'_>,
+    names: &mut SchemaNames,
+    levels: u32,
+    packing: Packing<'_>,
+    tree: &Value,
+) -> Result<Contents, JsonError>
+    requires { AreNamesIn reading.now.schema.now names.old }
+    ensures ok { IfOk result (λ r. own_answer reading.now.schema.now (Ok (own_of reading.now.schema.now (Under packing.entry))) (view tree.now)
+        (elements_in reading.now.schema.now reading.now.allow (view tree.now))
+        (parts_in reading.now.schema.now reading.now.allow (view tree.now)) ≡ Ok (content_of r)) }
+    ensures err { IfErr result (λ e. IsFaultOf (own_answer reading.now.schema.now (Ok (own_of reading.now.schema.now (Under packing.entry))) (view tree.now)
+        (elements_in reading.now.schema.now reading.now.allow (view tree.now))
+        (parts_in reading.now.schema.now reading.now.allow (view tree.now))) e) }
+    ensures names { AreNamesIn reading.now.schema.now names.new }
+{
+    let Packing { payload, skips, .. } = packing;
+    match read_payload(reading, names, levels, payload, skips, tree) {
+        Ok(contents) => pack(reading.alloc, reading.schema, packing, contents),
+        Err(error) => Err(error),
+    }
+}
+
+/// What the member `value` of a tree is as a message of the type at a place, where other keys than that of the type are skipped or not.
+#[cycle(tree)]
+fn read_payload(
+    reading: &Reading<'_>,
+    names: &mut SchemaNames,
+    levels: u32,
+    place: usize,
+    skips: bool,
+    tree: &Value,
+) -> Result<Contents, JsonError>
+    requires { AreNamesIn reading.now.schema.now names.old }
+    ensures ok { IfOk result (λ r. payload_object skips (Message place) (view tree.now)
+        (parts_in reading.now.schema.now reading.now.allow (view tree.now)) ≡ Ok (content_of r)) }
+    ensures err { IfErr result (λ e. IsFaultOf (payload_object skips (Message place) (view tree.now)
+        (parts_in reading.now.schema.now reading.now.allow (view tree.now))) e) }
+    ensures names { AreNamesIn reading.now.schema.now names.new }
+{
+    let members = match object_members(tree) {
+        Ok(members) => members,
+        Err(rule) => return Err(at_tree(reading.alloc, rule)),
+    };
+    let mut found = None;
+    for (key, member) in members.iter() {
+        if let Err(error) = read_payload_member(
+            reading,
+            names,
+            levels,
+            place,
+            skips,
+            key.as_str(),
+            member,
+            &mut found,
+        ) {
+            drop(found);
+            return Err(error);
+        }
+    }
+    payload_found(reading.alloc, found)
+}
+
+/// What one key adds beside a payload, or as one.
+#[cycle(tree)]
+fn read_payload_member(
+    reading: &Reading<'_>,
+    names: &mut SchemaNames,
+    levels: u32,
+    place: usize,
+    skips: bool,
+    key: &str,
+    tree: &Value,
+    found: &mut Option<Contents>,
+) -> Result<(), JsonError>
+    requires { AreNamesIn reading.now.schema.now names.old }
+    ensures ok { OnOk result (at_step (to_key key.now) (payload_turn skips (Message place) key.now
+        (answers reading.now.schema.now reading.now.allow (view tree.now)) (option_map content_of found.old))
+        ≡ Ok (option_map content_of found.new)) }
+    ensures err { IfErr result (λ e. IsFaultOf (at_step (to_key key.now) (payload_turn skips (Message place) key.now
+        (answers reading.now.schema.now reading.now.allow (view tree.now)) (option_map content_of found.old))) e) }
+    ensures names { AreNamesIn reading.now.schema.now names.new }
+{
+    if is_type_key(key) {
+        return Ok(());
+    }
+    if is_value_key(key) {
+        return read_payload_value(reading, names, levels, place, key, tree, found);
+    }
+    if skips {
+        Ok(())
+    } else {
+        Err(at_key(reading.alloc, key, JsonKind::UnknownField))
+    }
+}
+
+/// What the key of a payload adds.
+#[cycle(tree)]
+fn read_payload_value(
+    reading: &Reading<'_>,
+    names: &mut SchemaNames,
+    levels: u32,
+    place: usize,
+    key: &str,
+    tree: &Value,
+    found: &mut Option<Contents>,
+) -> Result<(), JsonError>
+    requires { AreNamesIn reading.now.schema.now names.old }
+    ensures ok { OnOk result (at_step (to_key key.now) (answer_map message_found (answers reading.now.schema.now reading.now.allow
+        (view tree.now) (asked_one (Message place)))) ≡ Ok (option_map content_of found.new)) }
+    ensures err { IfErr result (λ e. IsFaultOf (at_step (to_key key.now) (answer_map message_found (answers reading.now.schema.now
+        reading.now.allow (view tree.now) (asked_one (Message place))))) e) }
+    ensures names { AreNamesIn reading.now.schema.now names.new }
+{
+    match read_message(reading, names, levels, place, tree) {
+        Ok(contents) => {
+            *found = Some(contents);
+            Ok(())
+        }
+        Err(error) => Err(below_key(reading.alloc, key, error)),
     }
 }
 

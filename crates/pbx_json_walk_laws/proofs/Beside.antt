@@ -1,11 +1,15 @@
 -- The keys of the object of an `Any` but that of its type.
 use Rattle.std.proofs.Common.{◌≡◌, ℕ, not, List, [], ◌∷◌, Bool, true, false, if◌then◌else◌, ap, sym, subst, refl}
+use Rattle.std.specs.Ordering.{nat_cmp, is_lt}
+use Rattle.std.specs.Cmp.Lexicographic.{slice_cmp}
+use Rattle.std.specs.declared.cmp.Ordering.TheVariants.{Less}
 use Rattle.serde_json.specs.Data.{Members, no_members, member}
 use Rattle.pbx_meaning.specs.declared.shape.Shape.{Shape}
 use Rattle.pbx_json_meaning.specs.Urls.{is_type_key, without_type}
 use Rattle.pbx_json_meaning.specs.Stands.{Entry, beside_type as beside_entries}
-use Rattle.pbx_json_walk.specs.Walk.{Part, beside_type, answers, parts}
+use Rattle.pbx_json_walk.specs.Walk.{Part, beside_type, answers, parts, are_above, are_ascending}
 use Rattle.pbx_json_walk_laws.proofs.Walked.{AgreeParts}
+use Rattle.pbx_json_walk_laws.proofs.Keyed.{above_first, above_rest, above_less}
 
 pub beside_agree : (es : List Entry) (ps : List Part) → AgreeParts es ps → AgreeParts (beside_entries es) (beside_type ps)
 beside_agree [] [] h = tt
@@ -29,3 +33,31 @@ beside_parts shape allow (member k d ms) = at (is_type_key k) (beside_parts shap
         ≡ parts shape allow (if b then without_type ms else member k d (without_type ms))
     at true ih = ih
     at false ih = ap (λ ps. record { key = k; answers = answers shape allow d } ∷ ps) ih
+
+-- ---- ascending keys
+
+above_without : (k : List ℕ) (ms : Members) → are_above k ms ≡ true → are_above k (without_type ms) ≡ true
+above_without k no_members h = refl
+above_without k (member l d ms) h =
+    let lt = above_first k l d ms h in
+    let rest = above_rest k l d ms h in
+    at (is_type_key l) lt (above_without k ms (above_less k l ms lt rest)) (above_without l ms rest)
+  where
+    at : (b : Bool) → slice_cmp nat_cmp k l ≡ Less → are_above k (without_type ms) ≡ true → are_above l (without_type ms) ≡ true
+        → are_above k (if b then without_type ms else member l d (without_type ms)) ≡ true
+    at true lt past next = past
+    at false lt past next = rw (ap is_lt lt, next) refl
+
+ascends_above : (k : List ℕ) (ms : Members) → are_above k ms ≡ true → are_ascending ms ≡ true
+ascends_above k no_members h = refl
+ascends_above k (member l d ms) h = above_rest k l d ms h
+
+-- where keys ascend, those but that of the type do
+pub ascending_without : (ms : Members) → are_ascending ms ≡ true → are_ascending (without_type ms) ≡ true
+ascending_without no_members h = refl
+ascending_without (member k d ms) h = at (is_type_key k) (ascends_above k (without_type ms) (above_without k ms h)) (above_without k ms h)
+  where
+    at : (b : Bool) → are_ascending (without_type ms) ≡ true → are_above k (without_type ms) ≡ true
+        → are_ascending (if b then without_type ms else member k d (without_type ms)) ≡ true
+    at true past next = past
+    at false past next = next

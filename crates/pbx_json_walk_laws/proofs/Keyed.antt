@@ -62,7 +62,7 @@ above_first k l d r h = less (cmp k l) (both (is_lt (cmp k l)) (are_above l r) h
 pub above_rest : (k l : List ℕ) (d : Data) (r : Members) → are_above k (member l d r) ≡ true → are_above l r ≡ true
 above_rest k l d r h = (both (is_lt (cmp k l)) (are_above l r) h).1
 
-above_less : (k l : List ℕ) (r : Members) → cmp k l ≡ Less → are_above l r ≡ true → are_above k r ≡ true
+pub above_less : (k l : List ℕ) (r : Members) → cmp k l ≡ Less → are_above l r ≡ true → are_above k r ≡ true
 above_less k l no_members lt h = refl
 above_less k l (member m d r) lt h =
     let first = IsTotalOrder.trans nat_list_cmp_total k l m lt (above_first l m d r h) in

@@ -1,56 +1,94 @@
-use Rattle.std.proofs.Common.{◌≡◌, ◌+◌, ◌*◌, [], map, drop}
+use Rattle.std.proofs.Common.{◌≡◌, ◌+◌, ◌*◌, [], None, option_map, map, drop}
 use Rattle.serde_json.specs.View.{items_view, members_view}
 use Rattle.pbx_meaning.specs.Shape.{declared_of}
-use Rattle.pbx_codec.specs.View.{val_of}
+use Rattle.pbx_meaning.specs.declared.shape.Kind.TheVariants.{Message}
+use Rattle.pbx_codec.specs.View.{val_of, content_of}
 use Rattle.pbx_field_names.specs.Index.{AreNamesIn}
-use Rattle.pbx_json_walk.specs.Walk.{walk, start, parts, walk_items, items_answers, walk_entries, no_entries}
+use Rattle.pbx_json_walk.specs.Walk.{walk, start, parts, walk_items, items_answers, walk_entries, no_entries, beside_type, walk_payload}
 use Rattle.pbx_json_reading.specs.States.{state_of, entries_of}
 use Rattle.pbx_json_reading.proofs.read.+tree.Given as goal
 
 abbrev pub decreases-read_message : goal.decreases-read_message
-decreases-read_message l = 8 * l.levels
+decreases-read_message l = 16 * l.levels
 
 abbrev pub decreases-read_object : goal.decreases-read_object
-decreases-read_object l = 8 * l.levels + 7
+decreases-read_object l = 16 * l.levels + 7
 
 abbrev pub decreases-read_parts : goal.decreases-read_parts
-decreases-read_parts l = 8 * l.levels + 5
+decreases-read_parts l = 16 * l.levels + 10
+
+abbrev pub decreases-read_beside : goal.decreases-read_beside
+decreases-read_beside l = 16 * l.levels + 9
+
+abbrev pub decreases-read_rest : goal.decreases-read_rest
+decreases-read_rest l = 16 * l.levels + 8
+
+abbrev pub decreases-read_rest_member : goal.decreases-read_rest_member
+decreases-read_rest_member l = 16 * l.levels + 7
+
+abbrev pub decreases-read_under : goal.decreases-read_under
+decreases-read_under l = 16 * l.levels + 4
+
+abbrev pub decreases-read_payload : goal.decreases-read_payload
+decreases-read_payload l = 16 * l.levels + 3
+
+abbrev pub decreases-read_payload_member : goal.decreases-read_payload_member
+decreases-read_payload_member l = 16 * l.levels + 2
+
+abbrev pub decreases-read_payload_value : goal.decreases-read_payload_value
+decreases-read_payload_value l = 16 * l.levels + 1
 
 abbrev pub decreases-read_elements : goal.decreases-read_elements
-decreases-read_elements l = 8 * l.levels + 4
+decreases-read_elements l = 16 * l.levels + 4
 
 abbrev pub decreases-read_members : goal.decreases-read_members
-decreases-read_members l = 8 * l.levels + 4
+decreases-read_members l = 16 * l.levels + 4
 
 abbrev pub decreases-read_value : goal.decreases-read_value
-decreases-read_value l = 8 * l.levels + 1
+decreases-read_value l = 16 * l.levels + 1
 
 abbrev pub decreases-read_item : goal.decreases-read_item
-decreases-read_item l = 8 * l.levels + 2
+decreases-read_item l = 16 * l.levels + 2
 
 abbrev pub decreases-read_entry : goal.decreases-read_entry
-decreases-read_entry l = 8 * l.levels + 2
+decreases-read_entry l = 16 * l.levels + 2
 
 abbrev pub decreases-read_list : goal.decreases-read_list
-decreases-read_list l = 8 * l.levels + 3
+decreases-read_list l = 16 * l.levels + 3
 
 abbrev pub decreases-read_map : goal.decreases-read_map
-decreases-read_map l = 8 * l.levels + 3
+decreases-read_map l = 16 * l.levels + 3
 
 abbrev pub decreases-read_values : goal.decreases-read_values
-decreases-read_values l = 8 * l.levels + 4
+decreases-read_values l = 16 * l.levels + 4
 
 abbrev pub decreases-read_field : goal.decreases-read_field
-decreases-read_field l = 8 * l.levels + 5
+decreases-read_field l = 16 * l.levels + 5
 
 abbrev pub decreases-read_member : goal.decreases-read_member
-decreases-read_member l = 8 * l.levels + 6
+decreases-read_member l = 16 * l.levels + 6
 
 abbrev pub invariant-read_object-loop-key : goal.invariant-read_object-loop-key
 invariant-read_object-loop-key l = record {
   walked :
       walk l.skips (declared_of l.reading.schema.now l.place) (parts l.reading.schema.now l.reading.allow (members_view l.initial.key-iterator)) start
       ≡ walk l.skips (declared_of l.reading.schema.now l.place) (parts l.reading.schema.now l.reading.allow (members_view l.key-iterator)) (state_of l.state);
+  names : AreNamesIn l.reading.schema.now l.names;
+}
+
+abbrev pub invariant-read_rest-loop-key : goal.invariant-read_rest-loop-key
+invariant-read_rest-loop-key l = record {
+  walked :
+      walk l.skips (declared_of l.reading.schema.now l.place) (beside_type (parts l.reading.schema.now l.reading.allow (members_view l.initial.key-iterator))) start
+      ≡ walk l.skips (declared_of l.reading.schema.now l.place) (beside_type (parts l.reading.schema.now l.reading.allow (members_view l.key-iterator))) (state_of l.state);
+  names : AreNamesIn l.reading.schema.now l.names;
+}
+
+abbrev pub invariant-read_payload-loop-key : goal.invariant-read_payload-loop-key
+invariant-read_payload-loop-key l = record {
+  walked :
+      walk_payload l.skips (Message l.place) (parts l.reading.schema.now l.reading.allow (members_view l.initial.key-iterator)) None
+      ≡ walk_payload l.skips (Message l.place) (parts l.reading.schema.now l.reading.allow (members_view l.key-iterator)) (option_map content_of l.found);
   names : AreNamesIn l.reading.schema.now l.names;
 }
 
