@@ -1,4 +1,4 @@
-//! Laws of the canonical JSON mapping of ordinary messages. What a tree stands for is a content that a message may
+//! Laws of the canonical JSON mapping. What a tree stands for is a content that a message may
 //! have; what is written for it stands for it again; and a tree or a content is refused exactly where it has a fault.
 //! The laws are the contracts of functions that do nothing.
 #![tactic(auto)]

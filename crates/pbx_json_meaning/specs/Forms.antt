@@ -165,7 +165,7 @@ abbrev pub typed_read : Shape → Bool → ℕ → Members → List ℕ → Opti
 typed_read shape allow t ms url None = Err fault.AnyType
 typed_read shape allow t ms url (Some u) = payload_read shape allow t ms url u
 
--- the members of an `Any`, of which one is the type's URL
+-- the members of an `Any`, of which one has to be the type's URL
 abbrev pub members_read : Shape → Bool → ℕ → Members → Option (List ℕ) → Result Own JsonKind
 members_read shape allow t ms None = Err fault.AnyType
 members_read shape allow t ms (Some url) = typed_read shape allow t ms url (type_of_url shape url)

@@ -99,7 +99,8 @@ form_parts shape t _ fs kept = Err fault.WrongKind
 
 -- what is written below a message: fields, or what its own form has
 abbrev pub message_parts : Shape → ℕ → Fields → List Rec → Taken
-message_parts shape t fs kept = if is_object_type shape t then Ok (members false (declared_of shape t) fs kept) else form_parts shape t (form_of shape t) fs kept
+message_parts shape t fs kept =
+    if is_object_type shape t then Ok (members false (declared_of shape t) fs kept) else form_parts shape t (form_of shape t) fs kept
 
 -- what is written below a content of a type
 abbrev pub content_parts : Shape → ℕ → Content → Taken

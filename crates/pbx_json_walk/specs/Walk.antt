@@ -1,5 +1,6 @@
 -- What the reader does, one key and one element after another: what it answers for each tree where something is asked of it.
-use Rattle.std.specs.Prelude.{◌≡◌, ◌⊎◌, ℕ, ◌+◌, ℤ, List, [], ◌∷◌, ◌++◌, filter, Bool, true, false, not, ◌&&◌, if◌then◌else◌, Option, Some, None, option_map, Result, Ok, Err}
+use Rattle.std.specs.Prelude.{◌≡◌, ◌⊎◌, ℕ, ◌+◌, ℤ, List, [], ◌∷◌, ◌++◌, filter, Bool, true, false, not, ◌&&◌, if◌then◌else◌}
+use Rattle.std.specs.Prelude.{Option, Some, None, option_map, Result, Ok, Err}
 use Rattle.std.specs.BTreeSet.{BTreeSet, contains, insert_key}
 use Rattle.std.specs.Ordering.{nat_cmp, int_cmp, is_lt}
 use Rattle.std.specs.Cmp.Lexicographic.{slice_cmp}

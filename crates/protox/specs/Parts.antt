@@ -63,7 +63,7 @@ abbrev pub IsNotWritten : Option Data → TopError → Type 0
 IsNotWritten o top.NoMemory = Unit {0}
 IsNotWritten o error = o ≡ None
 
--- the tree stands for no message of the type, or for one that nests too deep, or want of memory
+-- the tree stands for no message of the type, or for one that nests too deep, as may its payloads, or want of memory
 abbrev pub IsNotTold : Described DescriptorProto → Data → TopError → Type 0
 IsNotTold d tree (top.Json e) = IsUnread (shape_of d.pool) (place_of d) tree e
 IsNotTold d tree top.TooDeep = IsTooDeep (shape_of d.pool) (place_of d) tree

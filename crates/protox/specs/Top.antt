@@ -39,7 +39,7 @@ use Rattle.protox.specs.declared.error.TopError.TheVariants.{File, JsonNames, We
 abbrev pub most_files : ℕ
 most_files = 65536
 
--- The tree stands for a content that nests at most 100 levels; the wire bytes are its canonical encoding, and decode to it; the written tree is
+-- The tree stands for a content that nests at most 100 levels, and whose payloads do so too; the wire bytes are its canonical encoding, and decode to it; the written tree is
 -- its canonical tree, which stands for it again.
 abbrev pub Transcodes : Shape → ℕ → Data → List ℕ → Data → Type 0
 Transcodes shape t tree wire written =
@@ -82,7 +82,7 @@ abbrev pub IsUnread : Shape → ℕ → Data → JsonError → Type 0
 IsUnread shape t tree e =
     ¬ (e.kind ≡ json.NoMemory) × FirstJsonFault shape t false tree e.place e.kind × ((c : Content) → ¬ Stands shape t false tree c)
 
--- the tree stands for a message of the type that nests more than 100 levels
+-- the tree stands for a message of the type that nests more than 100 levels, or a payload in it does, or does not decode
 abbrev pub IsTooDeep : Shape → ℕ → Data → Type 0
 IsTooDeep shape t tree = (c : Content) × Stands shape t false tree c × (fits shape t c ≡ false)
 

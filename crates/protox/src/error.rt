@@ -34,7 +34,7 @@ pub enum TopError {
     },
     /// The tree stands for no message of the type, as it breaks a rule of the JSON mapping at a place.
     Json(JsonError),
-    /// The message nests more than 100 levels.
+    /// The message nests more than 100 levels, or the payload of a `google.protobuf.Any` in it does, or does not decode.
     TooDeep,
     /// Memory ran out.
     NoMemory,

@@ -240,11 +240,11 @@ pub(crate) fn transcode_files<R: FileResolver>(
 /// Compiles the files at the paths with all that they import, and transcodes a tree as a message of the type of that
 /// full name: into the set of the files, each behind all that it imports, the wire bytes and the canonical tree.
 /// At most 65,536 files are taken, and none that nests more than 100 levels, since no reader of the set would take it;
-/// neither is a message that nests so deep. The resolver is handed back.
+/// neither is a message that nests so deep, or has a payload that does. The resolver is handed back.
 ///
 /// The names of the paths are as those of `Compiler::open_file`. The tree is read last: refused are, in this order, a
 /// file, a key with two meanings in the JSON of any message of the files, the type's name, a tree that stands for no
-/// message of the type, and a message that nests too deep.
+/// message of the type, and a message that nests too deep, itself or in a payload.
 pub fn compile_and_transcode<R: FileResolver>(
     alloc: Global,
     resolver: R,
