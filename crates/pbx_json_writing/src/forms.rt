@@ -14,7 +14,7 @@ ghost use Rattle.pbx_json_meaning.specs.Asked.{one};
 ghost use Rattle.pbx_json_meaning.specs.Canonical.{tells, scalar_tree as scalar_tree_of, first_field, keeps_float};
 ghost use Rattle.pbx_json_meaning.specs.Forms.{is_object_form as is_object_form_of, as_text, number_in, text_in, texts_of, texts_in};
 ghost use Rattle.pbx_json_meaning.specs.Forms.{timestamp_tree as timestamp_tree_of, duration_tree as duration_tree_of, mask_tree as mask_tree_of};
-ghost use Rattle.pbx_json_meaning.specs.declared.options.SerializeOptions.{SerializeOptions as Options};
+ghost use Rattle.pbx_json_meaning.specs.Canonical.{Writing, writing};
 ghost use Rattle.pbx_json_writing.specs.Indexes.{AreIndexes};
 ghost use Rattle.pbx_json_writing.specs.Kinds.{is_passed_form as is_passed_form_of};
 ghost use Rattle.pbx_json_writing.specs.Refusals.{Refused, IsAnswer, IsTextRefused, IsHeldRefused, IsOutOfTime};
@@ -224,8 +224,8 @@ fn wrapper_tree(
     kind: Kind,
 ) -> Result<Value, Refusal>
     requires { AreIndexes schema.now indexes.old }
-    ensures written { IfOk result (λ tree. scalar_tree_of schema.now options.now kind (get 1 (fields (content_of contents.now))) ≡ Some (view tree)) }
-    ensures refused { IfErr result (IsHeldRefused schema.now options.now kind (get 1 (fields (content_of contents.now)))) }
+    ensures written { IfOk result (λ tree. scalar_tree_of schema.now (writing schema.now options.now) kind (get 1 (fields (content_of contents.now))) ≡ Some (view tree)) }
+    ensures refused { IfErr result (IsHeldRefused schema.now (writing schema.now options.now) kind (get 1 (fields (content_of contents.now)))) }
     ensures known { AreIndexes schema.now indexes.new }
 {
     match contents.get(1) {
@@ -261,7 +261,7 @@ pub(crate) fn number_of_value(
     requires { form_of schema.now (type_of kind) ≡ forms.Value }
     ensures whole { OnOk result (keeps_float (declared_of schema.now (type_of kind)) (kept (content_of contents.now)) ≡ false) }
     ensures first { IfOk result (λ number. number ≡ first_field (fields (content_of contents.now))) }
-    ensures refused { (options : Options) → IfErr result (Refused schema.now options (message (content_of contents.now)) kind) }
+    ensures refused { (way : Writing) → IfErr result (Refused schema.now way (message (content_of contents.now)) kind) }
 {
     match kept_float(schema, message_type(kind), &contents.kept) {
         Some(_) => Err(Refusal::here(alloc, JsonKind::Float)),
@@ -283,8 +283,8 @@ pub(crate) fn own_tree(
     requires own { is_object_form_of form ≡ false }
     requires alone { is_passed_form_of form ≡ false }
     requires known { AreIndexes schema.now indexes.old }
-    ensures written { IfOk result (λ tree. tells schema.now options.now (message (content_of contents.now)) (one kind) ≡ Some (view tree)) }
-    ensures refused { IfErr result (Refused schema.now options.now (message (content_of contents.now)) kind) }
+    ensures written { IfOk result (λ tree. tells schema.now (writing schema.now options.now) (message (content_of contents.now)) (one kind) ≡ Some (view tree)) }
+    ensures refused { IfErr result (Refused schema.now (writing schema.now options.now) (message (content_of contents.now)) kind) }
     ensures known { AreIndexes schema.now indexes.new }
 {
     match form {
@@ -297,6 +297,6 @@ pub(crate) fn own_tree(
         }
         Form::FloatWrapper => Err(Refusal::here(alloc, JsonKind::Float)),
         Form::Misshapen => Err(Refusal::here(alloc, JsonKind::Shape)),
-        _ => Err(Refusal::here(alloc, JsonKind::NotBuilt)),
+        _ => Err(Refusal::Memory),
     }
 }

@@ -9,7 +9,7 @@ ghost use Rattle.pbx_json_meaning.specs.Forms.{is_object_type, kind_at as kind_a
 ghost use Rattle.pbx_wkt.specs.Shapes.{form_of as form_of_type};
 ghost use Rattle.pbx_json_meaning.specs.Asked.{one};
 ghost use Rattle.pbx_json_meaning.specs.Faults.{SomeWith};
-ghost use Rattle.pbx_json_meaning.specs.Canonical.{tells, canonical};
+ghost use Rattle.pbx_json_meaning.specs.Canonical.{writing, tells, canonical};
 ghost use Rattle.pbx_json_meaning.specs.WriteFaults.{WriteFault};
 ghost use Rattle.pbx_json_meaning.specs.declared.kind.JsonKind.TheVariants as fault;
 ghost use Rattle.pbx_json_writing.specs.Indexes.{AreIndexes};
@@ -47,8 +47,8 @@ fn held_tree(
     room: u32,
 ) -> Result<Value, Refusal>
     requires { AreIndexes schema.now indexes.old }
-    ensures written { IfOk result (λ tree. tells schema.now options.now (val_of held.now) (one kind) ≡ Some (view tree)) }
-    ensures refused { IfErr result (Refused schema.now options.now (val_of held.now) kind) }
+    ensures written { IfOk result (λ tree. tells schema.now (writing schema.now options.now) (val_of held.now) (one kind) ≡ Some (view tree)) }
+    ensures refused { IfErr result (Refused schema.now (writing schema.now options.now) (val_of held.now) kind) }
     ensures known { AreIndexes schema.now indexes.new }
 {
     match held {
@@ -73,8 +73,8 @@ fn array_tree(
     room: u32,
 ) -> Result<Value, Refusal>
     requires { AreIndexes schema.now indexes.old }
-    ensures written { IfOk result (λ tree. tells schema.now options.now (many_of (vals_of (map_list val_of many.now))) (one kind) ≡ Some (view tree)) }
-    ensures refused { IfErr result (Refused schema.now options.now (many_of (vals_of (map_list val_of many.now))) kind) }
+    ensures written { IfOk result (λ tree. tells schema.now (writing schema.now options.now) (many_of (vals_of (map_list val_of many.now))) (one kind) ≡ Some (view tree)) }
+    ensures refused { IfErr result (Refused schema.now (writing schema.now options.now) (many_of (vals_of (map_list val_of many.now))) kind) }
     ensures known { AreIndexes schema.now indexes.new }
 {
     if room == 0 {
@@ -102,8 +102,8 @@ fn entries_tree(
     room: u32,
 ) -> Result<Value, Refusal>
     requires { AreIndexes schema.now indexes.old }
-    ensures written { IfOk result (λ tree. tells schema.now options.now (keyed (pairs_of (map_list pair_of pairs.now))) (one kind) ≡ Some (view tree)) }
-    ensures refused { IfErr result (Refused schema.now options.now (keyed (pairs_of (map_list pair_of pairs.now))) kind) }
+    ensures written { IfOk result (λ tree. tells schema.now (writing schema.now options.now) (keyed (pairs_of (map_list pair_of pairs.now))) (one kind) ≡ Some (view tree)) }
+    ensures refused { IfErr result (Refused schema.now (writing schema.now options.now) (keyed (pairs_of (map_list pair_of pairs.now))) kind) }
     ensures known { AreIndexes schema.now indexes.new }
 {
     if room == 0 {
@@ -135,9 +135,9 @@ fn field_map(
 ) -> Result<Map<String, Value>, Refusal>
     requires plain { is_object_type schema.now (type_of kind) ≡ true }
     requires known { AreIndexes schema.now indexes.old }
-    ensures written { IfOk result (λ map. field_members schema.now options.now (declared_of schema.now (type_of kind)) (content_of contents.now)
+    ensures written { IfOk result (λ map. field_members schema.now (writing schema.now options.now) (declared_of schema.now (type_of kind)) (content_of contents.now)
         ≡ Some (members_view map.entries)) }
-    ensures refused { IfErr result (Refused schema.now options.now (message (content_of contents.now)) kind) }
+    ensures refused { IfErr result (Refused schema.now (writing schema.now options.now) (message (content_of contents.now)) kind) }
     ensures known { AreIndexes schema.now indexes.new }
 {
     let type_at = message_type(kind);
@@ -168,10 +168,10 @@ fn field_tree(
     room: u32,
 ) -> Result<Value, Refusal>
     requires { AreIndexes schema.now indexes.old }
-    ensures written { IfOk result (λ tree. told_value schema.now options.now (kind_at_of schema.now (type_of kind) number) (Some (view otherwise))
+    ensures written { IfOk result (λ tree. told_value schema.now (writing schema.now options.now) (kind_at_of schema.now (type_of kind) number) (Some (view otherwise))
         (get number (fields (content_of contents.now))) ≡ Some (view tree)) }
     ensures refused { IfErr result (λ refusal. SomeWith (get number (fields (content_of contents.now)))
-        (λ held. Refused schema.now options.now held (kind_at_of schema.now (type_of kind) number) refusal)) }
+        (λ held. Refused schema.now (writing schema.now options.now) held (kind_at_of schema.now (type_of kind) number) refusal)) }
     ensures known { AreIndexes schema.now indexes.new }
 {
     match contents.get(number) {
@@ -199,8 +199,8 @@ fn passed_tree(
     requires form { form ≡ form_of_type schema.now (type_of kind) }
     requires passed { is_passed_form_of form ≡ true }
     requires known { AreIndexes schema.now indexes.old }
-    ensures written { IfOk result (λ tree. tells schema.now options.now (message (content_of contents.now)) (one kind) ≡ Some (view tree)) }
-    ensures refused { IfErr result (Refused schema.now options.now (message (content_of contents.now)) kind) }
+    ensures written { IfOk result (λ tree. tells schema.now (writing schema.now options.now) (message (content_of contents.now)) (one kind) ≡ Some (view tree)) }
+    ensures refused { IfErr result (Refused schema.now (writing schema.now options.now) (message (content_of contents.now)) kind) }
     ensures known { AreIndexes schema.now indexes.new }
 {
     match form {
@@ -246,8 +246,8 @@ fn message_tree(
     room: u32,
 ) -> Result<Value, Refusal>
     requires { AreIndexes schema.now indexes.old }
-    ensures written { IfOk result (λ tree. tells schema.now options.now (message (content_of contents.now)) (one kind) ≡ Some (view tree)) }
-    ensures refused { IfErr result (Refused schema.now options.now (message (content_of contents.now)) kind) }
+    ensures written { IfOk result (λ tree. tells schema.now (writing schema.now options.now) (message (content_of contents.now)) (one kind) ≡ Some (view tree)) }
+    ensures refused { IfErr result (Refused schema.now (writing schema.now options.now) (message (content_of contents.now)) kind) }
     ensures known { AreIndexes schema.now indexes.new }
 {
     if room == 0 {
