@@ -1,2 +1,4 @@
 pub mod Adding
 pub mod Places
+pub mod Urls
+pub mod Positions

@@ -13,6 +13,10 @@ use Rattle.pbx_field_names.specs.declared.field_names.FieldNames.{FieldNames}
 use Rattle.std.specs.BTreeMap.{get}
 use Rattle.std.specs.Ordering.{nat_cmp}
 use Rattle.pbx_field_names.specs.declared.schema_names.SchemaNames.{SchemaNames}
+use Rattle.pbx_field_names.specs.declared.type_names.TypeNames.{TypeNames}
+use Rattle.pbx_meaning.specs.declared.shape.MessageShape.{MessageShape}
+use Rattle.std.specs.List.{position}
+use Rattle.std.specs.Option.{IfSome}
 use Rattle.pbx_field_names.specs.declared.field_names.Sort.{Sort}
 use Rattle.pbx_field_names.specs.declared.field_names.Sort.TheVariants.{Json, Source, Extension}
 
@@ -46,7 +50,16 @@ is_named Extension key f = extension_is key f
 unfoldable pub AreNamesOf : List EnumValueShape → NamePlaces → Type 0
 AreNamesOf vs places = (name : List ℕ) → item_under vs places name ≡ value_named name vs
 
--- the index that is kept of a type is of its fields, and that of an enum is of its values
+-- the places are those of the message types, of several of one name that of the first
+unfoldable pub ArePlacesOf : List MessageShape → NamePlaces → Type 0
+ArePlacesOf ms places = (name : List ℕ) → place_under name places ≡ position (λ m. bytes_eq m.full_name name) ms
+
+-- the places that are kept, if some are, are those of the message types
+abbrev pub AreTypesIn : Shape → TypeNames → Type 0
+AreTypesIn shape names = IfSome names.places (ArePlacesOf shape.messages)
+
+-- the index that is kept of a type is of its fields, that of an enum is of its values, and the places are those of the types
 pub record AreNamesIn (shape : Shape) (names : SchemaNames) : Type 0 where
   pub types : (t : ℕ) (own : FieldNames) → get nat_cmp names.types t ≡ Some own → IsIndexOf (declared_of shape t) own
   pub enums : (e : ℕ) (own : NamePlaces) → get nat_cmp names.enums e ≡ Some own → AreNamesOf (enum_values_of shape e) own
+  pub urls : AreTypesIn shape names.urls

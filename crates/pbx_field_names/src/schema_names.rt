@@ -2,21 +2,24 @@ ghost use Rattle.std.specs.Prelude.{◌≡◌, IfOk, option_map};
 ghost use Rattle.pbx_meaning.specs.Shape.{declared_of, enum_values_of};
 ghost use Rattle.pbx_json_meaning.specs.Names.{field_named};
 ghost use Rattle.pbx_json_meaning.specs.Scalars.{value_named};
+ghost use Rattle.pbx_json_meaning.specs.Urls.{type_of_url};
 ghost use Rattle.pbx_field_names.specs.Index.{AreNamesIn};
 
 use crate::enum_names::{find_value, value_places};
 use crate::field_names::FieldNames;
 use crate::name_places::NamePlaces;
+use crate::type_names::TypeNames;
 use pbx_meaning::{EnumValueShape, FieldShape, Schema};
 use pbx_wire::NoMemory;
 use std::alloc::Global;
 use std::collections::BTreeMap;
 
-/// The indices of the types and enums of a schema, each made where it is first asked for and kept from then on.
+/// The indices of the types and enums of a schema and of its types' names, each made where it is first asked for and kept from then on.
 #[derive(Drop)]
 pub struct SchemaNames {
     types: BTreeMap<usize, FieldNames>,
     enums: BTreeMap<usize, NamePlaces>,
+    urls: TypeNames,
 }
 
 /// The fields of the type at a place in declared order, and behind them its extensions; a place outside the schema has none.
@@ -51,6 +54,7 @@ impl SchemaNames {
         SchemaNames {
             types: BTreeMap::new(alloc),
             enums: BTreeMap::new(alloc),
+            urls: TypeNames::new(schema),
         }
     }
 
@@ -120,5 +124,19 @@ impl SchemaNames {
             Some(places) => Ok(find_value(declared_values(schema, place), places, name)),
             None => Err(NoMemory),
         }
+    }
+
+    /// The place of the message type that a type's URL names, where the indices are of this schema: by log n comparisons, and by n log n
+    /// where a type is asked for first. The only error is want of memory.
+    pub fn find_type(
+        &mut self,
+        alloc: Global,
+        schema: &Schema,
+        url: &str,
+    ) -> Result<Option<usize>, NoMemory>
+        ensures place { AreNamesIn schema.now self.old → IfOk result (λ found. found ≡ type_of_url schema.now url.now) }
+        ensures names { AreNamesIn schema.now self.old → AreNamesIn schema.now self.new }
+    {
+        self.urls.find_url(alloc, schema, url)
     }
 }

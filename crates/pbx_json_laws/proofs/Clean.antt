@@ -7,18 +7,19 @@ use Rattle.pbx_meaning.specs.Content as content
 use Rattle.pbx_meaning.specs.Content.{Content, Val, Key as MapKey, vals_of}
 use Rattle.pbx_meaning.specs.Meaning.{shown}
 use Rattle.pbx_meaning.specs.Shape.{declared_of, is_float}
-use Rattle.pbx_meaning.specs.Sound.{IsProper}
+use Rattle.pbx_meaning.specs.Sound.{IsProper, AreProper}
 use Rattle.pbx_meaning.specs.declared.shape.Kind.{Kind}
 use Rattle.pbx_meaning.specs.declared.shape.Kind.TheVariants as kind
 use Rattle.pbx_meaning.specs.declared.shape.FieldShape.{FieldShape}
 use Rattle.pbx_meaning.specs.declared.shape.Shape.{Shape}
 use Rattle.pbx_json_meaning.specs.Asked.{Asked, field, one, Target, nothing, single, list, map, target, has_presence}
-use Rattle.pbx_json_meaning.specs.Faults.{Inside, leaf, elements, keyed, members, Opened, as_leaf, object_opened, list_opened, map_opened, own_opened, message_opened, single_opened}
+use Rattle.pbx_json_meaning.specs.Faults.{Inside, leaf, elements, keyed, members, payload, Opened, as_leaf, object_opened, list_opened, map_opened, own_opened, message_opened, single_opened}
 use Rattle.pbx_json_meaning.specs.Faults.{opened_as, opened, into, reads_alike, is_second_alike, KeyBreaks, IsKeyFault, FaultAt, SomeWith, OkWith}
-use Rattle.pbx_json_meaning.specs.Forms.{is_object_type, skips_keys, own_read, Own, whole, a_list, a_map}
+use Rattle.pbx_json_meaning.specs.Forms.{is_object_type, skips_keys, own_read, Own, whole, a_list, a_map, beside, under}
 use Rattle.pbx_json_meaning.specs.Scalars.{scalar_read, key_read}
 use Rattle.pbx_json_meaning.specs.Stands.{present, pairs_of, Reading, Says, Entry, ok_of, all_read, is_alike, all_differ, entry_read, if_differ, entries_read, elements_read, message_of, object_of}
-use Rattle.pbx_json_meaning.specs.Stands.{own_as, message_as, value_as, list_as, map_as, shown_for, said, items_said, entries_said}
+use Rattle.pbx_json_meaning.specs.Stands.{beside_type, payload_said, own_as, message_as, value_as, list_as, map_as, shown_for, said, items_said, entries_said}
+use Rattle.pbx_json_meaning.specs.Urls.{without_type}
 use Rattle.pbx_json_meaning.specs.declared.kind.JsonKind.{JsonKind}
 use Rattle.pbx_json_meaning.specs.declared.kind.JsonKind.TheVariants as fault
 use Rattle.pbx_json_meaning.specs.declared.place.Step.{Step}
@@ -27,6 +28,8 @@ use Rattle.pbx_json_laws.proofs.CleanParts.{IsNeverRead, IsBroken, members_clean
 use Rattle.pbx_json_laws.proofs.In.{In, Lesser, got_in, lesser_in, less_apart}
 use Rattle.pbx_json_laws.proofs.KeyOrder.{alike_swaps, Found, any_key}
 use Rattle.pbx_json_laws.proofs.Parts.{from_then, from_map, from_ok_of, if_some, unless_some, of_some, one_ok, or_right, some_with}
+use Rattle.pbx_json_laws.proofs.PayloadFaults.{IsGoodOwn, good_own, payload_clean}
+use Rattle.pbx_json_laws.proofs.Payloads.{beside-said}
 use Rattle.pbx_json_laws.proofs.Read.{items_in, entries_in, says_as, said_is}
 
 one_result : (r : Result MapKey JsonKind) (x : MapKey) (k : JsonKind) → r ≡ Ok x → r ≡ Err k → ⊥
@@ -242,18 +245,53 @@ module _ (shape : Shape) (allow : Bool) where
     map_faulty kk vk (string s) r h b = cc
     map_faulty kk vk (array ds) r h b = cc
 
-    own_faulty : (r : Result Own JsonKind) (d : Data) (c : Content) → own_as shape r d (items_in shape allow d) (entries_in shape allow d) ≡ Some c
+    -- an object of fields
+    object_faulty : (skips : Bool) (fs : List FieldShape) → AreProper fs → (ms : Members) (c : Content)
+        → message_of skips fs (entries_said shape allow ms) ≡ Some c → IsFaulty (Ok (members skips fs ms)) → ⊥
+    object_faulty skips fs good ms c h b =
+        none_inside (Ok (members skips fs ms)) (members skips fs ms) refl (members_clean shape allow skips fs good ms c h) b
+
+    -- the fields beside the type
+    beside_faulty : (skips : Bool) (fs : List FieldShape) → AreProper fs → (d : Data) (c : Content)
+        → object_of (message_of skips fs) d (beside_type (entries_in shape allow d)) ≡ Some c
+        → IsFaulty (object_opened (λ ms. Ok (members skips fs (without_type ms))) d) → ⊥
+    beside_faulty skips fs good (object ms) c h b =
+        object_faulty skips fs good (without_type ms) c (ap (message_of skips fs) (sym (beside-said shape allow ms)) ∙ h) b
+    beside_faulty skips fs good null c h b = cc
+    beside_faulty skips fs good (boolean x) c h b = cc
+    beside_faulty skips fs good (number n) c h b = cc
+    beside_faulty skips fs good (string s) c h b = cc
+    beside_faulty skips fs good (array ds) c h b = cc
+
+    -- the payload under `value`
+    under_faulty : (skips : Bool) (k : Kind) (d : Data) (c : Content) → object_of (payload_said skips k) d (entries_in shape allow d) ≡ Some c
+        → IsFaulty (object_opened (λ ms. Ok (payload skips k ms)) d) → ⊥
+    under_faulty skips k (object ms) c h b =
+        none_inside (Ok (payload skips k ms)) (payload skips k ms) refl (payload_clean shape allow skips k ms c h) b
+    under_faulty skips k null c h b = cc
+    under_faulty skips k (boolean x) c h b = cc
+    under_faulty skips k (number n) c h b = cc
+    under_faulty skips k (string s) c h b = cc
+    under_faulty skips k (array ds) c h b = cc
+
+    own_faulty : (r : Result Own JsonKind) (d : Data) (c : Content) → IsGoodOwn r d → own_as shape r d (items_in shape allow d) (entries_in shape allow d) ≡ Some c
         → IsFaulty (own_opened r d) → ⊥
-    own_faulty (Err k) d c h b = cc
-    own_faulty (Ok (whole e)) d c h b = none_inside (Ok leaf) leaf refl leaf_clean b
-    own_faulty (Ok (a_list k wrap)) d c h b =
+    own_faulty (Err k) d c good h b = cc
+    own_faulty (Ok (whole e)) d c good h b = none_inside (Ok leaf) leaf refl leaf_clean b
+    own_faulty (Ok (a_list k wrap)) d c good h b =
         let it = from_map wrap (option_map (shown shape false k) (list_as k d (items_in shape allow d))) c h in
         let found = from_map (shown shape false k) (list_as k d (items_in shape allow d)) it.0 it.1 in
         list_faulty k d found.0 found.1 b
-    own_faulty (Ok (a_map k wrap)) d c h b =
+    own_faulty (Ok (a_map k wrap)) d c good h b =
         let it = from_map wrap (option_map (shown shape false k) (map_as kind.String k d (entries_in shape allow d))) c h in
         let found = from_map (shown shape false k) (map_as kind.String k d (entries_in shape allow d)) it.0 it.1 in
         map_faulty kind.String k d found.0 found.1 b
+    own_faulty (Ok (beside skips fs wrap)) d c good h b =
+        let it = from_map wrap (object_of (message_of skips fs) d (beside_type (entries_in shape allow d))) c h in
+        beside_faulty skips fs good d it.0 it.1 b
+    own_faulty (Ok (under skips k wrap)) d c good h b =
+        let it = from_map wrap (object_of (payload_said skips k) d (entries_in shape allow d)) c h in
+        under_faulty skips k d it.0 it.1 b
 
     message_faulty : (t : ℕ) (d : Data) (c : Content) → message_as shape allow t d (items_in shape allow d) (entries_in shape allow d) ≡ Some c
         → IsFaulty (message_opened shape allow t d) → ⊥
@@ -262,23 +300,21 @@ module _ (shape : Shape) (allow : Bool) where
         fs : List FieldShape
         fs = declared_of shape t
 
-        object_faulty : (d : Data) → object_of (message_of (skips_keys shape allow t) fs) d (entries_in shape allow d) ≡ Some c
+        opened_faulty : (d : Data) → object_of (message_of (skips_keys shape allow t) fs) d (entries_in shape allow d) ≡ Some c
             → IsFaulty (object_opened (λ ms. Ok (members (skips_keys shape allow t) fs ms)) d) → ⊥
-        object_faulty (object ms) h b =
-            none_inside (Ok (members (skips_keys shape allow t) fs ms)) (members (skips_keys shape allow t) fs ms) refl
-            (members_clean shape allow (skips_keys shape allow t) fs (proper.types t) ms c h) b
-        object_faulty null h b = cc
-        object_faulty (boolean x) h b = cc
-        object_faulty (number n) h b = cc
-        object_faulty (string s) h b = cc
-        object_faulty (array ds) h b = cc
+        opened_faulty (object ms) h b = object_faulty (skips_keys shape allow t) fs (proper.types t) ms c h b
+        opened_faulty null h b = cc
+        opened_faulty (boolean x) h b = cc
+        opened_faulty (number n) h b = cc
+        opened_faulty (string s) h b = cc
+        opened_faulty (array ds) h b = cc
 
         either : (x : Bool)
             → (if x then object_of (message_of (skips_keys shape allow t) fs) d (entries_in shape allow d)
             else own_as shape (own_read shape allow t d) d (items_in shape allow d) (entries_in shape allow d)) ≡ Some c
             → IsFaulty (if x then object_opened (λ ms. Ok (members (skips_keys shape allow t) fs ms)) d else own_opened (own_read shape allow t d) d) → ⊥
-        either true h b = object_faulty d h b
-        either false h b = own_faulty (own_read shape allow t d) d c h b
+        either true h b = opened_faulty d h b
+        either false h b = own_faulty (own_read shape allow t d) d c (good_own shape proper allow t d) h b
 
     single_faulty : (k : Kind) (d : Data) (r : Option Val) → value_as shape allow k d (items_in shape allow d) (entries_in shape allow d) ≡ Some r
         → IsFaulty (single_opened shape allow k d) → ⊥

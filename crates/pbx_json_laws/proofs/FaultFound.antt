@@ -6,26 +6,29 @@ use Rattle.pbx_meaning.specs.Content as content
 use Rattle.pbx_meaning.specs.Content.{Content, Val, vals_of}
 use Rattle.pbx_meaning.specs.Meaning.{shown}
 use Rattle.pbx_meaning.specs.Shape.{declared_of, is_float}
-use Rattle.pbx_meaning.specs.Sound.{IsProper}
+use Rattle.pbx_meaning.specs.Sound.{IsProper, AreProper}
 use Rattle.pbx_meaning.specs.declared.shape.Kind.{Kind}
 use Rattle.pbx_meaning.specs.declared.shape.Kind.TheVariants as kind
 use Rattle.pbx_meaning.specs.declared.shape.FieldShape.{FieldShape}
 use Rattle.pbx_meaning.specs.declared.shape.Shape.{Shape}
 use Rattle.pbx_json_meaning.specs.Asked.{Asked, field, one, root, Target, nothing, single, list, map, target, has_presence}
-use Rattle.pbx_json_meaning.specs.Faults.{Inside, elements, keyed, members, Opened, as_leaf, object_opened, list_opened, map_opened, own_opened, message_opened, single_opened, unless_float}
+use Rattle.pbx_json_meaning.specs.Faults.{Inside, elements, keyed, members, payload, Opened, as_leaf, object_opened, list_opened, map_opened, own_opened, message_opened, single_opened, unless_float}
 use Rattle.pbx_json_meaning.specs.Faults.{opened_as, opened, into, IsKeyFault, FaultAt, SomeWith, OkWith, JsonFault}
-use Rattle.pbx_json_meaning.specs.Forms.{is_object_type, skips_keys, own_read, Own, whole, a_list, a_map}
+use Rattle.pbx_json_meaning.specs.Forms.{is_object_type, skips_keys, own_read, Own, whole, a_list, a_map, beside, under}
 use Rattle.pbx_json_meaning.specs.Laws.{StandsWithoutFault}
 use Rattle.pbx_json_meaning.specs.Scalars.{scalar_read}
 use Rattle.pbx_json_meaning.specs.Stands.{Reading, Says, ok_of, all_read, present, elements_read, entries_read, message_of, object_of, as_message, message_in, message_as, value_as}
-use Rattle.pbx_json_meaning.specs.Stands.{own_as, list_as, map_as, shown_for, said, items_said, entries_said, Stands}
+use Rattle.pbx_json_meaning.specs.Stands.{beside_type, payload_said, own_as, list_as, map_as, shown_for, said, items_said, entries_said, Stands}
 use Rattle.pbx_json_meaning.specs.Trees.{AreAscendingKeys, IsOrdered, AreOrdered, AreOrderedMembers}
+use Rattle.pbx_json_meaning.specs.Urls.{without_type}
 use Rattle.pbx_json_meaning.specs.declared.kind.JsonKind.{JsonKind}
 use Rattle.pbx_json_meaning.specs.declared.kind.JsonKind.TheVariants as fault
 use Rattle.pbx_json_meaning.specs.declared.place.Step.{Step}
 use Rattle.pbx_json_laws.proofs.Clean.{faulty}
 use Rattle.pbx_json_laws.proofs.FaultFields.{members_fault}
 use Rattle.pbx_json_laws.proofs.FaultParts.{FaultOf, TreeFaulty, ItemsFaulty, MembersFaulty, FaultIn, elements_fault, keyed_fault, map_none}
+use Rattle.pbx_json_laws.proofs.PayloadFaults.{HasValueMember, IsGoodOwn, good_own, faulty_without, payload_fault}
+use Rattle.pbx_json_laws.proofs.Payloads.{beside-said, ascending_without}
 use Rattle.pbx_json_laws.proofs.Read.{items_in, entries_in, says_as, said_is}
 
 module _ (shape : Shape) (allow : Bool) (proper : IsProper shape) where
@@ -86,16 +89,50 @@ module _ (shape : Shape) (allow : Bool) (proper : IsProper shape) where
   map_fault kk vk (string s) g h = wrong vk
   map_fault kk vk (array ds) g h = wrong vk
 
-  own_fault : (r : Result Own JsonKind) (d : Data) → IsInside d → own_as shape r d (items_in shape allow d) (entries_in shape allow d) ≡ None
+  -- the fields beside the type
+  beside_fault : (skips : Bool) (fs : List FieldShape) → AreProper fs → (d : Data) → IsInside d
+      → object_of (message_of skips fs) d (beside_type (entries_in shape allow d)) ≡ None
+      → FaultsOf (object_opened (λ ms. Ok (members skips fs (without_type ms))) d)
+  beside_fault skips fs good (object ms) g h =
+      let own = ap (message_of skips fs) (sym (beside-said shape allow ms)) ∙ h in
+      inr (
+        members skips fs (without_type ms),
+        refl,
+        members_fault shape allow skips fs good (without_type ms) (ascending_without ms g.0) (faulty_without shape allow ms g.1) own,
+      )
+  beside_fault skips fs good null g h = inl (fault.WrongKind, refl)
+  beside_fault skips fs good (boolean b) g h = inl (fault.WrongKind, refl)
+  beside_fault skips fs good (number n) g h = inl (fault.WrongKind, refl)
+  beside_fault skips fs good (string s) g h = inl (fault.WrongKind, refl)
+  beside_fault skips fs good (array ds) g h = inl (fault.WrongKind, refl)
+
+  -- the payload under `value`
+  under_fault : (skips : Bool) (k : Kind) (d : Data) → IsInside d → (u : ℕ) × (k ≡ kind.Message u) × HasValueMember d
+      → object_of (payload_said skips k) d (entries_in shape allow d) ≡ None → FaultsOf (object_opened (λ ms. Ok (payload skips k ms)) d)
+  under_fault skips k (object ms) g good h =
+      let P : Kind → Type 0 = λ x. FaultIn shape allow (payload skips x ms) in
+      let said_is = ap (λ x. payload_said skips x (entries_said shape allow ms)) (sym good.1) ∙ h in
+      inr (payload skips k ms, refl, subst P (sym good.1) (payload_fault shape allow skips good.0 ms g.0 g.1 good.2.0 good.2.1 said_is))
+  under_fault skips k null g good h = inl (fault.WrongKind, refl)
+  under_fault skips k (boolean b) g good h = inl (fault.WrongKind, refl)
+  under_fault skips k (number n) g good h = inl (fault.WrongKind, refl)
+  under_fault skips k (string s) g good h = inl (fault.WrongKind, refl)
+  under_fault skips k (array ds) g good h = inl (fault.WrongKind, refl)
+
+  own_fault : (r : Result Own JsonKind) (d : Data) → IsGoodOwn r d → IsInside d → own_as shape r d (items_in shape allow d) (entries_in shape allow d) ≡ None
       → FaultsOf (own_opened r d)
-  own_fault (Err k) d g h = inl (k, refl)
-  own_fault (Ok (whole c)) d g h = absurd (cc)
-  own_fault (Ok (a_list k wrap)) d g h =
+  own_fault (Err k) d good g h = inl (k, refl)
+  own_fault (Ok (whole c)) d good g h = absurd (cc)
+  own_fault (Ok (a_list k wrap)) d good g h =
       list_fault k d g (map_none (shown shape false k) (list_as k d (items_in shape allow d))
       (map_none wrap (option_map (shown shape false k) (list_as k d (items_in shape allow d))) h))
-  own_fault (Ok (a_map k wrap)) d g h =
+  own_fault (Ok (a_map k wrap)) d good g h =
       map_fault kind.String k d g (map_none (shown shape false k) (map_as kind.String k d (entries_in shape allow d))
       (map_none wrap (option_map (shown shape false k) (map_as kind.String k d (entries_in shape allow d))) h))
+  own_fault (Ok (beside skips fs wrap)) d good g h =
+      beside_fault skips fs good d g (map_none wrap (object_of (message_of skips fs) d (beside_type (entries_in shape allow d))) h)
+  own_fault (Ok (under skips k wrap)) d good g h =
+      under_fault skips k d g good (map_none wrap (object_of (payload_said skips k) d (entries_in shape allow d)) h)
 
   message_fault : (t : ℕ) (d : Data) → IsInside d → message_as shape allow t d (items_in shape allow d) (entries_in shape allow d) ≡ None
       → FaultsOf (message_opened shape allow t d)
@@ -119,7 +156,7 @@ module _ (shape : Shape) (allow : Bool) (proper : IsProper shape) where
           else own_as shape (own_read shape allow t d) d (items_in shape allow d) (entries_in shape allow d)) ≡ None
           → FaultsOf (if b then object_opened (λ ms. Ok (members (skips_keys shape allow t) fs ms)) d else own_opened (own_read shape allow t d) d)
       either true k = opens d g k
-      either false k = own_fault (own_read shape allow t d) d g k
+      either false k = own_fault (own_read shape allow t d) d (good_own shape proper allow t d) g k
 
   single_fault : (k : Kind) (d : Data) → IsInside d → value_as shape allow k d (items_in shape allow d) (entries_in shape allow d) ≡ None
       → FaultsOf (single_opened shape allow k d)

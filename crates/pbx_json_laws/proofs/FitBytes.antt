@@ -7,11 +7,11 @@ use Rattle.pbx_text.specs.Base64.{standard_symbols, url_symbols, value_in, value
 use Rattle.pbx_json_laws.proofs.Parts.{from_then, from_map, if_some, of_some}
 
 -- each number is below m
-abbrev AreBelow : ℕ → List ℕ → Type 0
+abbrev pub AreBelow : ℕ → List ℕ → Type 0
 AreBelow m [] = Unit {0}
 AreBelow m (x ∷ xs) = (x < m) × AreBelow m xs
 
-bytes_below : (xs : List ℕ) → AreBelow 256 xs → IsBytes xs
+pub bytes_below : (xs : List ℕ) → AreBelow 256 xs → IsBytes xs
 bytes_below [] h i = omega arith
 bytes_below (x ∷ xs) h zero = h.0
 bytes_below (x ∷ xs) h (suc i) = bytes_below xs h.1 i

@@ -1,10 +1,12 @@
 -- The parts of a content that a type's own form makes are of the type.
 use Rattle.std.proofs.Common.{◌≡◌, ◌⊎◌, inl, inr, ℕ, ◌<◌, ◌==◌, ◌&&◌, ℤ, List, [], ◌∷◌, map as map_list, Bool, true, false, not, if◌then◌else◌, Option, Some, None, refl, ap, sym, ◌∙◌, subst, arith}
 use Rattle.std.specs.List.{AllByRecursion, list_all}
+use Rattle.std.specs.Str.{is_utf8}
 use Rattle.std.proofs.lemmas.Bool.{eqb-true}
 use Rattle.std.proofs.lemmas.Bool.Decides.{nat_tests}
 use Rattle.pbx_meaning.specs.Content as content
-use Rattle.pbx_meaning.specs.Content.{Fields, Val, has, vals_of, IsAscending, IsAbove}
+use Rattle.pbx_meaning.specs.Content.{Content, Fields, Val, has, vals_of, IsAscending, IsAbove}
+use Rattle.pbx_meaning.specs.Encoding.{encoded}
 use Rattle.pbx_meaning.specs.Meaning.{shown, is_default}
 use Rattle.pbx_meaning.specs.Shape.{declared_of, fields_of, field_of, is_other, same_oneof}
 use Rattle.pbx_meaning.specs.Sound.{IsProper, has_one_member}
@@ -13,13 +15,14 @@ use Rattle.pbx_meaning.specs.declared.shape.Kind.TheVariants as kind
 use Rattle.pbx_meaning.specs.declared.shape.Cardinality.TheVariants.{Singular, Repeated, Map}
 use Rattle.pbx_meaning.specs.declared.shape.FieldShape.{FieldShape}
 use Rattle.pbx_meaning.specs.declared.shape.Shape.{Shape}
+use Rattle.base64.specs.GeneralPurpose.{IsBytes}
 use Rattle.pbx_text.proofs.MaskTexts.{AreTexts}
 use Rattle.pbx_text.proofs.Ranges.{HasBits}
-use Rattle.pbx_wkt.specs.Known.{Row, of_value, mask_rows, seconds_and_nanos}
+use Rattle.pbx_wkt.specs.Known.{Row, any_rows, of_value, mask_rows, seconds_and_nanos}
 use Rattle.pbx_wkt.specs.Shapes.{form_of}
 use Rattle.pbx_wkt.proofs.Declared.{HasRow}
 use Rattle.pbx_json_meaning.specs.Asked.{single, list, map, target_by, presence_by, has_presence}
-use Rattle.pbx_json_meaning.specs.Forms.{kind_in, kind_at, shown_at, with_first, filled, made, time_of, mask_of_paths, holding}
+use Rattle.pbx_json_meaning.specs.Forms.{kind_in, kind_at, shown_at, with_first, filled, made, time_of, mask_of_paths, holding, packed}
 use Rattle.pbx_json_laws.proofs.FaultFields.{failing}
 use Rattle.pbx_json_laws.proofs.FitShown.{list_absent, no_default}
 use Rattle.pbx_json_laws.proofs.Fits.{Fits, FitsAs, FieldsFit, AllFit, FitsOption, IsOwnRead}
@@ -258,6 +261,16 @@ module _ (shape : Shape) (t : ℕ) where
   mask_fits rows are each paths texts own =
       let one : AllByRecursion (HasRow shape t) mask_rows = subst (AllByRecursion (HasRow shape t)) are each in
       held_one 1 (content.many (vals_of (map_list content.text paths))) (omega arith) (paths_part _ paths one.0 one.0.of_cardinality one.0.of_sort texts) own
+
+  pub packed_fits : IsProper shape → (rows : List Row) → rows ≡ any_rows → AllByRecursion (HasRow shape t) rows → (url : List ℕ) (u : ℕ) (p : Content)
+      → is_utf8 url ≡ true → IsBytes (encoded shape u p) → IsOwnRead shape t (form_of shape t) (packed shape t url u p)
+      → FitsAs shape (packed shape t url u p) t
+  packed_fits proper rows are each url u p utf8 bytes own =
+      let two : AllByRecursion (HasRow shape t) any_rows = subst (AllByRecursion (HasRow shape t)) are each in
+      made_fits proper ((1, content.text url) ∷ (2, content.octets (encoded shape u p)) ∷ []) (omega arith, (omega arith, tt)) (
+        singular_part _ kind.String (content.text url) two.0 two.0.of_cardinality two.0.of_sort (refl, utf8),
+        (singular_part _ kind.Bytes (content.octets (encoded shape u p)) two.1.0 two.1.0.of_cardinality two.1.0.of_sort (refl, bytes), tt),
+      ) (row_apart _ two.0 refl, (row_apart _ two.1.0 refl, tt)) own
 
   pub wrapper_fits : (k : Kind) (rows : List Row) → rows ≡ of_value k → AllByRecursion (HasRow shape t) rows → (o : Option Val)
       → ((v : Val) → o ≡ Some v → Fits shape v (single (kind_at shape t 1)))

@@ -28,17 +28,19 @@ use Rattle.pbx_wkt.specs.declared.form.Form.TheVariants as forms
 use Rattle.pbx_wkt.proofs.Declared.{HasRow, IsOfForm, of_form}
 use Rattle.pbx_json_meaning.specs.Asked.{single, list, map}
 use Rattle.pbx_json_meaning.specs.Forms.{is_object_form, is_object_type, kind_in, kind_at, type_at, time_of, mask_of_paths, holding, judged, text_form, a_list, a_map}
-use Rattle.pbx_json_meaning.specs.Forms.{whole, at_once, is_struct, is_list_value, struct_read, list_value_read, value_with, value_read, itself, form_read, own_read}
+use Rattle.pbx_json_meaning.specs.Forms.{whole, at_once, is_struct, is_list_value, struct_read, list_value_read, value_with, value_read, itself}
+use Rattle.pbx_json_meaning.specs.Forms.{packed, any_read, form_read, own_read}
 use Rattle.pbx_json_meaning.specs.Named.{IsWellNamed}
 use Rattle.pbx_json_meaning.specs.Scalars.{scalar_read}
 use Rattle.pbx_json_meaning.specs.Stands.{Says, Entry, list_as, map_as, own_as}
 use Rattle.pbx_json_meaning.specs.Trees.{HasTexts}
 use Rattle.pbx_json_meaning.specs.declared.kind.JsonKind.{JsonKind}
 use Rattle.pbx_json_meaning.specs.declared.kind.JsonKind.TheVariants as fault
-use Rattle.pbx_json_laws.proofs.FitForms.{IsPart, held_one, held_fits, singular_part, list_part, map_part, time_fits, mask_fits, wrapper_fits}
+use Rattle.pbx_json_laws.proofs.EncodedBytes.{encoded_bytes}
+use Rattle.pbx_json_laws.proofs.FitForms.{IsPart, held_one, held_fits, singular_part, list_part, map_part, time_fits, mask_fits, packed_fits, wrapper_fits}
 use Rattle.pbx_json_laws.proofs.FitKinds.{scalar_fits}
 use Rattle.pbx_json_laws.proofs.FitShown.{shown_is, no_default}
-use Rattle.pbx_json_laws.proofs.Fits.{Fits, FitsAs, IsOwnRead, ValueHeld, a_null, a_truth, a_text, a_struct, a_values, number_held, value_held}
+use Rattle.pbx_json_laws.proofs.Fits.{Fits, FitsAs, IsPacked, IsOwnRead, ValueHeld, a_null, a_truth, a_text, a_struct, a_values, number_held, value_held}
 use Rattle.pbx_json_laws.proofs.Parts.{from_if_ok, from_map}
 
 -- ---- texts
@@ -74,6 +76,11 @@ ListsFit shape d items = (k : Kind) (v : Val) → is_default shape k v ≡ false
 
 abbrev pub MapsFit : Shape → Data → List Entry → Type 0
 MapsFit shape d es = (k : Kind) (v : Val) → is_default shape k v ≡ false → map_as kind.String k d es ≡ Some (Some v) → Fits shape v (map kind.String k)
+
+-- what a tree is as an `Any` holds a payload that fits
+abbrev pub AnyFits : Shape → Bool → Data → List Says → List Entry → Type 0
+AnyFits shape allow d items es =
+    (t : ℕ) (c : Content) → own_as shape (any_read shape allow t d) d items es ≡ Some c → (it : IsPacked shape t c) × FitsAs shape it.payload it.place
 
 struct_is : (form : Form) → is_struct form ≡ true → form ≡ forms.Struct
 struct_is forms.Struct e = refl
@@ -236,9 +243,9 @@ module _ (shape : Shape) (t : ℕ) (is : form_of shape t ≡ forms.Value) where
 
 -- What a tree is by the type's own form is of the type.
 pub own_fits : (shape : Shape) → IsProper shape → IsWellNamed shape → (allow : Bool) (t : ℕ) (d : Data) (items : List Says) (es : List Entry) (c : Content)
-    → HasTexts d → ListsFit shape d items → MapsFit shape d es → is_object_type shape t ≡ false
+    → HasTexts d → ListsFit shape d items → MapsFit shape d es → AnyFits shape allow d items es → is_object_type shape t ≡ false
     → own_as shape (own_read shape allow t d) d items es ≡ Some c → FitsAs shape c t
-own_fits shape proper well allow t d items es c x lists maps apart h = at (form_of shape t) refl apart h
+own_fits shape proper well allow t d items es c x lists maps any apart h = at (form_of shape t) refl apart h
   where
     own_is : (form : Form) (e : Content) → form_of shape t ≡ form → IsOwnRead shape t form c → e ≡ c → IsOwnRead shape t (form_of shape t) e
     own_is form e is own same =
@@ -289,4 +296,10 @@ own_fits shape proper well allow t d items es c x lists maps apart h = at (form_
     at forms.Empty is o h = absurd (cc)
     at forms.FloatWrapper is o h = absurd (cc)
     at forms.Misshapen is o h = absurd (cc)
-    at forms.Any is o h = absurd (cc)
+    at forms.Any is o h =
+        let it = of_form shape t forms.Any is refl in
+        let got = any t c h in
+        let e = packed shape t got.0.url got.0.place got.0.payload in
+        to_content e got.0.packs
+        (packed_fits shape t proper it.rows it.are it.has.each got.0.url got.0.place got.0.payload got.0.utf8
+        (encoded_bytes shape got.0.payload got.0.place got.1) (own_is forms.Any e is got.0 got.0.packs))

@@ -111,7 +111,7 @@ module _ (shape : Shape) where
   option_sound v (Some f) p e ih h = let P : Option FieldShape → Type 0 = λ x. IsSoundAt shape x v in subst P (sym e) (ih f h)
 
   mutual
-    content_sound : (c : Content) (t : ℕ) → FitsAs shape c t → IsSound shape t c
+    pub content_sound : (c : Content) (t : ℕ) → FitsAs shape c t → IsSound shape t c
     content_sound (content.content fs kept) t h = (
       h.2,
       fields_sound fs (declared_of shape t) h.4,

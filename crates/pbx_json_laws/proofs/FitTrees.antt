@@ -1,8 +1,11 @@
 -- What a tree says is of what was asked of it.
-use Rattle.std.proofs.Common.{◌≡◌, ◌⊎◌, inl, inr, ℕ, ◌==◌, List, [], ◌∷◌, Bool, true, false, if◌then◌else◌, Option, Some, None, option_map, option_and_then, refl, ap, sym, ◌∙◌, subst, arith}
+use Rattle.std.proofs.Common.{◌≡◌, ◌⊎◌, inl, inr, ℕ, ◌==◌, ◌||◌, List, [], ◌∷◌, codes, Bool, true, false, if◌then◌else◌, Option, Some, None, option_map, option_and_then, refl, ap, sym, ◌∙◌, subst, arith}
 use Rattle.std.specs.List.{list_all}
+use Rattle.std.specs.Prelude.{Result, Ok}
+use Rattle.std.specs.Str.{is_utf8}
 use Rattle.std.proofs.lemmas.Bool.Decides.{nat_tests}
 use Rattle.serde_json.specs.Data.{Data, null, boolean, number, string, array, object, Items, no_items, item, Members, no_members, member}
+use Rattle.serde_json.specs.Find.{get_member, as_str}
 use Rattle.pbx_meaning.specs.Content as content
 use Rattle.pbx_meaning.specs.Content.{Content, Fields, Val, Vals, Pairs, Key, key_before, with_pair, get, vals_of, IsAscending, IsAbove}
 use Rattle.pbx_meaning.specs.Meaning.{shown, is_default}
@@ -20,20 +23,26 @@ use Rattle.pbx_wkt.specs.declared.form.Form.TheVariants as forms
 use Rattle.pbx_json_meaning.specs.Names.{field_named}
 use Rattle.pbx_json_meaning.specs.Named.{IsWellNamed}
 use Rattle.pbx_json_meaning.specs.Asked.{Asked, field, one, root, Target, nothing, single, list, map, target, target_by, null_target, has_presence, reads_null}
-use Rattle.pbx_json_meaning.specs.Forms.{is_object_form, is_object_type, skips_keys, own_read}
+use Rattle.pbx_json_meaning.specs.Forms.{is_object_form, skips, is_object_type, skips_keys, own_read, Own, beside, under, packed, under_value, payload_read}
+use Rattle.pbx_json_meaning.specs.Forms.{typed_read, members_read}
 use Rattle.pbx_json_meaning.specs.Scalars.{scalar_read, key_read}
 use Rattle.pbx_json_meaning.specs.Stands.{Reading, Says, Entry, ok_of, told, told_by, only, gathered, all_known, if_oneofs, message_of, all_read, present, elements_read}
-use Rattle.pbx_json_meaning.specs.Stands.{with_entry, pairs_of, all_differ, entry_read, if_differ, entries_read, object_of, own_as, message_in, message_as, value_as}
+use Rattle.pbx_json_meaning.specs.Stands.{with_entry, pairs_of, all_differ, entry_read, if_differ, entries_read, object_of, own_as, as_message, message_in, message_as, value_as}
+use Rattle.pbx_json_meaning.specs.Stands.{beside_type, value_said, payload_said}
 use Rattle.pbx_json_meaning.specs.Stands.{list_as, map_as, read_as, read, said, items_said, entries_said}
 use Rattle.pbx_json_meaning.specs.Trees.{HasTexts, HaveTexts, MembersHaveTexts}
-use Rattle.pbx_json_laws.proofs.Fits.{Fits, FitsAs, IsOwnRead, FieldsFit, AllFit, PairsFit, FitsOption, Answers, IsFilled}
-use Rattle.pbx_json_laws.proofs.FitOwn.{own_fits}
+use Rattle.pbx_json_meaning.specs.Urls.{is_type_key, type_url, type_of_url, without_type, stands_beside}
+use Rattle.pbx_json_meaning.specs.declared.kind.JsonKind.{JsonKind}
+use Rattle.pbx_json_laws.proofs.Fits.{Fits, FitsAs, IsPacked, IsOwnRead, FieldsFit, AllFit, PairsFit, FitsOption, Answers, IsFilled}
+use Rattle.pbx_json_laws.proofs.FitOwn.{AnyFits, own_fits}
 use Rattle.pbx_json_laws.proofs.FitKinds.{scalar_fits, key_fits}
 use Rattle.pbx_json_laws.proofs.FitShown.{shown_is, filled}
 use Rattle.pbx_json_laws.proofs.Gathered.{ascending_gathered, said_for}
+use Rattle.pbx_json_laws.proofs.In.{In, got_in}
 use Rattle.pbx_json_laws.proofs.KeyOrder.{before_with}
 use Rattle.pbx_json_laws.proofs.Numbers.{named_from, named_number}
 use Rattle.pbx_json_laws.proofs.Parts.{from_then, from_map, from_ok_of, if_some, unless_some, of_some, found_with}
+use Rattle.pbx_json_laws.proofs.Payloads.{beside_is, beside-said, value-said, are_expected}
 use Rattle.pbx_json_laws.proofs.Puts.{above-ascending, first_found, later_found}
 
 -- ---- what is asked
@@ -152,6 +161,157 @@ module _ (shape : Shape) (proper : IsProper shape) (well : IsWellNamed shape) (a
           let P : Option FieldShape → Type 0 = λ o. FitsOption shape v (Fits shape v) o in
           subst P (sym is) it.4
 
+  -- ---- payloads
+
+  -- the message that a tree says
+  tree_message : (d : Data) → TreeFits d → (u : ℕ) (c : Content) → message_in (said shape allow d (root u)) ≡ Some c → FitsAs shape c u
+  tree_message d g u c h = at (said shape allow d (root u)) refl h
+    where
+      fits_message : (o : Val) (e : Content) → o ≡ content.message e → Fits shape o (single (kind.Message u)) → FitsAs shape e u
+      fits_message (content.message m) e p f =
+          let same : m ≡ e = cc in
+          let place : f.0 ≡ u = (let q : kind.Message u ≡ kind.Message f.0 = f.1 in cc) in
+          let P : ℕ → Type 0 = λ n. FitsAs shape m n in
+          let Q : Content → Type 0 = λ y. FitsAs shape y u in
+          subst Q same (subst P place f.2)
+      fits_message (content.number z) e p f = absurd (cc)
+      fits_message (content.truth z) e p f = absurd (cc)
+      fits_message (content.text z) e p f = absurd (cc)
+      fits_message (content.octets z) e p f = absurd (cc)
+      fits_message (content.many z) e p f = absurd (cc)
+      fits_message (content.keyed z) e p f = absurd (cc)
+
+      at : (r : Reading) → said shape allow d (root u) ≡ r → message_in r ≡ Some c → FitsAs shape c u
+      at (Some (Some (content.message m))) e k = fits_message (content.message m) c (ap (λ y. content.message y) (of_some m c k)) (g (root u) (content.message m) tt e)
+      at None e k = absurd (cc)
+      at (Some None) e k = absurd (cc)
+      at (Some (Some (content.number z))) e k = absurd (cc)
+      at (Some (Some (content.truth z))) e k = absurd (cc)
+      at (Some (Some (content.text z))) e k = absurd (cc)
+      at (Some (Some (content.octets z))) e k = absurd (cc)
+      at (Some (Some (content.many z))) e k = absurd (cc)
+      at (Some (Some (content.keyed z))) e k = absurd (cc)
+
+  fits_without : (ms : Members) → MembersFit ms → MembersFit (without_type ms)
+  fits_without no_members g = tt
+  fits_without (member k d ms) g = at (is_type_key k) (fits_without ms g.1)
+    where
+      at : (b : Bool) → MembersFit (without_type ms) → MembersFit (if b then without_type ms else member k d (without_type ms))
+      at true ih = ih
+      at false ih = (g.0, ih)
+
+  texts_without : (ms : Members) → MembersHaveTexts ms → MembersHaveTexts (without_type ms)
+  texts_without no_members x = tt
+  texts_without (member k d ms) x = at (is_type_key k) (texts_without ms x.2)
+    where
+      at : (b : Bool) → MembersHaveTexts (without_type ms) → MembersHaveTexts (if b then without_type ms else member k d (without_type ms))
+      at true ih = ih
+      at false ih = (x.0, x.1, ih)
+
+  fits_in : (k : List ℕ) (d : Data) (ms : Members) → MembersFit ms → In k d ms → TreeFits d
+  fits_in k d no_members g i = absurd i
+  fits_in k d (member l e ms) g (inl i) = subst TreeFits i.1 g.0
+  fits_in k d (member l e ms) g (inr i) = fits_in k d ms g.1 i
+
+  texts_in : (k : List ℕ) (d : Data) (ms : Members) → MembersHaveTexts ms → In k d ms → HasTexts d
+  texts_in k d no_members x i = absurd i
+  texts_in k d (member l e ms) x (inl i) = subst HasTexts i.1 x.1
+  texts_in k d (member l e ms) x (inr i) = texts_in k d ms x.2 i
+
+  url_utf8 : (ms : Members) (url : List ℕ) → MembersHaveTexts ms → type_url ms ≡ Some url → is_utf8 url ≡ true
+  url_utf8 ms url x h =
+      let it = from_then as_str (get_member (codes "@type") ms) url h in
+      at it.0 (texts_in (codes "@type") it.0 ms x (got_in (codes "@type") it.0 ms it.1)) it.2
+    where
+      at : (d : Data) → HasTexts d → as_str d ≡ Some url → is_utf8 url ≡ true
+      at (string s) y e = let same : s ≡ url = of_some s url e in rw (← same) y
+      at null y e = absurd (cc)
+      at (boolean b) y e = absurd (cc)
+      at (number n) y e = absurd (cc)
+      at (array ds) y e = absurd (cc)
+      at (object all) y e = absurd (cc)
+
+  any_fits : (ms : Members) → MembersHaveTexts ms → MembersFit ms → AnyFits shape allow (object ms) [] (entries_said shape allow ms)
+  any_fits ms x g t c h = at (type_url ms) refl h
+    where
+      es : List Entry
+      es = entries_said shape allow ms
+
+      Packed : Type 0
+      Packed = (it : IsPacked shape t c) × FitsAs shape it.payload it.place
+
+      IsAs : Result Own JsonKind → Type 0
+      IsAs r = own_as shape r (object ms) [] (entries_said shape allow ms) ≡ Some c
+
+      beside_packed : (url : List ℕ) (u : ℕ) → is_utf8 url ≡ true → type_of_url shape url ≡ Some u → stands_beside shape u ≡ true
+          → IsAs (Ok (beside allow (declared_of shape u) (packed shape t url u))) → Packed
+      beside_packed url u utf8 named b k =
+          let p = from_map (packed shape t url u) (message_of allow (declared_of shape u) (beside_type es)) c k in
+          let form : form_of shape u ≡ forms.Fields = beside_is (form_of shape u) b in
+          let own : is_object_type shape u ≡ true = ap is_object_form form in
+          let skip : skips_keys shape allow u ≡ allow = ap (λ f. skips f allow) form in
+          let found : message_of allow (declared_of shape u) (entries_said shape allow (without_type ms)) ≡ Some p.0 =
+          ap (message_of allow (declared_of shape u)) (sym (beside-said shape allow ms)) ∙ p.1 in
+          let is : message_as shape allow u (object (without_type ms)) [] (entries_said shape allow (without_type ms)) ≡ Some p.0 =
+          rw (own, skip) found in (
+            record {
+              url = url;
+              place = u;
+              payload = p.0;
+              allow = allow;
+              tree = object (without_type ms);
+              utf8 = utf8;
+              named = named;
+              texts = texts_without ms x;
+              stands = ap (λ o. message_in (as_message o)) is;
+              packs = p.2;
+            },
+            message_fits allow u (without_type ms) p.0 own (fits_without ms g) found,
+          )
+
+      under_packed : (url : List ℕ) (u : ℕ) → is_utf8 url ≡ true → type_of_url shape url ≡ Some u
+          → IsAs (Ok (under allow (kind.Message u) (packed shape t url u))) → Packed
+      under_packed url u utf8 named k =
+          let p = from_map (packed shape t url u) (payload_said allow (kind.Message u) es) c k in
+          let value = (if_some (allow || are_expected shape allow ms) (value_said (kind.Message u) es) p.0 p.1).1 in
+          let it = from_then (λ d. message_in (said shape allow d (root u))) (get_member (codes "value") ms) p.0 (sym (value-said shape allow (kind.Message u) ms) ∙ value) in
+          let there = got_in (codes "value") it.0 ms it.1 in (
+            record {
+              url = url;
+              place = u;
+              payload = p.0;
+              allow = allow;
+              tree = it.0;
+              utf8 = utf8;
+              named = named;
+              texts = texts_in (codes "value") it.0 ms x there;
+              stands = it.2;
+              packs = p.2;
+            },
+            tree_message it.0 (fits_in (codes "value") it.0 ms g there) u p.0 it.2,
+          )
+
+      payload_at : (url : List ℕ) (u : ℕ) → is_utf8 url ≡ true → type_of_url shape url ≡ Some u → IsAs (payload_read shape allow t ms url u) → Packed
+      payload_at url u utf8 named k = either (stands_beside shape u) refl k
+        where
+          value : (o : Option Data) → IsAs (under_value shape allow t url u o) → Packed
+          value None k = absurd (cc)
+          value (Some d) k = under_packed url u utf8 named k
+
+          either : (b : Bool) → stands_beside shape u ≡ b
+              → IsAs (if b then Ok (beside allow (declared_of shape u) (packed shape t url u))
+              else under_value shape allow t url u (get_member (codes "value") ms)) → Packed
+          either true e k = beside_packed url u utf8 named e k
+          either false e k = value (get_member (codes "value") ms) k
+
+      typed : (url : List ℕ) → is_utf8 url ≡ true → (o : Option ℕ) → type_of_url shape url ≡ o → IsAs (typed_read shape allow t ms url o) → Packed
+      typed url utf8 None e k = absurd (cc)
+      typed url utf8 (Some u) e k = payload_at url u utf8 e k
+
+      at : (o : Option (List ℕ)) → type_url ms ≡ o → IsAs (members_read shape allow t ms o) → Packed
+      at None e k = absurd (cc)
+      at (Some url) e k = typed url (url_utf8 ms url x e) (type_of_url shape url) refl k
+
   -- ---- lists and maps
 
   elements_fit : (k : Kind) (ds : Items) (os : List (Option Val)) → ItemsFit ds
@@ -231,8 +391,9 @@ module _ (shape : Shape) (proper : IsProper shape) (well : IsWellNamed shape) (a
   map_fits kk vk good (array ds) ms v t g n h = absurd (cc)
 
   message_as_fits : (t : ℕ) (d : Data) (ds : Items) (ms : Members) (c : Content) → HasTexts d → MembersHaveTexts ms → ItemsFit ds → MembersFit ms
+      → AnyFits shape allow d (items_said shape allow ds) (entries_said shape allow ms)
       → message_as shape allow t d (items_said shape allow ds) (entries_said shape allow ms) ≡ Some c → FitsAs shape c t
-  message_as_fits t d ds ms c x y f g h = either (is_object_type shape t) refl h
+  message_as_fits t d ds ms c x y f g any h = either (is_object_type shape t) refl h
     where
       object_is : (e : Data) → object_of (message_of (skips_keys shape allow t) (declared_of shape t)) e (entries_said shape allow ms) ≡ Some c
           → message_of (skips_keys shape allow t) (declared_of shape t) (entries_said shape allow ms) ≡ Some c
@@ -250,29 +411,33 @@ module _ (shape : Shape) (proper : IsProper shape) (well : IsWellNamed shape) (a
       either true e k = message_fits (skips_keys shape allow t) t ms c e g (object_is d k)
       either false e k =
           own_fits shape proper well allow t d (items_said shape allow ds) (entries_said shape allow ms) c x (λ kd v n r. list_fits kd d ds v f n r)
-          (λ kd v n r. map_fits kind.String kd refl d ms v y g n r) e k
+          (λ kd v n r. map_fits kind.String kd refl d ms v y g n r) any e k
 
   -- one value of a kind
   value_fits : (k : Kind) (d : Data) (ds : Items) (ms : Members) (v : Val) → HasTexts d → MembersHaveTexts ms → ItemsFit ds → MembersFit ms
+      → AnyFits shape allow d (items_said shape allow ds) (entries_said shape allow ms)
       → value_as shape allow k d (items_said shape allow ds) (entries_said shape allow ms) ≡ Some (Some v) → Fits shape v (single k)
-  value_fits (kind.Message t) d ds ms v x y f g h =
+  value_fits (kind.Message t) d ds ms v x y f g any h =
       let it = from_map (λ c. Some (content.message c)) (message_as shape allow t d (items_said shape allow ds) (entries_said shape allow ms)) (Some v) h in
       let same : content.message it.0 ≡ v = of_some (content.message it.0) v it.2 in
-      rw (← same) (t, refl, message_as_fits t d ds ms it.0 x y f g it.1)
-  value_fits kind.Int32 d ds ms v x y f g h = scalar_fits shape well allow kind.Int32 d v x (from_ok_of (scalar_read shape allow kind.Int32 d) (Some v) h)
-  value_fits k d ds ms v x y f g h = scalar_fits shape well allow k d v x (from_ok_of (scalar_read shape allow k d) (Some v) h)
+      rw (← same) (t, refl, message_as_fits t d ds ms it.0 x y f g any it.1)
+  value_fits kind.Int32 d ds ms v x y f g any h = scalar_fits shape well allow kind.Int32 d v x (from_ok_of (scalar_read shape allow kind.Int32 d) (Some v) h)
+  value_fits k d ds ms v x y f g any h = scalar_fits shape well allow k d v x (from_ok_of (scalar_read shape allow k d) (Some v) h)
 
   read_as_fits : (at : Target) → IsGood at → (d : Data) (ds : Items) (ms : Members) (v : Val) → HasTexts d → MembersHaveTexts ms → ItemsFit ds → MembersFit ms
+      → AnyFits shape allow d (items_said shape allow ds) (entries_said shape allow ms)
       → IsFilled shape v at → read_as shape allow at d (items_said shape allow ds) (entries_said shape allow ms) ≡ Some (Some v) → Fits shape v at
-  read_as_fits nothing good d ds ms v x t g m n h = absurd (cc)
-  read_as_fits (single k) good d ds ms v x t g m n h = value_fits k d ds ms v x t g m h
-  read_as_fits (list k) good d ds ms v x t g m n h = list_fits k d ds v g n h
-  read_as_fits (map kk vk) good d ds ms v x t g m n h = map_fits kk vk good d ms v t m n h
+  read_as_fits nothing good d ds ms v x t g m any n h = absurd (cc)
+  read_as_fits (single k) good d ds ms v x t g m any n h = value_fits k d ds ms v x t g m any h
+  read_as_fits (list k) good d ds ms v x t g m any n h = list_fits k d ds v g n h
+  read_as_fits (map kk vk) good d ds ms v x t g m any n h = map_fits kk vk good d ms v t m n h
 
-  read_fits : (d : Data) (ds : Items) (ms : Members) → HasTexts d → MembersHaveTexts ms → ItemsFit ds → MembersFit ms → (a : Asked) (v : Val) → IsGoodAsked a
+  read_fits : (d : Data) (ds : Items) (ms : Members) → HasTexts d → MembersHaveTexts ms → ItemsFit ds → MembersFit ms
+      → AnyFits shape allow d (items_said shape allow ds) (entries_said shape allow ms)
+      → (a : Asked) (v : Val) → IsGoodAsked a
       → read shape allow d (items_said shape allow ds) (entries_said shape allow ms) a ≡ Some (Some v) → Answers shape a v
-  read_fits d ds ms x t g m (one k) v good h = read_as_fits (single k) tt d ds ms v x t g m tt h
-  read_fits d ds ms x t g m (field f) v good h =
+  read_fits d ds ms x t g m any (one k) v good h = read_as_fits (single k) tt d ds ms v x t g m any tt h
+  read_fits d ds ms x t g m any (field f) v good h =
       let at = target shape d (field f) in
       let from = from_map (shown shape (has_presence f) f.kind) (read_as shape allow at d (items_said shape allow ds) (entries_said shape allow ms)) (Some v) h in
       let it = shown_is shape (has_presence f) f.kind from.0 v from.2 in
@@ -282,7 +447,7 @@ module _ (shape : Shape) (proper : IsProper shape) (well : IsWellNamed shape) (a
           → read_as shape allow (target shape d (field f)) d (items_said shape allow ds) (entries_said shape allow ms) ≡ Some (Some v)
           → IsFilled shape v (target_by f f.cardinality) → Fits shape v (target_by f f.cardinality)
       either (inl e) r n =
-          read_as_fits (target_by f f.cardinality) (good_target f f.cardinality good) d ds ms v x t g m n
+          read_as_fits (target_by f f.cardinality) (good_target f f.cardinality good) d ds ms v x t g m any n
           (ap (λ at. read_as shape allow at d (items_said shape allow ds) (entries_said shape allow ms)) (sym e) ∙ r)
       either (inr e) r n =
           let bad : Some None ≡ Some (Some v) =
@@ -291,12 +456,12 @@ module _ (shape : Shape) (proper : IsProper shape) (well : IsWellNamed shape) (a
 
   mutual
     tree_fits : (d : Data) → HasTexts d → TreeFits d
-    tree_fits null x = read_fits null no_items no_members x tt tt tt
-    tree_fits (boolean b) x = read_fits (boolean b) no_items no_members x tt tt tt
-    tree_fits (number n) x = read_fits (number n) no_items no_members x tt tt tt
-    tree_fits (string s) x = read_fits (string s) no_items no_members x tt tt tt
-    tree_fits (array ds) x = read_fits (array ds) ds no_members x tt (items_fit ds x) tt
-    tree_fits (object ms) x = read_fits (object ms) no_items ms x x tt (members_fit ms x)
+    tree_fits null x = read_fits null no_items no_members x tt tt tt (λ t c h. absurd (cc))
+    tree_fits (boolean b) x = read_fits (boolean b) no_items no_members x tt tt tt (λ t c h. absurd (cc))
+    tree_fits (number n) x = read_fits (number n) no_items no_members x tt tt tt (λ t c h. absurd (cc))
+    tree_fits (string s) x = read_fits (string s) no_items no_members x tt tt tt (λ t c h. absurd (cc))
+    tree_fits (array ds) x = read_fits (array ds) ds no_members x tt (items_fit ds x) tt (λ t c h. absurd (cc))
+    tree_fits (object ms) x = let g = members_fit ms x in read_fits (object ms) no_items ms x x tt g (any_fits ms x g)
 
     items_fit : (ds : Items) → HaveTexts ds → ItemsFit ds
     items_fit no_items x = tt
@@ -309,31 +474,4 @@ module _ (shape : Shape) (proper : IsProper shape) (well : IsWellNamed shape) (a
 -- what stands for a tree is of the type
 pub standing_fits : (shape : Shape) (t : ℕ) (allow : Bool) (tree : Data) (c : Content) → IsProper shape → IsWellNamed shape → HasTexts tree
     → message_in (said shape allow tree (root t)) ≡ Some c → FitsAs shape c t
-standing_fits shape t allow tree c proper well x h = at (said shape allow tree (root t)) refl h
-  where
-    fits_message : (o : Val) (e : Content) → o ≡ content.message e → Fits shape o (single (kind.Message t)) → FitsAs shape e t
-    fits_message (content.message d) e p f =
-        let same : d ≡ e = cc in
-        let place : f.0 ≡ t = (let q : kind.Message t ≡ kind.Message f.0 = f.1 in cc) in
-        let P : ℕ → Type 0 = λ n. FitsAs shape d n in
-        let Q : Content → Type 0 = λ y. FitsAs shape y t in
-        subst Q same (subst P place f.2)
-    fits_message (content.number z) e p f = absurd (cc)
-    fits_message (content.truth z) e p f = absurd (cc)
-    fits_message (content.text z) e p f = absurd (cc)
-    fits_message (content.octets z) e p f = absurd (cc)
-    fits_message (content.many z) e p f = absurd (cc)
-    fits_message (content.keyed z) e p f = absurd (cc)
-
-    at : (r : Reading) → said shape allow tree (root t) ≡ r → message_in r ≡ Some c → FitsAs shape c t
-    at (Some (Some (content.message d))) e k =
-        fits_message (content.message d) c (ap (λ y. content.message y) (of_some d c k))
-        (tree_fits shape proper well allow tree x (root t) (content.message d) tt e)
-    at None e k = absurd (cc)
-    at (Some None) e k = absurd (cc)
-    at (Some (Some (content.number z))) e k = absurd (cc)
-    at (Some (Some (content.truth z))) e k = absurd (cc)
-    at (Some (Some (content.text z))) e k = absurd (cc)
-    at (Some (Some (content.octets z))) e k = absurd (cc)
-    at (Some (Some (content.many z))) e k = absurd (cc)
-    at (Some (Some (content.keyed z))) e k = absurd (cc)
+standing_fits shape t allow tree c proper well x h = tree_message shape proper well allow tree (tree_fits shape proper well allow tree x) t c h

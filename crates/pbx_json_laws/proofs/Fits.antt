@@ -18,8 +18,10 @@ use Rattle.pbx_wkt.specs.declared.form.Form.{Form}
 use Rattle.pbx_wkt.specs.declared.form.Form.TheVariants as forms
 use Rattle.pbx_json_meaning.specs.Scalars.{is_null_value}
 use Rattle.pbx_json_meaning.specs.Asked.{Asked, field, one, Target, nothing, single, list, map, target_by, has_presence}
-use Rattle.pbx_json_meaning.specs.Forms.{form_read, whole, holding}
+use Rattle.pbx_json_meaning.specs.Forms.{form_read, whole, holding, packed}
+use Rattle.pbx_json_meaning.specs.Stands.{Stands}
 use Rattle.pbx_json_meaning.specs.Trees.{HasTexts}
+use Rattle.pbx_json_meaning.specs.Urls.{type_of_url}
 
 -- `NullValue` has one value
 abbrev pub IsNull : Shape → Kind → ℤ → Type 0
@@ -54,13 +56,27 @@ value_held (a_text s) = content.text s
 value_held (a_struct c) = content.message c
 value_held (a_values c) = content.message c
 
--- What is known of a content that was read by the type's own form: the tree that says it, or the one field that holds its value. Of an object of
--- fields nothing more.
+-- what an `Any` holds that was read: a URL that names a type, and the encoding of a payload of the type, which stands for a tree
+pub record IsPacked (shape : Shape) (t : ℕ) (c : Content) : Type 0 where
+  pub url : List ℕ
+  pub place : ℕ
+  pub payload : Content
+  pub allow : Bool
+  pub tree : Data
+  pub utf8 : is_utf8 url ≡ true
+  pub named : type_of_url shape url ≡ Some place
+  pub texts : HasTexts tree
+  pub stands : Stands shape place allow tree payload
+  pub packs : packed shape t url place payload ≡ c
+
+-- What is known of a content that was read by the type's own form: the tree that says it, or the one field that holds its value, or the payload. Of an
+-- object of fields nothing more.
 abbrev pub IsOwnRead : Shape → ℕ → Form → Content → Type 0
 IsOwnRead shape t forms.Fields c = Unit {0}
 IsOwnRead shape t forms.Empty c = Unit {0}
 IsOwnRead shape t forms.Struct c = (o : Option Val) × (holding shape t 1 o ≡ c)
 IsOwnRead shape t forms.ListValue c = (o : Option Val) × (holding shape t 1 o ≡ c)
+IsOwnRead shape t forms.Any c = IsPacked shape t c
 IsOwnRead shape t forms.Value c = (x : ValueHeld) × (holding shape t (number_held x) (Some (value_held x)) ≡ c)
 IsOwnRead shape t form c = (allow : Bool) × (d : Data) × HasTexts d × (form_read shape allow t form d ≡ Ok (whole c))
 

@@ -7,11 +7,15 @@ pub mod FitBytes
 pub mod FitScalars
 pub mod FitKinds
 pub mod FitShown
+pub mod EncodedBytes
 pub mod FitForms
 pub mod FitOwn
 pub mod KeyOrder
+pub mod Payloads
 pub mod FitTrees
 pub mod FitSound
+pub mod NoKept
+pub mod Payload
 pub mod ScalarsBack
 pub mod Told
 pub mod EntriesBack
@@ -26,6 +30,7 @@ pub mod ValueTexts
 pub mod In
 pub mod Read
 pub mod CleanParts
+pub mod PayloadFaults
 pub mod Clean
 pub mod FaultParts
 pub mod FaultFields

@@ -27,6 +27,7 @@ use Rattle.pbx_json_meaning.specs.declared.options.SerializeOptions.{SerializeOp
 use Rattle.pbx_payload_laws.specs.Inside.{AreShorter, AreFieldsShorter, IsValShorter, AreValsShorter, ArePairsShorter}
 use Rattle.pbx_payload_laws.proofs.Shrinks.{meaning_shrinks}
 use Rattle.pbx_json_payload_laws.specs.Laws.{PayloadsByContent}
+use Rattle.pbx_json_payload_laws.proofs.Shorter.{bytes_short, get_shorter}
 
 -- ---- contents under two writings
 
@@ -76,24 +77,6 @@ module _ (shape : Shape) (o : SerializeOptions) (f g : ℕ → List ℕ → Opti
         at None = refl
         at (Some u) = rw (same u bytes short) refl
 
-    bytes_short : (v : Option Val) → ((w : Val) → v ≡ Some w → IsValShorter n w) → length (bytes_at v) < n
-    bytes_short None h = some
-    bytes_short (Some (content.octets b)) h = h (content.octets b) refl
-    bytes_short (Some (content.number z)) h = some
-    bytes_short (Some (content.truth b)) h = some
-    bytes_short (Some (content.text s)) h = some
-    bytes_short (Some (content.message c)) h = some
-    bytes_short (Some (content.many vs)) h = some
-    bytes_short (Some (content.keyed ps)) h = some
-
-    get_shorter : (m : ℕ) (fs : Fields) → AreFieldsShorter n fs → (w : Val) → get m fs ≡ Some w → IsValShorter n w
-    get_shorter m no_fields h w e = absurd (cc)
-    get_shorter m (field_of_number k v fs) h w e = at (m == k) e (get_shorter m fs h.1 w)
-      where
-        at : (b : Bool) → (if b then Some v else get m fs) ≡ Some w → (get m fs ≡ Some w → IsValShorter n w) → IsValShorter n w
-        at true e ih = let is : v ≡ w = cc in subst (IsValShorter n) is h.0
-        at false e ih = ih e
-
     mutual
       tells_same : (v : Val) (a : Asked) → IsValShorter n v → tells shape first v a ≡ tells shape second v a
       tells_same (content.number z) a h = refl
@@ -107,7 +90,7 @@ module _ (shape : Shape) (o : SerializeOptions) (f g : ℕ → List ℕ → Opti
       pub content_same : (c : Content) (t : ℕ) → AreShorter n c → content_tree shape first c t ≡ content_tree shape second c t
       content_same (content.content fs kept) t h =
           ap (message_tree shape first t fs kept) (fields_same fs h)
-          ∙ message_same t fs kept (fields_tell shape second fs) (any_same (text_at (get 1 fs)) (bytes_at (get 2 fs)) (bytes_short (get 2 fs) (get_shorter 2 fs h)))
+          ∙ message_same t fs kept (fields_tell shape second fs) (any_same (text_at (get 1 fs)) (bytes_at (get 2 fs)) (bytes_short n some (get 2 fs) (get_shorter n 2 fs h)))
 
       fields_same : (fs : Fields) → AreFieldsShorter n fs → fields_tell shape first fs ≡ fields_tell shape second fs
       fields_same no_fields h = refl
@@ -166,7 +149,7 @@ unfolding meaning
 no_meaning shape zero fs = no_layer shape no_inner fs
 no_meaning shape (suc levels) fs = no_layer shape (λ gs bs. option_and_then (meaning shape levels gs) (records_of levels bs)) fs
 
-nothing_means : (shape : Shape) (levels : ℕ) (fs : List FieldShape) → meaning_within shape levels fs [] ≡ Some (content.content no_fields [])
+pub nothing_means : (shape : Shape) (levels : ℕ) (fs : List FieldShape) → meaning_within shape levels fs [] ≡ Some (content.content no_fields [])
 nothing_means shape levels fs = ap (option_and_then (meaning shape levels fs)) (no_records levels) ∙ no_meaning shape levels fs
 
 -- ---- turns

@@ -39,7 +39,7 @@ less_more k l d (m ∷ ds) h lt = (IsTotalOrder.trans nat_list_cmp_total m.0 k l
 turned : (a b : List ℕ) → cmp a b ≡ Less → cmp b a ≡ Greater
 turned a b h = IsTotalOrder.antisymm nat_list_cmp_total b a ∙ ap ordering_reverse h
 
-itself : (a : List ℕ) → cmp a a ≡ Equal
+pub itself : (a : List ℕ) → cmp a a ≡ Equal
 itself a = at (cmp a a) refl (IsTotalOrder.antisymm nat_list_cmp_total a a)
   where
     at : (o : Ordering) → cmp a a ≡ o → cmp a a ≡ ordering_reverse (cmp a a) → o ≡ Equal

@@ -6,10 +6,14 @@ pub mod Rebuilt
 pub mod Tests
 pub mod Walked
 pub mod Maps
+pub mod Keyed
+pub mod Beside
+pub mod Payload
+pub mod Owns
 pub mod Trees
 pub mod Told
 pub mod Faults
-pub mod Keyed
 pub mod MemberFaults
 pub mod EntryFaults
+pub mod PayloadFaults
 pub mod TreeFaults

@@ -16,18 +16,23 @@ use Rattle.pbx_meaning.specs.declared.shape.Cardinality.{Cardinality}
 use Rattle.pbx_meaning.specs.declared.shape.Cardinality.TheVariants.{Singular, Repeated, Map}
 use Rattle.pbx_meaning.specs.declared.shape.Shape.{Shape}
 use Rattle.pbx_meaning.specs.declared.shape.FieldShape.{FieldShape}
-use Rattle.pbx_json_meaning.specs.Forms.{is_object_type, skips_keys, own_read, Own, whole, a_list, a_map}
+use Rattle.pbx_json_meaning.specs.Forms.{is_object_type, skips_keys, own_read, Own, whole, a_list, a_map, beside, under}
 use Rattle.pbx_json_meaning.specs.Asked.{Asked, field, one, Target, nothing, single, list, map, field_target, null_target, target_by, reads_null, has_presence, presence_by}
 use Rattle.pbx_json_meaning.specs.Scalars.{scalar_read}
-use Rattle.pbx_json_meaning.specs.Stands.{Says, Entry, Reading, own_as, ok_of, all_read, present, elements_read, entries_read, object_of, message_of, message_as, value_as, list_as, map_as, read_as, read, shown_for, said, items_said, entries_said}
+use Rattle.pbx_json_meaning.specs.Urls.{without_type}
+use Rattle.pbx_json_meaning.specs.Stands.{Says, Entry, Reading, own_as, ok_of, all_read, present, elements_read, entries_read, object_of, message_of, message_as, value_as, list_as, map_as, read_as, read, shown_for, said, items_said, entries_said, payload_said, beside_type as beside_entries}
 use Rattle.pbx_json_meaning.specs.declared.kind.JsonKind.{JsonKind}
 use Rattle.pbx_json_meaning.specs.declared.kind.JsonKind.TheVariants as fault
 use Rattle.pbx_json_walk.specs.Opened.{members_in, items_if_none, members_if_none, wrong_kind_of}
 use Rattle.pbx_json_walk.specs.Walk.{Answer, Answers, Part, or_here, here, and_then, answer_map, are_above, are_ascending, if_ascending, members_answer, message_answer, as_value, value_answer, own_answer}
 use Rattle.pbx_json_walk.specs.Walk.{walk_items, list_value, elements_answer, list_answer, entries_answer, map_answer, target_answer, shown_as, answer, answers, items_answers, parts}
+use Rattle.pbx_json_walk.specs.Walk.{beside_type, beside_answer, payload_answer}
 use Rattle.pbx_json_walk_laws.proofs.Agree.{Agrees, AgreeAll, along, map_agrees, here_agrees, items_agree}
 use Rattle.pbx_json_walk_laws.proofs.Walked.{AgreeParts, message_agrees}
 use Rattle.pbx_json_walk_laws.proofs.Maps.{AboveParts, AscendingParts, entries_agree}
+use Rattle.pbx_json_walk_laws.proofs.Beside.{beside_agree}
+use Rattle.pbx_json_walk_laws.proofs.Payload.{payload_agrees}
+use Rattle.pbx_json_walk_laws.proofs.Owns.{IsFromType, own_from}
 
 -- ---- messages
 
@@ -155,13 +160,32 @@ module _ (shape : Shape) (allow : Bool) (proper : IsProper shape) where
   own_value r (Ok o) h k = h
   own_value r (Err e) h k = h
 
+  -- what a tree says as a payload under `value`
+  abbrev Payload : Data → List Entry → List Part → Type 0
+  Payload d es ps = (skips : Bool) (k : Kind) → Agrees (object_of (payload_said skips k) d es) (and_then (or_here (members_in d)) (payload_answer skips k ps))
+
   module _ (d : Data) (items : List Says) (as' : List Answers) (es : List Entry) (ps : List Part) (agree : AgreeParts es ps)
-      (lists : (k vk : Kind) → Shown k (list_as vk d items) (list_answer vk d as')) (maps : (k kk vk : Kind) → Shown k (map_as kk vk d es) (map_answer kk vk d ps)) where
-    own_agree : (r : Result Own JsonKind) → Agrees (own_as shape r d items es) (own_answer shape r d as' ps)
-    own_agree (Err k) = inr refl
-    own_agree (Ok (whole c)) = refl
-    own_agree (Ok (a_list k wrap)) = map_agrees wrap _ _ (lists k k)
-    own_agree (Ok (a_map k wrap)) = map_agrees wrap _ _ (maps k kind.String k)
+      (lists : (k vk : Kind) → Shown k (list_as vk d items) (list_answer vk d as')) (maps : (k kk vk : Kind) → Shown k (map_as kk vk d es) (map_answer kk vk d ps))
+      (payloads : Payload d es ps) where
+    beside_agrees : (skips : Bool) (u : ℕ) (x : Data)
+        → Agrees (object_of (message_of skips (declared_of shape u)) x (beside_entries es)) (and_then (or_here (members_in x)) (beside_answer skips (declared_of shape u) ps))
+    beside_agrees skips u (object ms) = members_agree skips u (without_type ms) (beside_entries es) (beside_type ps) (beside_agree es ps agree)
+    beside_agrees skips u null = inr refl
+    beside_agrees skips u (boolean b) = inr refl
+    beside_agrees skips u (number n) = inr refl
+    beside_agrees skips u (string s) = inr refl
+    beside_agrees skips u (array ds) = inr refl
+
+    own_agree : (r : Result Own JsonKind) → IsFromType shape d r → Agrees (own_as shape r d items es) (own_answer shape r d as' ps)
+    own_agree (Err k) h = inr refl
+    own_agree (Ok (whole c)) h = refl
+    own_agree (Ok (a_list k wrap)) h = map_agrees wrap _ _ (lists k k)
+    own_agree (Ok (a_map k wrap)) h = map_agrees wrap _ _ (maps k kind.String k)
+    own_agree (Ok (beside skips fs wrap)) h =
+        map_agrees wrap _ _
+        (subst (λ (gs : List FieldShape). Agrees (object_of (message_of skips gs) d (beside_entries es)) (and_then (or_here (members_in d)) (beside_answer skips gs ps)))
+        (sym h.1) (beside_agrees skips h.0 d))
+    own_agree (Ok (under skips k wrap)) h = map_agrees wrap _ _ (payloads skips k)
 
     message_agree : (t : ℕ) → Agrees (message_as shape allow t d items es) (message_answer shape allow t d as' ps)
     message_agree t = by (is_object_type shape t)
@@ -180,7 +204,7 @@ module _ (shape : Shape) (allow : Bool) (proper : IsProper shape) where
             (if b then and_then (or_here (members_in d)) (members_answer (skips_keys shape allow t) (declared_of shape t) ps)
             else own_answer shape (own_read shape allow t d) d as' ps)
         by true = at (skips_keys shape allow t) d
-        by false = own_agree (own_read shape allow t d)
+        by false = own_agree (own_read shape allow t d) (own_from shape allow t d)
 
     scalar_agree : (k : Kind) → Agrees (ok_of (scalar_read shape allow k d)) (or_here (scalar_read shape allow k d))
     scalar_agree k = here_agrees (scalar_read shape allow k d)
@@ -229,14 +253,18 @@ module _ (shape : Shape) (allow : Bool) (proper : IsProper shape) where
   maps_agree no_members h k kk vk = no_entry k kk vk []
   maps_agree (member s d ms) h k kk vk = some_entries k kk vk s d ms (entries_said shape allow (member s d ms)) h
 
+  payload_agree : (ms : Members) → AgreeParts (entries_said shape allow ms) (parts shape allow ms) → Payload (object ms) (entries_said shape allow ms) (parts shape allow ms)
+  payload_agree ms h skips k =
+      ascending_agrees ms _ _ (λ e. payload_agrees skips k (entries_said shape allow ms) (parts shape allow ms) h (ascending_parts ms e))
+
   mutual
     pub tree_agrees : (d : Data) (asked : Asked) → Agrees (said shape allow d asked) (answers shape allow d asked)
-    tree_agrees null = node null [] [] [] [] tt (λ k vk. inr refl) (λ k kk vk. inr refl)
-    tree_agrees (boolean b) = node (boolean b) [] [] [] [] tt (λ k vk. inr refl) (λ k kk vk. inr refl)
-    tree_agrees (number n) = node (number n) [] [] [] [] tt (λ k vk. inr refl) (λ k kk vk. inr refl)
-    tree_agrees (string s) = node (string s) [] [] [] [] tt (λ k vk. inr refl) (λ k kk vk. inr refl)
-    tree_agrees (array ds) = node (array ds) (items_said shape allow ds) (items_answers shape allow ds) [] [] tt (lists_agree ds (all_items_agree ds)) (λ k kk vk. inr refl)
-    tree_agrees (object ms) = node (object ms) [] [] (entries_said shape allow ms) (parts shape allow ms) (all_members_agree ms) (λ k vk. inr refl) (maps_agree ms (all_members_agree ms))
+    tree_agrees null = node null [] [] [] [] tt (λ k vk. inr refl) (λ k kk vk. inr refl) (λ skips k. inr refl)
+    tree_agrees (boolean b) = node (boolean b) [] [] [] [] tt (λ k vk. inr refl) (λ k kk vk. inr refl) (λ skips k. inr refl)
+    tree_agrees (number n) = node (number n) [] [] [] [] tt (λ k vk. inr refl) (λ k kk vk. inr refl) (λ skips k. inr refl)
+    tree_agrees (string s) = node (string s) [] [] [] [] tt (λ k vk. inr refl) (λ k kk vk. inr refl) (λ skips k. inr refl)
+    tree_agrees (array ds) = node (array ds) (items_said shape allow ds) (items_answers shape allow ds) [] [] tt (lists_agree ds (all_items_agree ds)) (λ k kk vk. inr refl) (λ skips k. inr refl)
+    tree_agrees (object ms) = node (object ms) [] [] (entries_said shape allow ms) (parts shape allow ms) (all_members_agree ms) (λ k vk. inr refl) (maps_agree ms (all_members_agree ms)) (payload_agree ms (all_members_agree ms))
 
     all_items_agree : (ds : Items) → AgreeAll (items_said shape allow ds) (items_answers shape allow ds)
     all_items_agree no_items = tt

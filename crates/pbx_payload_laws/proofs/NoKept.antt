@@ -1,5 +1,5 @@
 -- Settling moves kept records alone: a content without any is the same as no other one.
-use Rattle.std.proofs.Common.{◌≡◌, ℕ, ◌^◌, ◌<◌, ◌≤◌, max, Bool, true, false, if◌then◌else◌, nat_lt, List, [], ◌∷◌, Some, refl, sym, ◌∙◌, subst, arith}
+use Rattle.std.proofs.Common.{◌≡◌, ℕ, Bool, true, false, if◌then◌else◌, nat_lt, List, [], ◌∷◌, refl, sym, ◌∙◌, subst}
 use Rattle.pbx_wire.specs.declared.rec.Rec.{Rec}
 use Rattle.pbx_meaning.specs.declared.shape.Shape.{Shape}
 use Rattle.pbx_meaning.specs.declared.shape.FieldShape.{FieldShape}
@@ -7,14 +7,8 @@ use Rattle.pbx_meaning.specs.Content.{Content, content, Fields, no_fields, field
 use Rattle.pbx_meaning.specs.Content.{Pairs, no_pairs, pair}
 use Rattle.pbx_meaning.specs.Records.{number_of, insert, sorted}
 use Rattle.pbx_meaning.specs.Shape.{fields_of, keeps_order_of, field_of}
-use Rattle.pbx_meaning.specs.Meaning.{meaning_of}
-use Rattle.pbx_meaning.specs.Encoding.{encoded}
 use Rattle.pbx_meaning.specs.Same.{settled_kept, type_in, settled, settled_fields, settled_val, settled_vals, settled_pairs, Same}
-use Rattle.pbx_meaning.specs.Sound.{IsProper, IsSound, depth}
-use Rattle.pbx_meaning.specs.Laws.{IsShort}
-use Rattle.pbx_meaning.proofs.Written.{decodes_within}
 use Rattle.pbx_payload_laws.specs.Inside.{HasNoKept, FieldsHaveNoKept, ValHasNoKept, ValsHaveNoKept, PairsHaveNoKept}
-use Rattle.pbx_payload_laws.proofs.More.{more_levels}
 
 -- ---- a content without kept records is settled
 
@@ -93,13 +87,3 @@ pub same_is_equal : (shape : Shape) (t : ℕ) (c d : Content) → HasNoKept c �
 same_is_equal shape t c d none same =
     let is : settled shape t d ≡ c = same ∙ is_settled shape t c none in
     sym (is_settled shape t d (had_none shape t d (subst HasNoKept (sym is) none))) ∙ is
-
--- What is written of a content without kept records is read as no other one, where the text is not too long to be a payload.
-pub short_is_read : (shape : Shape) (t : ℕ) (c d : Content) → IsProper shape → IsSound shape t c → IsShort shape t c → HasNoKept c
-    → meaning_of shape t (encoded shape t c) ≡ Some d → d ≡ c
-short_is_read shape t c d proper sound short none e =
-    let levels = max 100 (depth c) in
-    let read = decodes_within shape levels t c proper sound short (omega arith) in
-    let more = more_levels shape 100 levels (fields_of shape t) (encoded shape t c) d (omega arith) e in
-    let is : read.0 ≡ d = (let both : Some read.0 ≡ Some d = sym read.1 ∙ more in cc) in
-    same_is_equal shape t c d none (subst (λ x. Same shape t x c) is read.2)

@@ -1,5 +1,5 @@
 // Laws that callers use in their proofs. They have no bodies.
-ghost use Rattle.pbx_payload_laws.specs.Laws.{MeaningShrinks, MoreLevels};
+ghost use Rattle.pbx_payload_laws.specs.Laws.{MeaningShrinks, MoreLevels, EncodedIsRead};
 
 /// Bytes that stand as values inside what bytes mean are shorter than these.
 #[tactic(auto, using(crate::proofs::Shrinks::meaning_shrinks))]
@@ -11,4 +11,10 @@ pub fn meaning_shrinks()
 #[tactic(auto, using(crate::proofs::More::more_levels))]
 pub fn more_levels()
     ensures { MoreLevels }
+{}
+
+/// What is written of a content without kept records is read as this content, if it is read.
+#[tactic(auto, using(crate::proofs::Read::encoded_is_read))]
+pub fn encoded_is_read()
+    ensures { EncodedIsRead }
 {}

@@ -5,4 +5,4 @@
 
 mod laws;
 
-pub use laws::{meaning_shrinks, more_levels};
+pub use laws::{encoded_is_read, meaning_shrinks, more_levels};

@@ -7,4 +7,5 @@ pub returns : goal.returns
 returns c = record {
   types = λ t own had. absurd (let e = ap (lookup (is_at (nat_cmp t))) c.new.ensures.empty in cc (sym e ∙ had));
   enums = λ t own had. absurd (let e = ap (lookup (is_at (nat_cmp t))) c.new-2.ensures.empty in cc (sym e ∙ had));
+  urls = c.new-3.ensures;
 }

@@ -14,10 +14,12 @@ returns-in-Ok c = λ are. record {
       = subst (λ (vs : List EnumValueShape). AreNamesOf vs c.in_ok-places.places) c.declared_values.ensures c.in_ok-places.ensures in
       kept_at (λ s n. AreNamesOf (enum_values_of c.args.schema.now s) n) c.args.place t c.in_ok-places.places own (get nat_cmp c.args.self.now.enums t) made (are.enums t own)
       (sym (c.in-Ok.ensures.updates.0 t) ∙ had);
+  urls = are.urls;
 }
 
 pub returns : goal.returns
 returns c = λ are. record {
   types = are.types;
   enums = λ t own had. are.enums t own (kept_by_entries c.insert.new.self c.args.self.now.enums t own c.in-Err.ensures.err had);
+  urls = are.urls;
 }

@@ -14,10 +14,12 @@ returns-in-Ok c = λ are. record {
       kept_at (λ s n. IsIndexOf (declared_of c.args.schema.now s) n) c.args.place t c.in_ok-names.names own (get nat_cmp c.args.self.now.types t) made (are.types t own)
       (sym (c.in-Ok.ensures.updates.0 t) ∙ had);
   enums = are.enums;
+  urls = are.urls;
 }
 
 pub returns : goal.returns
 returns c = λ are. record {
   types = λ t own had. are.types t own (kept_by_entries c.insert.new.self c.args.self.now.types t own c.in-Err.ensures.err had);
   enums = are.enums;
+  urls = are.urls;
 }
