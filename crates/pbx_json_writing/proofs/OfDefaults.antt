@@ -74,7 +74,7 @@ module _ (shape : Shape) (o : Writing) where
       → with_lines (default_lines shape o fs (take i gs)) r ≡ Some ms → with_lines (default_lines shape o fs gs) r ≡ Some ms
   defaults_done fs gs i r ms past so = ap (λ xs. with_lines (default_lines shape o fs xs) r) (sym (take_all gs i past)) ∙ so
 
-  keys_of_defaults : (s : List ℕ) (gs : List FieldShape)
+  pub keys_of_defaults : (s : List ℕ) (gs : List FieldShape)
       → list_any (λ (l : Line). bytes_eq l.0 s) (map (default_line shape o) gs) ≡ list_any (λ k. bytes_eq k s) (map (key_of_field o) gs)
   keys_of_defaults s [] = refl
   keys_of_defaults s (g ∷ gs) = ap (λ b. bytes_eq (key_of_field o g) s || b) (keys_of_defaults s gs)

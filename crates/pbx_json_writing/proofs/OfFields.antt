@@ -130,7 +130,7 @@ module _ (shape : Shape) (o : Writing) where
   abbrev pub all_lines : List FieldShape → Fields → List Line
   all_lines gs fs = field_lines shape o gs fs ++ default_lines shape o fs gs
 
-  lines_are : (gs : List FieldShape) (fs : Fields) → members_of_lines (lines shape o gs fs (fields_tell shape o fs)) ≡ collected (all_lines gs fs)
+  pub lines_are : (gs : List FieldShape) (fs : Fields) → members_of_lines (lines shape o gs fs (fields_tell shape o fs)) ≡ collected (all_lines gs fs)
   lines_are gs fs =
       ap (λ ls. members_of_lines (ls ++ default_lines shape o fs gs)) (lines_told gs fs) ∙ collected_is (all_lines gs fs)
 

@@ -47,11 +47,12 @@ other_than m n apart = at (m == n) refl
     at true is = absurd (apart (grind (arith, nat_tests)))
     at false is = refl
 
-pub is_value : (f : Form) → is_passed_form f ≡ true → (f ≡ forms.Struct → ⊥) → (f ≡ forms.ListValue → ⊥) → f ≡ forms.Value
-is_value forms.Value passed struct list = refl
-is_value forms.Struct passed struct list = absurd (struct refl)
-is_value forms.ListValue passed struct list = absurd (list refl)
-is_value _ passed struct list = absurd cc
+pub is_value : (f : Form) → is_passed_form f ≡ true → (f ≡ forms.Struct → ⊥) → (f ≡ forms.ListValue → ⊥) → (f ≡ forms.Any → ⊥) → f ≡ forms.Value
+is_value forms.Value passed struct list any = refl
+is_value forms.Struct passed struct list any = absurd (struct refl)
+is_value forms.ListValue passed struct list any = absurd (list refl)
+is_value forms.Any passed struct list any = absurd (any refl)
+is_value _ passed struct list any = absurd cc
 
 module _ (shape : Shape) (o : Writing) where
   -- ---- the value of a field

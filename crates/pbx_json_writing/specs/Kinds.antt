@@ -41,9 +41,10 @@ abbrev pub told_value : Shape → Writing → Kind → Option Data → Option Va
 told_value shape o k otherwise None = otherwise
 told_value shape o k otherwise (Some v) = tells shape o v (one k)
 
--- messages of the form are written as the value of one of their fields
+-- messages of the form are written as the value of one of their fields, or by their payload
 abbrev pub is_passed_form : Form → Bool
 is_passed_form forms.Struct = true
 is_passed_form forms.ListValue = true
 is_passed_form forms.Value = true
+is_passed_form forms.Any = true
 is_passed_form _ = false

@@ -1,12 +1,13 @@
 -- What the functions of the writer say where they write no tree.
-use Rattle.std.specs.Prelude.{◌≡◌, ◌⊎◌, ℕ, ℤ, List, [], ◌∷◌, ◌++◌, reverse, true, false, Option, Some, None, Result, Ok, Err}
-use Rattle.serde_json.specs.Data.{Data, Members}
+use Rattle.std.specs.Prelude.{◌≡◌, ◌⊎◌, ℕ, ℤ, List, [], ◌∷◌, ◌++◌, reverse, codes, Bool, true, false, Option, Some, None, Result, Ok, Err}
+use Rattle.serde_json.specs.Data.{Data, object, Members}
+use Rattle.serde_json.specs.View.{view}
 use Rattle.pbx_text.specs.Timestamp.{timestamp_written}
 use Rattle.pbx_text.specs.Duration.{duration_written}
 use Rattle.pbx_text.specs.declared.fault.TextFault.{TextFault}
 use Rattle.pbx_text.specs.declared.fault.TextFault.TheVariants.{Range, NoMemory as OutOfMemory}
 use Rattle.serde_json.specs.declared.value.Value.{Value}
-use Rattle.pbx_meaning.specs.Content.{Fields, Val, number, truth, text, octets, message, many, keyed}
+use Rattle.pbx_meaning.specs.Content.{Content, Fields, Val, number, truth, text, octets, message, many, keyed}
 use Rattle.pbx_meaning.specs.Sound.{IsNumber, IsSound, AreElements, ArePairs}
 use Rattle.pbx_wire.specs.declared.rec.Rec.{Rec}
 use Rattle.pbx_meaning.specs.Shape.{field_of, is_float}
@@ -98,3 +99,26 @@ IsMemberRefused key written ms r =
 abbrev pub IsDefaultRefused : Writing → Fields → FieldShape → Members → Refusal → Type 0
 IsDefaultRefused o fs f ms r =
     ((is_written_default o fs f ≡ true) × (has_key (key_of_field o f) ms ≡ true) × IsAtKey (key_of_field o f) fault.DuplicateField r) ⊎ (r ≡ refused.Memory)
+
+-- ---- payloads
+
+-- why there is no payload: the bytes mean nothing, unless memory ran out
+abbrev pub IsPayloadRefused : Option Content → Refusal → Type 0
+IsPayloadRefused meant refused.Memory = Unit {0}
+IsPayloadRefused meant (refused.Rule rule steps) = (meant ≡ None) × (rule ≡ fault.AnyPayload) × (steps ≡ [])
+
+-- why no type is put among the members of a tree: its key is there, unless memory ran out
+abbrev pub IsTypeRefused : Data → Refusal → Type 0
+IsTypeRefused d r =
+    (r ≡ refused.Memory) ⊎ ((ms : Members) × (d ≡ object ms) × (has_key (codes "@type") ms ≡ true) × IsAtKey (codes "@type") fault.DuplicateField r)
+
+-- the refusal of an `Any` whose payload is refused: that of the payload where it stands beside the type, and else that of what stands under `value`
+abbrev pub IsPayloadLifted : Bool → Refusal → Refusal → Type 0
+IsPayloadLifted true below r = r ≡ below
+IsPayloadLifted false below r = IsLifted (Key (codes "value")) below r
+
+-- why an `Any` with a payload that is written is refused
+abbrev pub IsAnyRefused : Bool → Result Value Refusal → Refusal → Type 0
+IsAnyRefused true (Ok tree) r = IsTypeRefused (view tree) r
+IsAnyRefused false (Ok tree) r = r ≡ refused.Memory
+IsAnyRefused beside (Err below) r = IsPayloadLifted beside below r

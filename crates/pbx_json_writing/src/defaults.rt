@@ -105,7 +105,8 @@ fn add_default(
 ) -> Result<(), Refusal>
     ensures written { OnOk result (with_lines (default_lines schema.now (writing schema.now options.now) (fields (content_of contents.now)) (field.now ∷ []))
         (Some (members_view map.old.entries)) ≡ Some (members_view map.new.entries)) }
-    ensures refused { IfErr result (IsDefaultRefused (writing schema.now options.now) (fields (content_of contents.now)) field.now (members_view map.old.entries)) }
+    ensures refused { IfErr result (IsDefaultRefused (writing schema.now options.now) (fields (content_of contents.now)) field.now
+        (members_view map.old.entries)) }
 {
     if !is_written_default(options, contents, field) {
         return Ok(());
@@ -155,7 +156,8 @@ pub(crate) fn with_defaults(
     requires whole { keeps_float (declared_of_type schema.now (type_of kind)) (kept (content_of contents.now)) ≡ false }
     requires fields { field_members schema.now (writing schema.now options.now) (declared_of_type schema.now (type_of kind)) (content_of contents.now)
         ≡ Some (members_view map.entries) }
-    ensures written { IfOk result (λ tree. tells schema.now (writing schema.now options.now) (message (content_of contents.now)) (one kind) ≡ Some (view tree)) }
+    ensures written { IfOk result (λ tree. tells schema.now (writing schema.now options.now) (message (content_of contents.now)) (one kind)
+        ≡ Some (view tree)) }
     ensures refused { IfErr result (Refused schema.now (writing schema.now options.now) (message (content_of contents.now)) kind) }
 {
     match add_defaults(alloc, schema, options, kind, contents, &mut map) {

@@ -20,8 +20,8 @@ ghost use Rattle.pbx_json_writing.specs.Kinds.{is_passed_form as is_passed_form_
 ghost use Rattle.pbx_json_writing.specs.Refusals.{Refused, IsAnswer, IsTextRefused, IsHeldRefused, IsOutOfTime};
 
 use crate::defaults::zero_tree;
-use crate::enums::Indexes;
 use crate::fields::{kept_float, kind_at, message_type};
+use crate::indexes::Indexes;
 use crate::refusal::Refusal;
 use crate::scalars::{scalar_tree, string_tree};
 use pbx_codec::{Contents, Held};
@@ -224,7 +224,8 @@ fn wrapper_tree(
     kind: Kind,
 ) -> Result<Value, Refusal>
     requires { AreIndexes schema.now indexes.old }
-    ensures written { IfOk result (λ tree. scalar_tree_of schema.now (writing schema.now options.now) kind (get 1 (fields (content_of contents.now))) ≡ Some (view tree)) }
+    ensures written { IfOk result (λ tree. scalar_tree_of schema.now (writing schema.now options.now) kind (get 1 (fields (content_of contents.now)))
+        ≡ Some (view tree)) }
     ensures refused { IfErr result (IsHeldRefused schema.now (writing schema.now options.now) kind (get 1 (fields (content_of contents.now)))) }
     ensures known { AreIndexes schema.now indexes.new }
 {
@@ -234,11 +235,14 @@ fn wrapper_tree(
     }
 }
 
-/// Whether messages of the form are told by the value of a field of theirs.
+/// Whether messages of the form are told by the value of a field of theirs, or by their payload.
 pub(crate) fn is_passed_form(form: Form) -> bool
     ensures { result ≡ is_passed_form_of form }
 {
-    matches!(form, Form::Struct | Form::ListValue | Form::Value)
+    matches!(
+        form,
+        Form::Struct | Form::ListValue | Form::Value | Form::Any
+    )
 }
 
 /// The number of the first field that has a value; 0 where none has.
@@ -269,7 +273,7 @@ pub(crate) fn number_of_value(
     }
 }
 
-/// A message of a type that is told by a value of its own, and not by fields or the value of one of them.
+/// A message of a type that is told by a value of its own, and not by fields, the value of one of them or a payload.
 pub(crate) fn own_tree(
     contents: &Contents,
     alloc: Global,
@@ -283,7 +287,8 @@ pub(crate) fn own_tree(
     requires own { is_object_form_of form ≡ false }
     requires alone { is_passed_form_of form ≡ false }
     requires known { AreIndexes schema.now indexes.old }
-    ensures written { IfOk result (λ tree. tells schema.now (writing schema.now options.now) (message (content_of contents.now)) (one kind) ≡ Some (view tree)) }
+    ensures written { IfOk result (λ tree. tells schema.now (writing schema.now options.now) (message (content_of contents.now)) (one kind)
+        ≡ Some (view tree)) }
     ensures refused { IfErr result (Refused schema.now (writing schema.now options.now) (message (content_of contents.now)) kind) }
     ensures known { AreIndexes schema.now indexes.new }
 {

@@ -15,7 +15,8 @@ ghost use Rattle.pbx_json_writing.specs.Writings.{plain};
 ghost use Rattle.pbx_json_writing.specs.Refusals.{Refused, RefusedAnyhow};
 ghost use Rattle.pbx_json_writing.specs.declared.refusal.Refusal.TheVariants as refused;
 
-use crate::enums::{Indexes, is_null_value, value_by_index, value_of_number};
+use crate::enums::{is_null_value, value_of_number};
+use crate::indexes::Indexes;
 use crate::refusal::Refusal;
 use pbx_codec::{Held, MapKey};
 use pbx_json_meaning::{JsonKind, SerializeOptions};
@@ -142,7 +143,7 @@ fn indexed_enum_tree(
     if options.use_enum_numbers {
         return plain_number(number);
     }
-    match value_by_index(alloc, schema, indexes, place, number) {
+    match indexes.value_of_number(alloc, schema, place, number) {
         Ok(Some(value)) => string_tree(alloc, value.name.as_str()),
         Ok(None) => plain_number(number),
         Err(NoMemory) => Err(NoMemory),

@@ -14,6 +14,7 @@ use Rattle.pbx_json_meaning.specs.Canonical.{tells}
 use Rattle.pbx_json_meaning.specs.declared.kind.JsonKind.TheVariants as fault
 use Rattle.pbx_json_meaning.specs.Canonical.{writing}
 use Rattle.pbx_json_writing.specs.Refusals.{Refused}
+use Rattle.pbx_json_writing.proofs.OfAny.{any_told, any_refused}
 use Rattle.pbx_json_writing.proofs.Arrays.{list_value, array_refused, array_more, array_done}
 use Rattle.pbx_json_writing.proofs.Entries.{map_value, entry_refused, entry_step, entries_done}
 use Rattle.pbx_json_writing.proofs.OfFields.{field_unknown, field_refused, field_step, fields_done}
@@ -123,6 +124,21 @@ field_map-returns-clause-written t c =
     (sym c.as_slice-field-items.ensures.same))
     c.loop-field.field-index (members_view c.loop-field.map.entries) c.loop-field-test.false c.loop-field.invariant.so
 
+-- ---- messages of `Any`
+
+pub any_tree-returns-in-Err-clause-refused : goal.any_tree-returns-in-Err-clause-refused
+any_tree-returns-in-Err-clause-refused t c = c.in-Err.ensures.refused c.args.options.now
+
+pub any_tree-returns-clause-written : goal.any_tree-returns-clause-written
+any_tree-returns-clause-written t c =
+    any_told c.args.schema.now c.args.options.now c.args.kind (content_of c.args.contents.now) c.requires.form c.in-Ok.payload c.in-Ok.ensures.found
+    c.url_of.result.now c.url_of.ensures c.message_tree-written.result c.with_payload.result c.message_tree-written.ensures.written c.with_payload.ensures.written
+
+pub any_tree-returns-clause-refused : goal.any_tree-returns-clause-refused
+any_tree-returns-clause-refused t c =
+    any_refused c.args.schema.now c.args.options.now c.args.kind (content_of c.args.contents.now) c.requires.form c.in-Ok.payload c.in-Ok.ensures.found
+    c.message_tree-written.result c.with_payload.result c.message_tree-written.ensures.written c.message_tree-written.ensures.refused c.with_payload.ensures.refused
+
 -- ---- messages that are told by the value of a field
 
 pub passed_tree-returns-in-Struct-clause-written : goal.passed_tree-returns-in-Struct-clause-written
@@ -152,11 +168,11 @@ pub passed_tree-returns-in-Ok : goal.passed_tree-returns-in-Ok
 passed_tree-returns-in-Ok t c = record {
   written =
       held_value_told c.args.schema.now (writing c.args.schema.now c.args.options.now) c.args.kind (content_of c.args.contents.now)
-      (sym c.requires.form ∙ is_value c.args.form c.requires.passed c.in_default.not-Struct c.in_default.not-ListValue) c.in-Ok.ensures.whole
+      (sym c.requires.form ∙ is_value c.args.form c.requires.passed c.in_default.not-Struct c.in_default.not-ListValue c.in_default.not-Any) c.in-Ok.ensures.whole
       c.in-Ok.number c.in-Ok.ensures.first c.in-Ok.number-test.1 (view Null) (search (rules, the_lemmas)) c.field_tree-in-Ok.result c.field_tree-in-Ok.ensures.written;
   refused =
       held_value_refused c.args.schema.now (writing c.args.schema.now c.args.options.now) c.args.kind (content_of c.args.contents.now)
-      (sym c.requires.form ∙ is_value c.args.form c.requires.passed c.in_default.not-Struct c.in_default.not-ListValue) c.in-Ok.ensures.whole
+      (sym c.requires.form ∙ is_value c.args.form c.requires.passed c.in_default.not-Struct c.in_default.not-ListValue c.in_default.not-Any) c.in-Ok.ensures.whole
       c.in-Ok.number c.in-Ok.ensures.first c.in-Ok.number-test.1 (view Null) (search (rules, the_lemmas)) c.field_tree-in-Ok.result c.field_tree-in-Ok.ensures.refused;
   known = c.field_tree-in-Ok.ensures.known;
 }

@@ -30,6 +30,9 @@ decreases-field_map l = 4 * l.room + 2
 abbrev pub decreases-field_tree : goal.decreases-field_tree
 decreases-field_tree l = 4 * l.room + 2
 
+abbrev pub decreases-any_tree : goal.decreases-any_tree
+decreases-any_tree l = 4 * l.room + 2
+
 abbrev pub decreases-passed_tree : goal.decreases-passed_tree
 decreases-passed_tree l = 4 * l.room + 3
 
