@@ -1,16 +1,16 @@
 ghost use Rattle.std.specs.Prelude.{◌≡◌, IfOk};
-ghost use Rattle.pbx_json.specs.Fits.{fits};
+ghost use Rattle.pbx_described.specs.Shapes.{shape_of, place_of};
+ghost use Rattle.pbx_json_meaning.specs.Fits.{fits};
 
 use pbx_message::DynamicMessage;
 use pbx_wire::NoMemory;
 use std::alloc::Global;
 
-/// How many levels may stand below the top of a message whose bytes are read again.
-const LEVELS: u32 = 100;
-
-/// Whether the message nests at most 100 levels. The only error is want of memory.
-pub fn fits_levels(_alloc: Global, message: &DynamicMessage) -> Result<bool, NoMemory>
-    ensures { IfOk result (λ yes. yes ≡ fits message.now.content) }
+/// Whether the message nests at most 100 levels, and each payload of a `google.protobuf.Any` in it decodes as its type within 100
+/// levels of its own, payloads inside payloads too. An `Any` whose type text names no message of the pool, or that has not its
+/// shape, has no payload. The only error is want of memory.
+pub fn fits_levels(alloc: Global, message: &DynamicMessage) -> Result<bool, NoMemory>
+    ensures { IfOk result (λ yes. yes ≡ fits (shape_of message.now.of.pool) (place_of message.now.of) message.now.content) }
 {
-    Ok(message.depth() <= LEVELS)
+    message.fits_levels(alloc)
 }

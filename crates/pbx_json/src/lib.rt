@@ -11,7 +11,7 @@ pub use message::JsonMessage;
 pub use names::check_names;
 // The laws that callers need to go from one of these calls to another.
 pub use pbx_json_laws::{
-    canonical_stands, canonical_without_fault, standing_is_written, stands_sound,
+    canonical_stands, canonical_without_fault, fitting_is_written, stands_sound,
     stands_without_fault, values_have_texts,
 };
 pub use pbx_json_meaning::{

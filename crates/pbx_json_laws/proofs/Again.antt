@@ -1,9 +1,10 @@
--- All that was read of a tree has a canonical tree, which reads back as the same.
+-- All that was read of a tree has a tree where the payloads inside it have one, and it reads back as the same.
 use Rattle.std.proofs.Common.{◌≡◌, inl, inr, ℕ, List, [], ◌∷◌, map as map_list, Bool, true, false, Option, Some, None, option_map, option_and_then, refl, ap, sym, ◌∙◌, subst}
 use Rattle.pbx_wire.specs.declared.rec.Rec.{Rec}
 use Rattle.serde_json.specs.Data.{Data, array, object, item, Members, no_members, member}
 use Rattle.pbx_meaning.specs.Content as content
 use Rattle.pbx_meaning.specs.Content.{Content, Fields, Val, Vals, Pairs, Key, vals_of, get}
+use Rattle.pbx_meaning.specs.Encoding.{type_of, encoded}
 use Rattle.pbx_meaning.specs.Meaning.{is_default}
 use Rattle.pbx_meaning.specs.Shape.{declared_of, field_of, is_float}
 use Rattle.pbx_meaning.specs.Sound.{IsProper}
@@ -14,34 +15,34 @@ use Rattle.pbx_meaning.specs.declared.shape.Shape.{Shape}
 use Rattle.pbx_wkt.specs.Shapes.{form_of}
 use Rattle.pbx_wkt.specs.declared.form.Form.{Form}
 use Rattle.pbx_wkt.specs.declared.form.Form.TheVariants as forms
-use Rattle.pbx_json_meaning.specs.Forms.{is_object_form, skips}
+use Rattle.pbx_json_meaning.specs.Forms.{is_object_form, skips, kind_in as kind_of}
 use Rattle.pbx_json_meaning.specs.Asked.{field, one, Target, single, list, map, target_by}
 use Rattle.pbx_json_meaning.specs.Names.{field_named}
-use Rattle.pbx_json_meaning.specs.Canonical.{canonical, key_of_field, Tells}
+use Rattle.pbx_json_meaning.specs.Canonical.{Writing, key_of_field, Tells}
 use Rattle.pbx_json_meaning.specs.Canonical.{items_of, entry_line, tells, content_tree, fields_tell, vals_tell, pairs_tell}
 use Rattle.pbx_json_meaning.specs.Clash.{name_fault}
-use Rattle.pbx_json_meaning.specs.Laws.{StandingIsWritten, CanonicalStands, WrittenStands}
 use Rattle.pbx_json_meaning.specs.Named.{IsWellNamed}
-use Rattle.pbx_json_meaning.specs.Trees.{HasTexts}
-use Rattle.pbx_json_meaning.specs.Stands.{Stands, message_in, pairs_of, if_differ, Says, all_read, present, entries_read, own_as, message_as, map_as, said}
+use Rattle.pbx_json_meaning.specs.Stands.{pairs_of, if_differ, Says, all_read, present, entries_read, own_as, message_as, map_as, said}
 use Rattle.pbx_json_meaning.specs.Stands.{items_said, entries_said}
-use Rattle.pbx_json_meaning.specs.declared.options.SerializeOptions.{SerializeOptions}
 use Rattle.pbx_json_laws.proofs.EntriesBack.{LinesSay, ReadsAs, lines_read}
 use Rattle.pbx_json_laws.proofs.Fits.{Fits, FitsAs, IsOwnRead, FieldsFit, AllFit, PairsFit, FitsOption}
 use Rattle.pbx_json_laws.proofs.LinesBack.{ValuesBack, lines_back}
-use Rattle.pbx_json_laws.proofs.NamesBack.{key_names, fault_by_name}
+use Rattle.pbx_json_laws.proofs.NamesBack.{key_names}
 use Rattle.pbx_json_laws.proofs.ScalarsBack.{number_back, truth_back, text_as_is, bytes_back, key_back, no_null}
-use Rattle.pbx_json_laws.proofs.Back.{kind_by, tells_kind, IsBack, element_says, field_says, scalar_is_back, no_float}
+use Rattle.pbx_json_laws.proofs.Back.{kind_in, kind_by, tells_kind, IsBack, element_says, field_says, scalar_is_back, no_float}
 use Rattle.pbx_json_laws.proofs.DefaultsBack.{default_back}
-use Rattle.pbx_json_laws.proofs.FormsBack.{is_held, form_back}
+use Rattle.pbx_json_laws.proofs.FormsBack.{is_held, is_packed, packed_form, form_back}
+use Rattle.pbx_json_laws.proofs.AnyBack.{Reads, any_back}
+use Rattle.pbx_json_laws.proofs.Written.{has_parts, HasTree, IsWritten, FieldsAreWritten, ValIsWritten, ValsAreWritten, PairsAreWritten}
 use Rattle.pbx_json_laws.proofs.OwnBack.{none_kept, ContentBack, FieldBack, FirstBack, several_back, value_back_of}
 use Rattle.pbx_json_laws.proofs.Numbers.{field_of-by_number}
-use Rattle.pbx_json_laws.proofs.FitTrees.{standing_fits}
-use Rattle.pbx_json_laws.proofs.Read.{said_is, items_in, entries_in}
+use Rattle.pbx_json_laws.proofs.Payload.{payload_fits}
+use Rattle.pbx_json_laws.proofs.Read.{items_in, entries_in}
 use Rattle.pbx_json_laws.proofs.Parts.{of_some}
 use Rattle.pbx_json_laws.proofs.FitSound.{no_number}
 
-module _ (shape : Shape) (proper : IsProper shape) (well : IsWellNamed shape) (o : SerializeOptions) (clean : name_fault o.use_proto_field_name shape ≡ None) where
+module _ (shape : Shape) (proper : IsProper shape) (well : IsWellNamed shape) (o : Writing) (clean : name_fault o.options.use_proto_field_name shape ≡ None)
+    (payload : (u : ℕ) (p : Content) (d : Data) → FitsAs shape p u → o.payloads u (encoded shape u p) ≡ Some d → Reads shape u p d) where
   named : (t n : ℕ) (f : FieldShape) → field_of n (declared_of shape t) ≡ Some f → field_named (key_of_field o f) (declared_of shape t) ≡ Some f
   named t n f e = key_names shape t o proper well clean n f e
 
@@ -65,9 +66,9 @@ module _ (shape : Shape) (proper : IsProper shape) (well : IsWellNamed shape) (o
 
   -- a message that is told by a text or a scalar
   form_at_once : (fs : Fields) (kept : List Rec) (t : ℕ) → is_object_form (form_of shape t) ≡ false → is_held (form_of shape t) ≡ false
-      → FitsAs shape (content.content fs kept) t → ContentBack shape o t (content.content fs kept)
-  form_at_once fs kept t is at h =
-      let it = form_back shape proper well o t (form_of shape t) (content.content fs kept) refl is at h.1 in (
+      → is_packed (form_of shape t) ≡ false → FitsAs shape (content.content fs kept) t → ContentBack shape o t (content.content fs kept)
+  form_at_once fs kept t is at none h =
+      let it = form_back shape proper well o t (form_of shape t) (content.content fs kept) refl is at none h.1 in (
         it.tree,
         rw is (it.made kept (fields_tell shape o fs)),
         rw is (ap (λ r. own_as shape r it.tree (items_in shape false it.tree) (entries_in shape false it.tree)) it.back),
@@ -88,17 +89,29 @@ module _ (shape : Shape) (proper : IsProper shape) (well : IsWellNamed shape) (o
       subst P e (value_back_of shape o t is x) first
   form_held _ c t is at own first = absurd (cc)
 
-  content_of_lines : (fs : Fields) (kept : List Rec) (t : ℕ) → FitsAs shape (content.content fs kept) t
-      → ValuesBack shape o (declared_of shape t) (named t) fs (fields_tell shape o fs) → FirstBack shape o t (content.content fs kept)
+  -- an `Any`
+  packed_back : (fs : Fields) (kept : List Rec) (t : ℕ) → form_of shape t ≡ forms.Any → FitsAs shape (content.content fs kept) t → HasTree shape o fs
       → ContentBack shape o t (content.content fs kept)
-  content_of_lines fs kept t h back first = at (is_object_form (form_of shape t)) refl (is_held (form_of shape t)) refl
+  packed_back fs kept t is h tree =
+      let P : Form → Type 0 = λ form. IsOwnRead shape t form (content.content fs kept) in
+      let it = subst P is h.1 in
+      any_back shape o t (content.content fs kept) is it
+      (λ d made. payload it.place it.payload d (payload_fits shape proper well t (content.content fs kept) it) made) tree.0 tree.1
+
+  content_of_lines : (fs : Fields) (kept : List Rec) (t : ℕ) → FitsAs shape (content.content fs kept) t
+      → (has_parts (form_of shape t) ≡ true → ValuesBack shape o (declared_of shape t) (named t) fs (fields_tell shape o fs))
+      → (has_parts (form_of shape t) ≡ true → FirstBack shape o t (content.content fs kept))
+      → (form_of shape t ≡ forms.Any → HasTree shape o fs) → ContentBack shape o t (content.content fs kept)
+  content_of_lines fs kept t h back first tree = at (is_object_form (form_of shape t)) refl (is_held (form_of shape t)) refl (is_packed (form_of shape t)) refl
     where
-      at : (b : Bool) → is_object_form (form_of shape t) ≡ b → (a : Bool) → is_held (form_of shape t) ≡ a → ContentBack shape o t (content.content fs kept)
-      at true e a q =
+      at : (b : Bool) → is_object_form (form_of shape t) ≡ b → (a : Bool) → is_held (form_of shape t) ≡ a → (p : Bool) → is_packed (form_of shape t) ≡ p
+          → ContentBack shape o t (content.content fs kept)
+      at true e a q p r =
           let P : List Rec → Type 0 = λ k. FitsAs shape (content.content fs k) t → ContentBack shape o t (content.content fs k) in
-          subst P (sym h.0) (λ g. object_of_lines fs t e g back) h
-      at false e true q = form_held (form_of shape t) (content.content fs kept) t refl q h.1 first
-      at false e false q = form_at_once fs kept t e q h
+          subst P (sym h.0) (λ g. object_of_lines fs t e g (back (rw e refl))) h
+      at false e true q p r = form_held (form_of shape t) (content.content fs kept) t refl q h.1 (first (rw (e, q) refl))
+      at false e false q true r = let is = packed_form (form_of shape t) r in packed_back fs kept t is h (tree is)
+      at false e false q false r = form_at_once fs kept t e q r h
 
   -- ---- lists and maps
 
@@ -187,13 +200,20 @@ module _ (shape : Shape) (proper : IsProper shape) (well : IsWellNamed shape) (o
         },
       )
 
-  field_value : (v : Val) (fs : Fields) (n : ℕ) (gs : List FieldShape) → ((tg : Target) → Fits shape v tg → ValueBack v tg)
-      → (x : Option FieldShape) → field_of n gs ≡ x → FitsOption shape v (Fits shape v) x
+  -- the value of a field, as its cardinality says
+  written_by : (v : Val) (f : FieldShape) → ValIsWritten shape o v f.kind → ValIsWritten shape o v (kind_in (target_by f f.cardinality))
+  written_by v f w = subst (ValIsWritten shape o v) (sym (kind_by f f.cardinality)) w
+
+  abbrev IsReadBack : Val → Type 0
+  IsReadBack v = (tg : Target) → Fits shape v tg → ValIsWritten shape o v (kind_in tg) → ValueBack v tg
+
+  field_value : (v : Val) (fs : Fields) (n : ℕ) (gs : List FieldShape) → IsReadBack v → (x : Option FieldShape) → field_of n gs ≡ x
+      → FitsOption shape v (Fits shape v) x → ValIsWritten shape o v (kind_of x)
       → (f : FieldShape) × (field_of n gs ≡ Some f)
       × ((d : Data) × (tells shape o v (field f) ≡ Some d) × (said shape false d (field f) ≡ Some (Some v)))
-  field_value v fs n gs back None e h = absurd h
-  field_value v fs n gs back (Some f) e h =
-      let it = back (target_by f f.cardinality) h.0 in (
+  field_value v fs n gs back None e h w = absurd h
+  field_value v fs n gs back (Some f) e h w =
+      let it = back (target_by f f.cardinality) h.0 (written_by v f w) in (
         f,
         e,
         (
@@ -203,90 +223,61 @@ module _ (shape : Shape) (proper : IsProper shape) (well : IsWellNamed shape) (o
         ),
       )
 
-  first_value : (v : Val) (n t : ℕ) → ((tg : Target) → Fits shape v tg → ValueBack v tg) → FitsOption shape v (Fits shape v) (field_of n (declared_of shape t))
-      → FieldBack shape o t n v
-  first_value v n t back h f there =
+  first_value : (v : Val) (n t : ℕ) → IsReadBack v → FitsOption shape v (Fits shape v) (field_of n (declared_of shape t))
+      → ValIsWritten shape o v (kind_of (field_of n (declared_of shape t))) → FieldBack shape o t n v
+  first_value v n t back h w f there =
+      let is : field_of n (declared_of shape t) ≡ Some f = sym (field_of-by_number n (declared_of shape t)) ∙ there in
       let P : Option FieldShape → Type 0 = λ x. FitsOption shape v (Fits shape v) x in
-      let own : FitsOption shape v (Fits shape v) (Some f) = subst P (sym (field_of-by_number n (declared_of shape t)) ∙ there) h in
-      (own.1, back (target_by f f.cardinality) own.0)
+      let Q : Option FieldShape → Type 0 = λ x. ValIsWritten shape o v (kind_of x) in
+      let own : FitsOption shape v (Fits shape v) (Some f) = subst P is h in
+      (own.1, back (target_by f f.cardinality) own.0 (written_by v f (subst Q is w)))
 
   mutual
-    value_back : (v : Val) (tg : Target) → Fits shape v tg → ValueBack v tg
-    value_back (content.number z) (single k) h =
+    value_back : (v : Val) → IsReadBack v
+    value_back (content.number z) (single k) h w =
         let it = number_back shape well o k z h.0 h.1 in
         (it.0, scalar_is_back shape o k (content.number z) it.0 (no_number k z h.0) it.1)
-    value_back (content.truth b) (single k) h =
+    value_back (content.truth b) (single k) h w =
         let it = truth_back shape well o k b h in
         (it.0, scalar_is_back shape o k (content.truth b) it.0 (λ t e. absurd (let q : kind.Bool ≡ kind.Message t = sym h ∙ e in cc)) it.1)
-    value_back (content.text s) (single k) h =
+    value_back (content.text s) (single k) h w =
         let it = text_as_is shape well o k s h.0 in
         (it.0, scalar_is_back shape o k (content.text s) it.0 (λ t e. absurd (let q : kind.String ≡ kind.Message t = sym h.0 ∙ e in cc)) it.1)
-    value_back (content.octets s) (single k) h =
+    value_back (content.octets s) (single k) h w =
         let it = bytes_back shape well o k s h.0 h.1 in
         (it.0, scalar_is_back shape o k (content.octets s) it.0 (λ t e. absurd (let q : kind.Bytes ≡ kind.Message t = sym h.0 ∙ e in cc)) it.1)
-    value_back (content.message c) (single k) h = message_back c k h.0 h.1 (content_back c h.0 h.2)
-    value_back (content.many vs) (list k) h = many_back vs k h.0 h.1
-    value_back (content.keyed ps) (map kk vk) h = map_back ps kk vk h.0 (pairs_float ps kk vk h.0 h.1) (pairs_back ps kk vk h.1)
-    value_back _ _ h = absurd h
+    value_back (content.message c) (single k) h w =
+        message_back c k h.0 h.1 (content_back c h.0 h.2 (subst (IsWritten shape o c) (ap type_of h.1) w))
+    value_back (content.many vs) (list k) h w = many_back vs k h.0 h.1 w
+    value_back (content.keyed ps) (map kk vk) h w = map_back ps kk vk h.0 (pairs_float ps kk vk h.0 h.1) (pairs_back ps kk vk h.1 w)
+    value_back _ _ h w = absurd h
 
-    many_back : (vs : Vals) (k : Kind) → is_default shape k (content.many vs) ≡ false → AllFit shape vs k → ValueBack (content.many vs) (list k)
-    many_back content.no_vals k n h = absurd (cc)
-    many_back (content.val v vs) k n h = list_back v vs k (no_float shape o k v h.0) (value_back v (single k) h.0) (elements_back vs k h.1)
+    many_back : (vs : Vals) (k : Kind) → is_default shape k (content.many vs) ≡ false → AllFit shape vs k → ValsAreWritten shape o vs k
+        → ValueBack (content.many vs) (list k)
+    many_back content.no_vals k n h w = absurd (cc)
+    many_back (content.val v vs) k n h w = list_back v vs k (no_float shape o k v h.0) (value_back v (single k) h.0 w.0) (elements_back vs k h.1 w.1)
 
-    elements_back : (vs : Vals) (k : Kind) → AllFit shape vs k → ElementsBack vs k
-    elements_back content.no_vals k h = ([], refl, refl)
-    elements_back (content.val v vs) k h = one_more v vs k (value_back v (single k) h.0) (elements_back vs k h.1)
+    elements_back : (vs : Vals) (k : Kind) → AllFit shape vs k → ValsAreWritten shape o vs k → ElementsBack vs k
+    elements_back content.no_vals k h w = ([], refl, refl)
+    elements_back (content.val v vs) k h w = one_more v vs k (value_back v (single k) h.0 w.0) (elements_back vs k h.1 w.1)
 
-    pairs_back : (ps : Pairs) (kk vk : Kind) → PairsFit shape ps kk vk → PairsBack ps kk vk
-    pairs_back content.no_pairs kk vk h = tt
-    pairs_back (content.pair l v ps) kk vk h =
-        let it = value_back v (single vk) h.1 in
-        (key_back kk l h.0, (it.0, it.1.made, element_says shape o vk v it.0 it.1), h.2, pairs_back ps kk vk h.3)
+    pairs_back : (ps : Pairs) (kk vk : Kind) → PairsFit shape ps kk vk → PairsAreWritten shape o ps vk → PairsBack ps kk vk
+    pairs_back content.no_pairs kk vk h w = tt
+    pairs_back (content.pair l v ps) kk vk h w =
+        let it = value_back v (single vk) h.1 w.0 in
+        (key_back kk l h.0, (it.0, it.1.made, element_says shape o vk v it.0 it.1), h.2, pairs_back ps kk vk h.3 w.1)
 
-    content_back : (c : Content) (t : ℕ) → FitsAs shape c t → ContentBack shape o t c
-    content_back (content.content fs kept) t h = content_of_lines fs kept t h (fields_back fs t h.4) (first_back fs kept t h.4)
+    pub content_back : (c : Content) (t : ℕ) → FitsAs shape c t → IsWritten shape o c t → ContentBack shape o t c
+    content_back (content.content fs kept) t h w =
+        content_of_lines fs kept t h (λ p. fields_back fs t h.4 (w.1 p)) (λ p. first_back fs kept t h.4 (w.1 p)) w.0
 
-    first_back : (fs : Fields) (kept : List Rec) (t : ℕ) → FieldsFit shape fs (declared_of shape t) → FirstBack shape o t (content.content fs kept)
-    first_back content.no_fields kept t h = tt
-    first_back (content.field n v fs) kept t h = first_value v n t (value_back v) h.0
+    first_back : (fs : Fields) (kept : List Rec) (t : ℕ) → FieldsFit shape fs (declared_of shape t) → FieldsAreWritten shape o fs (declared_of shape t)
+        → FirstBack shape o t (content.content fs kept)
+    first_back content.no_fields kept t h w = tt
+    first_back (content.field n v fs) kept t h w = first_value v n t (value_back v) h.0 w.0
 
-    fields_back : (fs : Fields) (t : ℕ) → FieldsFit shape fs (declared_of shape t)
+    fields_back : (fs : Fields) (t : ℕ) → FieldsFit shape fs (declared_of shape t) → FieldsAreWritten shape o fs (declared_of shape t)
         → ValuesBack shape o (declared_of shape t) (named t) fs (fields_tell shape o fs)
-    fields_back content.no_fields t h = tt
-    fields_back (content.field n v fs) t h =
-        (refl, field_value v fs n (declared_of shape t) (value_back v) (field_of n (declared_of shape t)) refl h.0, fields_back fs t h.1)
-
--- ---- the laws
-
--- what stands for a tree has a canonical tree, which stands for it again
-again : (shape : Shape) (t : ℕ) (allow : Bool) (tree : Data) (c : Content) (o : SerializeOptions) → IsProper shape → IsWellNamed shape
-    → name_fault o.use_proto_field_name shape ≡ None → HasTexts tree → Stands shape t allow tree c
-    → (d : Data) × (canonical shape t c o ≡ Some d) × Stands shape t false d c
-again shape t allow tree c o proper well clean texts h =
-    let it = content_back shape proper well o clean c t (standing_fits shape t allow tree c proper well texts h) in (
-      it.0,
-      it.1,
-      ap message_in (said_is shape false it.0 (one (kind.Message t))) ∙ ap (λ r. message_in (option_map (λ c. Some (content.message c)) r)) it.2,
-    )
-
--- the one tree that is written
-of_written : (shape : Shape) (t : ℕ) (c : Content) (o : SerializeOptions) (d : Data) → (e : Data) × (canonical shape t c o ≡ Some e) × Stands shape t false e c
-    → canonical shape t c o ≡ Some d → Stands shape t false d c
-of_written shape t c o d it h =
-    let same : it.0 ≡ d = of_some it.0 d (sym it.1 ∙ h) in
-    let P : Data → Type 0 = λ x. Stands shape t false x c in
-    subst P same it.2
-
-pub standing_is_written : StandingIsWritten
-standing_is_written shape t allow tree c o proper well clean texts h =
-    let it = again shape t allow tree c o proper well clean texts h in
-    (it.0, it.1)
-
-pub canonical_stands : CanonicalStands
-canonical_stands shape t allow tree d c o proper well clean texts by_json h made =
-    let none : name_fault o.use_proto_field_name shape ≡ None = ap (λ b. name_fault b shape) by_json ∙ clean in
-    of_written shape t c o d (again shape t allow tree c o proper well none texts h) made
-
-pub written_stands : WrittenStands
-written_stands shape t allow tree d c o proper well clean texts h made =
-    of_written shape t c o d (again shape t allow tree c o proper well (fault_by_name o.use_proto_field_name shape clean) texts h) made
+    fields_back content.no_fields t h w = tt
+    fields_back (content.field n v fs) t h w =
+        (refl, field_value v fs n (declared_of shape t) (value_back v) (field_of n (declared_of shape t)) refl h.0 w.0, fields_back fs t h.1 w.1)

@@ -12,10 +12,9 @@ use Rattle.pbx_meaning.specs.declared.shape.Cardinality.TheVariants.{Singular, R
 use Rattle.pbx_meaning.specs.declared.shape.FieldShape.{FieldShape}
 use Rattle.pbx_meaning.specs.declared.shape.Shape.{Shape}
 use Rattle.pbx_json_meaning.specs.Asked.{field, one, Target, nothing, single, list, map, target, target_by, null_target, has_presence, reads_null}
-use Rattle.pbx_json_meaning.specs.Canonical.{tells}
+use Rattle.pbx_json_meaning.specs.Canonical.{Writing, tells}
 use Rattle.pbx_json_meaning.specs.Scalars.{scalar_read}
 use Rattle.pbx_json_meaning.specs.Stands.{Says, Entry, ok_of, value_as, said}
-use Rattle.pbx_json_meaning.specs.declared.options.SerializeOptions.{SerializeOptions}
 use Rattle.pbx_json_laws.proofs.Fits.{Fits}
 use Rattle.pbx_json_laws.proofs.ScalarsBack.{ScalarBack}
 use Rattle.pbx_json_laws.proofs.Read.{items_in, entries_in, says_as, said_is}
@@ -55,7 +54,7 @@ kind_by f Repeated = refl
 kind_by f (Map k) = refl
 
 -- a tree goes by the kind alone
-pub tells_kind : (shape : Shape) (o : SerializeOptions) (v : Val) (f : FieldShape) → tells shape o v (field f) ≡ tells shape o v (one f.kind)
+pub tells_kind : (shape : Shape) (o : Writing) (v : Val) (f : FieldShape) → tells shape o v (field f) ≡ tells shape o v (one f.kind)
 tells_kind shape o (content.number z) f = refl
 tells_kind shape o (content.truth b) f = refl
 tells_kind shape o (content.text s) f = refl
@@ -65,12 +64,12 @@ tells_kind shape o (content.many vs) f = refl
 tells_kind shape o (content.keyed ps) f = refl
 
 -- a value has a tree, which says the value
-pub record IsBack (shape : Shape) (o : SerializeOptions) (tg : Target) (v : Val) (d : Data) : Type 0 where
+pub record IsBack (shape : Shape) (o : Writing) (tg : Target) (v : Val) (d : Data) : Type 0 where
   pub made : tells shape o v (one (kind_in tg)) ≡ Some d
   pub says : says_as shape false d tg ≡ Some (Some v)
   pub null_ok : d ≡ null → ReadsNull shape tg
 
-module _ (shape : Shape) (o : SerializeOptions) where
+module _ (shape : Shape) (o : Writing) where
   pub element_says : (k : Kind) (v : Val) (d : Data) → IsBack shape o (single k) v d → said shape false d (one k) ≡ Some (Some v)
   element_says k v d b = said_is shape false d (one k) ∙ b.says
 

@@ -17,11 +17,10 @@ use Rattle.pbx_meaning.specs.declared.shape.Cardinality.TheVariants.{Singular, R
 use Rattle.pbx_meaning.specs.declared.shape.FieldShape.{FieldShape}
 use Rattle.pbx_meaning.specs.declared.shape.Shape.{Shape}
 use Rattle.pbx_json_meaning.specs.Asked.{field, Target, single, list, map, target_by, has_presence, presence_by}
-use Rattle.pbx_json_meaning.specs.Canonical.{is_written_default, default_tree, default_by}
+use Rattle.pbx_json_meaning.specs.Canonical.{Writing, is_written_default, default_tree, default_by}
 use Rattle.pbx_json_meaning.specs.Named.{IsWellNamed}
 use Rattle.pbx_wkt.specs.Types.{enum_name}
 use Rattle.pbx_json_meaning.specs.Stands.{ok_of, is_there, said}
-use Rattle.pbx_json_meaning.specs.declared.options.SerializeOptions.{SerializeOptions}
 use Rattle.pbx_json_laws.proofs.Fits.{IsNull}
 use Rattle.pbx_json_laws.proofs.ScalarsBack.{ScalarBack, number_back, truth_back, text_as_is, bytes_back, no_null}
 use Rattle.pbx_json_laws.proofs.Back.{ReadsNull, field_says}
@@ -29,10 +28,10 @@ use Rattle.pbx_json_laws.proofs.Read.{says_as}
 use Rattle.pbx_json_laws.proofs.Parts.{both}
 
 -- a default that is written is of a field without presence, and no float
-pub written_default : (o : SerializeOptions) (fs : Fields) (f : FieldShape) → is_written_default o fs f ≡ true
+pub written_default : (o : Writing) (fs : Fields) (f : FieldShape) → is_written_default o fs f ≡ true
     → (has_presence f ≡ false) × (is_float f.kind ≡ false)
 written_default o fs f h =
-    at (not o.skip_default_fields) (has_presence f) (is_float f.kind) (not f.is_extension) (not (is_there (get f.number fs))) h
+    at (not o.options.skip_default_fields) (has_presence f) (is_float f.kind) (not f.is_extension) (not (is_there (get f.number fs))) h
   where
     at : (a b c d e : Bool) → (a && not b && not c && d && e) ≡ true → (b ≡ false) × (c ≡ false)
     at true false false d e k = (refl, refl)
@@ -40,7 +39,7 @@ written_default o fs f h =
     at true false true d e k = absurd (cc)
     at false b c d e k = absurd (cc)
 
-module _ (shape : Shape) (proper : IsProper shape) (well : IsWellNamed shape) (o : SerializeOptions) where
+module _ (shape : Shape) (proper : IsProper shape) (well : IsWellNamed shape) (o : Writing) where
   null_zero : (e : ℕ) → IsNull shape (kind.Enum e) (first_number shape e)
   null_zero e h =
       let it = both (bytes_eq (enum_name shape e) (codes "google.protobuf.NullValue")) (int_eq (first_number shape e) (pos 0)) h in

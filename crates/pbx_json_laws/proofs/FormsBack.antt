@@ -30,7 +30,7 @@ use Rattle.pbx_text.proofs.Rewritten.{timestamp_rewritten, duration_rewritten}
 use Rattle.pbx_text_laws.proofs.Timestamps.{timestamps_read}
 use Rattle.pbx_json_meaning.specs.Asked.{single, has_presence, reads_null}
 use Rattle.pbx_wire.specs.declared.rec.Rec.{Rec}
-use Rattle.pbx_json_meaning.specs.Canonical.{Told, form_tree, scalar_tree}
+use Rattle.pbx_json_meaning.specs.Canonical.{Writing, Told, form_tree, scalar_tree}
 use Rattle.pbx_json_meaning.specs.Forms.{is_object_form, kind_in, kind_at, shown_at, with_first, time_of, mask_of_paths, holding, judged, text_form, whole, at_once, form_read}
 use Rattle.pbx_json_meaning.specs.Forms.{number_in, texts_of, texts_in, as_text}
 use Rattle.pbx_json_meaning.specs.Named.{IsWellNamed}
@@ -39,7 +39,6 @@ use Rattle.pbx_json_meaning.specs.Stands.{ok_of}
 use Rattle.pbx_json_meaning.specs.Trees.{HasTexts}
 use Rattle.pbx_json_meaning.specs.declared.kind.JsonKind.{JsonKind}
 use Rattle.pbx_json_meaning.specs.declared.kind.JsonKind.TheVariants as fault
-use Rattle.pbx_json_meaning.specs.declared.options.SerializeOptions.{SerializeOptions}
 use Rattle.pbx_json_laws.proofs.DefaultsBack.{zero_back}
 use Rattle.pbx_json_laws.proofs.Fits.{Fits, IsOwnRead}
 use Rattle.pbx_json_laws.proofs.FitKinds.{scalar_fits}
@@ -49,12 +48,12 @@ use Rattle.pbx_json_laws.proofs.ScalarsBack.{ScalarBack, number_back, truth_back
 
 -- ---- values of fields
 
-first_of_two : (v w : Option Val) → get 1 (with_first 1 v (with_first 2 w no_fields)) ≡ v
+pub first_of_two : (v w : Option Val) → get 1 (with_first 1 v (with_first 2 w no_fields)) ≡ v
 first_of_two (Some v) w = refl
 first_of_two None (Some w) = refl
 first_of_two None None = refl
 
-second_of_two : (v w : Option Val) → get 2 (with_first 1 v (with_first 2 w no_fields)) ≡ w
+pub second_of_two : (v w : Option Val) → get 2 (with_first 1 v (with_first 2 w no_fields)) ≡ w
 second_of_two (Some v) (Some w) = refl
 second_of_two (Some v) None = refl
 second_of_two None (Some w) = refl
@@ -127,7 +126,7 @@ judged_ok : {X : Type 0} (k : JsonKind) (content_of : X → Content) (r : Result
 judged_ok k content_of r x e = rw e refl
 
 -- a message of the form has a tree, which reads as the message
-pub record FormBack (shape : Shape) (o : SerializeOptions) (t : ℕ) (form : Form) (c : Content) : Type 0 where
+pub record FormBack (shape : Shape) (o : Writing) (t : ℕ) (form : Form) (c : Content) : Type 0 where
   pub tree : Data
   pub made : (kept : List Rec) (told : List Told) → form_tree shape o t form (fields c) kept told ≡ Some tree
   pub back : form_read shape false t form tree ≡ Ok (whole c)
@@ -138,7 +137,7 @@ no_null_text s e = no_null (string s) (λ x. x) e
 
 -- ---- timestamps and durations
 
-module _ (shape : Shape) (o : SerializeOptions) (t : ℕ) where
+module _ (shape : Shape) (o : Writing) (t : ℕ) where
   -- what the field of a number shows of a value
   abbrev shown_in : ℕ → Val → Option Val
   shown_in n v = shown_at shape (field_of n (fields_of shape t)) v
@@ -260,7 +259,7 @@ zero_is_number shape kind.Bytes z h = absurd h
 zero_is_number shape (kind.Message t) z h = absurd h
 zero_is_number shape _ z h = refl
 
-no_length : (s : List ℕ) → (length s == 0) ≡ true → [] ≡ s
+pub no_length : (s : List ℕ) → (length s == 0) ≡ true → [] ≡ s
 no_length [] h = refl
 no_length (c ∷ cs) h = absurd (let none : length (c ∷ cs) ≡ 0 = eqb-true (length (c ∷ cs)) 0 h in omega arith)
 
@@ -283,7 +282,16 @@ is_held forms.ListValue = true
 is_held forms.Value = true
 is_held _ = false
 
-module _ (shape : Shape) (proper : IsProper shape) (well : IsWellNamed shape) (o : SerializeOptions) where
+-- the content is told by a URL and a payload
+abbrev pub is_packed : Form → Bool
+is_packed forms.Any = true
+is_packed _ = false
+
+pub packed_form : (form : Form) → is_packed form ≡ true → form ≡ forms.Any
+packed_form forms.Any h = refl
+packed_form _ h = absurd (cc)
+
+module _ (shape : Shape) (proper : IsProper shape) (well : IsWellNamed shape) (o : Writing) where
   abbrev TreeBack : Kind → Val → Option Val → Type 0
   TreeBack k v w = (d : Data) × ScalarBack shape k v (scalar_tree shape o k w) d
 
@@ -348,24 +356,24 @@ module _ (shape : Shape) (proper : IsProper shape) (well : IsWellNamed shape) (o
 
   -- ---- all forms
 
-  pub form_back : (t : ℕ) (form : Form) (c : Content) → form_of shape t ≡ form → is_object_form form ≡ false → is_held form ≡ false → IsOwnRead shape t form c
+  pub form_back : (t : ℕ) (form : Form) (c : Content) → form_of shape t ≡ form → is_object_form form ≡ false → is_held form ≡ false → is_packed form ≡ false → IsOwnRead shape t form c
       → FormBack shape o t form c
-  form_back t forms.Timestamp c is own at (allow, d, utf8, h) =
+  form_back t forms.Timestamp c is own at none (allow, d, utf8, h) =
       let it = from_text fault.Timestamp timestamp_read (time_of shape t) d c
       (from_at_once (text_form fault.Timestamp timestamp_read (time_of shape t) d) c h) in
       subst (FormBack shape o t forms.Timestamp) it.same (timestamp_back shape o t (timestamp_fields shape t is) it.says it.text it.read)
-  form_back t forms.Duration c is own at (allow, d, utf8, h) =
+  form_back t forms.Duration c is own at none (allow, d, utf8, h) =
       let it = from_text fault.Duration duration_read (time_of shape t) d c (from_at_once (text_form fault.Duration duration_read (time_of shape t) d) c h) in
       subst (FormBack shape o t forms.Duration) it.same (duration_back shape o t (duration_fields shape t is) it.says it.text it.read)
-  form_back t forms.FieldMask c is own at (allow, d, utf8, h) =
+  form_back t forms.FieldMask c is own at none (allow, d, utf8, h) =
       let it = from_text fault.Mask mask_read (mask_of_paths shape t) d c (from_at_once (text_form fault.Mask mask_read (mask_of_paths shape t) d) c h) in
       subst (FormBack shape o t forms.FieldMask) it.same (mask_back shape o t (mask_fields shape t is) it.says it.text it.read)
-  form_back t forms.Wrapper c is own at (allow, d, utf8, h) = wrapper_back t (wrapper_fields shape t is) allow d c utf8 h
-  form_back t forms.Fields c is own at h = absurd (cc)
-  form_back t forms.Empty c is own at h = absurd (cc)
-  form_back t forms.Any c is own at (allow, d, utf8, h) = absurd (cc)
-  form_back t forms.Struct c is own at h = absurd (cc)
-  form_back t forms.ListValue c is own at h = absurd (cc)
-  form_back t forms.Value c is own at h = absurd (cc)
-  form_back t forms.FloatWrapper c is own at (allow, d, utf8, h) = absurd (cc)
-  form_back t forms.Misshapen c is own at (allow, d, utf8, h) = absurd (cc)
+  form_back t forms.Wrapper c is own at none (allow, d, utf8, h) = wrapper_back t (wrapper_fields shape t is) allow d c utf8 h
+  form_back t forms.Fields c is own at none h = absurd (cc)
+  form_back t forms.Empty c is own at none h = absurd (cc)
+  form_back t forms.Any c is own at none h = absurd (cc)
+  form_back t forms.Struct c is own at none h = absurd (cc)
+  form_back t forms.ListValue c is own at none h = absurd (cc)
+  form_back t forms.Value c is own at none h = absurd (cc)
+  form_back t forms.FloatWrapper c is own at none (allow, d, utf8, h) = absurd (cc)
+  form_back t forms.Misshapen c is own at none (allow, d, utf8, h) = absurd (cc)

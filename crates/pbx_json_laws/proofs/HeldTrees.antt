@@ -11,10 +11,9 @@ use Rattle.pbx_meaning.specs.declared.shape.Shape.{Shape}
 use Rattle.pbx_wkt.specs.declared.form.Form.{Form}
 use Rattle.pbx_wkt.specs.declared.form.Form.TheVariants as forms
 use Rattle.pbx_json_meaning.specs.Asked.{Asked, one}
-use Rattle.pbx_json_meaning.specs.Canonical.{told_tree, kind_asked, array_tree, entries_tree, number_tree, truth_by, text_by, bytes_by, tells, content_tree, fields_tell, vals_tell, pairs_tell}
+use Rattle.pbx_json_meaning.specs.Canonical.{Writing, told_tree, kind_asked, array_tree, entries_tree, number_tree, truth_by, text_by, bytes_by, tells, content_tree, fields_tell, vals_tell, pairs_tell}
 use Rattle.pbx_json_meaning.specs.Scalars.{family}
 use Rattle.pbx_json_meaning.specs.WriteFaults.{leaf, elements, keyed, Taken, held_parts, content_parts, parts_of}
-use Rattle.pbx_json_meaning.specs.declared.options.SerializeOptions.{SerializeOptions}
 
 pub same_number : (n : ℕ) → (n == n) ≡ true
 same_number n = grind (arith, nat_tests)
@@ -36,7 +35,7 @@ nothing_held shape t forms.Misshapen (Some v) h = refl
 nothing_held shape t _ (Some v) h = refl
 
 module _ (shape : Shape) where
-  module _ (o : SerializeOptions) where
+  module _ (o : Writing) where
     -- what is written of a value hangs on the kind that is asked for
     pub tells_alike : (v : Val) (a b : Asked) → kind_asked a ≡ kind_asked b → tells shape o v a ≡ tells shape o v b
     tells_alike (content.number z) a b e = ap (λ k. number_tree shape o k z) e

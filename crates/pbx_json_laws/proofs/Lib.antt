@@ -25,7 +25,12 @@ pub mod Back
 pub mod DefaultsBack
 pub mod FormsBack
 pub mod OwnBack
+pub mod Written
+pub mod AnyBack
 pub mod Again
+pub mod Rewritten
+pub mod PlainKeys
+pub mod Fitting
 pub mod ValueTexts
 pub mod In
 pub mod Read
@@ -36,6 +41,9 @@ pub mod FaultParts
 pub mod FaultFields
 pub mod FaultFound
 pub mod LinesMade
+pub mod TypeKeys
+pub mod PayloadTrees
+pub mod LongestBytes
 pub mod WriteAsked
 pub mod ValueFields
 pub mod HeldTrees

@@ -12,17 +12,16 @@ use Rattle.pbx_meaning.specs.Sound.{AreProper, has_one_member}
 use Rattle.pbx_meaning.specs.declared.shape.FieldShape.{FieldShape}
 use Rattle.pbx_meaning.specs.declared.shape.Shape.{Shape}
 use Rattle.pbx_json_meaning.specs.Asked.{field, has_presence}
-use Rattle.pbx_json_meaning.specs.Canonical.{Line, Told, key_of_field, is_written_default, default_tree, default_line, told_line, lines, has_key, with_line, members_of_lines}
+use Rattle.pbx_json_meaning.specs.Canonical.{Writing, Line, Told, key_of_field, is_written_default, default_tree, default_line, told_line, lines, has_key, with_line, members_of_lines}
 use Rattle.pbx_json_meaning.specs.Names.{field_named}
 use Rattle.pbx_json_meaning.specs.Stands.{Reading, all_known, told, only, gathered, if_oneofs, is_there, message_of, said, entries_said}
-use Rattle.pbx_json_meaning.specs.declared.options.SerializeOptions.{SerializeOptions}
 use Rattle.pbx_json_laws.proofs.Gathered.{gathered_along, gathered_fields}
 use Rattle.pbx_json_laws.proofs.Numbers.{AreDistinct, numbers, has_number, number_of_field}
 use Rattle.pbx_json_laws.proofs.Parts.{nor_of}
 use Rattle.pbx_json_laws.proofs.Puts.{get-above, above-ascending, first_found, later_found}
 use Rattle.pbx_json_laws.proofs.Told.{told_other, told_same, known_put, keyless}
 
-module _ (shape : Shape) (o : SerializeOptions) (gs : List FieldShape)
+module _ (shape : Shape) (o : Writing) (gs : List FieldShape)
     (named : (n : ℕ) (f : FieldShape) → field_of n gs ≡ Some f → field_named (key_of_field o f) gs ≡ Some f) where
   -- what is said for a number
   abbrev told_at : ℕ → Members → List Reading
@@ -275,7 +274,7 @@ module _ (shape : Shape) (o : SerializeOptions) (gs : List FieldShape)
       at true e =
           let same : k ≡ f.number = grind (arith, nat_tests) in
           let there : is_there (get f.number fs) ≡ true = ap (λ j. is_there (get j fs)) (sym same) ∙ ap (λ x. is_there x) got in
-          rw there (ap (λ x. x && true) (never (not o.skip_default_fields) (not (has_presence f)) (not (is_float f.kind)) (not f.is_extension)))
+          rw there (ap (λ x. x && true) (never (not o.options.skip_default_fields) (not (has_presence f)) (not (is_float f.kind)) (not f.is_extension)))
 
   joined_reads : (x : Option Val) (b : Bool) → only (joined x (no_value content.no_fields b)) ≡ Some x
   joined_reads None true = refl

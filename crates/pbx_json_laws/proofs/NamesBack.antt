@@ -11,13 +11,13 @@ use Rattle.pbx_meaning.specs.Sound.{IsProper}
 use Rattle.pbx_meaning.specs.declared.shape.FieldShape.{FieldShape}
 use Rattle.pbx_meaning.specs.declared.shape.MessageShape.{MessageShape}
 use Rattle.pbx_meaning.specs.declared.shape.Shape.{Shape}
-use Rattle.pbx_json_meaning.specs.Canonical.{key_of_field}
-use Rattle.pbx_json_meaning.specs.Clash.{is_shared, is_type_key, is_of_extension, is_name_of_another, clashes, least_key, clashing_key, first_clash, first_misshapen, name_fault}
+use Rattle.pbx_json_meaning.specs.Canonical.{Writing, key_of_field}
+use Rattle.pbx_json_meaning.specs.Urls.{is_type_key}
+use Rattle.pbx_json_meaning.specs.Clash.{is_shared, is_of_extension, is_name_of_another, clashes, least_key, clashing_key, first_clash, first_misshapen, name_fault}
 use Rattle.pbx_json_meaning.specs.Named.{IsWellNamed}
 use Rattle.pbx_json_meaning.specs.Names.{field_named, json_name_is, name_is, extension_is}
 use Rattle.pbx_json_meaning.specs.declared.names_fault.NameFault.{NameFault}
 use Rattle.pbx_json_meaning.specs.declared.names_fault.NameFault.TheVariants.{JsonNames}
-use Rattle.pbx_json_meaning.specs.declared.options.SerializeOptions.{SerializeOptions}
 use Rattle.pbx_json_laws.proofs.Numbers.{found_number, number_of_field}
 use Rattle.pbx_json_laws.proofs.Parts.{both, neither, from_not, found_passes, found_with, of_some}
 
@@ -165,6 +165,20 @@ own_parts false false true x n e h = absurd (cc)
 own_parts false false false true n e h = absurd (cc)
 own_parts false false false false true e h = absurd (cc)
 
+own_type : (own shared type extended named : Bool) → own ≡ false → not (not own && (shared || type || extended || named)) ≡ true → type ≡ false
+own_type false s false x n e h = refl
+own_type true s type x n e h = absurd (cc)
+own_type false true true x n e h = absurd (cc)
+own_type false false true x n e h = absurd (cc)
+
+-- the JSON name of a field of the message itself is not that of the type of an `Any`
+pub json_plain : (b : Bool) (shape : Shape) (t n : ℕ) (f : FieldShape) → name_fault b shape ≡ None → field_of n (declared_of shape t) ≡ Some f
+    → f.is_extension ≡ false → is_type_key f.json_name ≡ false
+json_plain b shape t n f clean e own =
+    let ds = declared_of shape t in
+    own_type f.is_extension (is_shared ds f.json_name) (is_type_key f.json_name) (is_of_extension ds f.json_name) (b && is_name_of_another ds f) own
+    (field_passes (λ f. not (clashes b ds f)) n ds f (no_clash b shape t clean) e)
+
 module _ (b : Bool) (shape : Shape) (t : ℕ) (proper : IsProper shape) (well : IsWellNamed shape) (clean : name_fault b shape ≡ None) where
   -- what is known of a field's JSON name
   record Apart (g : FieldShape) : Type 0 where
@@ -247,13 +261,13 @@ module _ (b : Bool) (shape : Shape) (t : ℕ) (proper : IsProper shape) (well : 
           absurd (cc)
 
 -- the key that a field is written under names the field
-pub key_names : (shape : Shape) (t : ℕ) (o : SerializeOptions) → IsProper shape → IsWellNamed shape → name_fault o.use_proto_field_name shape ≡ None
+pub key_names : (shape : Shape) (t : ℕ) (o : Writing) → IsProper shape → IsWellNamed shape → name_fault o.options.use_proto_field_name shape ≡ None
     → (n : ℕ) (f : FieldShape) → field_of n (declared_of shape t) ≡ Some f → field_named (key_of_field o f) (declared_of shape t) ≡ Some f
-key_names shape t o proper well clean n f e = at o.use_proto_field_name refl f.is_extension refl
+key_names shape t o proper well clean n f e = at o.options.use_proto_field_name refl f.is_extension refl
   where
-    at : (b : Bool) → o.use_proto_field_name ≡ b → (x : Bool) → f.is_extension ≡ x
+    at : (b : Bool) → o.options.use_proto_field_name ≡ b → (x : Bool) → f.is_extension ≡ x
         → field_named (if b && not x then f.name else f.json_name) (declared_of shape t) ≡ Some f
-    at true p true q = by_extension o.use_proto_field_name shape t proper well clean n f e q
-    at true p false q = by_name o.use_proto_field_name shape t proper well clean n f p e q
-    at false p true q = by_extension o.use_proto_field_name shape t proper well clean n f e q
-    at false p false q = by_json o.use_proto_field_name shape t proper well clean n f e q
+    at true p true q = by_extension o.options.use_proto_field_name shape t proper well clean n f e q
+    at true p false q = by_name o.options.use_proto_field_name shape t proper well clean n f p e q
+    at false p true q = by_extension o.options.use_proto_field_name shape t proper well clean n f e q
+    at false p false q = by_json o.options.use_proto_field_name shape t proper well clean n f e q

@@ -25,13 +25,12 @@ use Rattle.pbx_wkt.proofs.Declared.{HasRow, HasRows}
 use Rattle.pbx_wkt.proofs.Forms.{struct_fields, list_fields, value_fields}
 use Rattle.pbx_wkt.proofs.WellKnown.{found, found_passes}
 use Rattle.pbx_json_meaning.specs.Asked.{Target, single, list, map, target_by, has_presence, presence_by, reads_null, one}
-use Rattle.pbx_json_meaning.specs.Canonical.{object_tree, form_tree, keeps_float, tells, content_tree, fields_tell, truth_by, text_by}
+use Rattle.pbx_json_meaning.specs.Canonical.{Writing, object_tree, form_tree, keeps_float, tells, content_tree, fields_tell, truth_by, text_by}
 use Rattle.pbx_json_meaning.specs.Forms.{is_object_form, skips, kind_in, kind_at, type_at, shown_at, with_first, holding, Own, a_list, a_map, struct_read, list_value_read}
 use Rattle.pbx_json_meaning.specs.Forms.{value_with, form_read, itself}
 use Rattle.pbx_json_meaning.specs.Scalars.{family}
 use Rattle.pbx_json_meaning.specs.Stands.{message_of, object_of, own_as, message_as, list_as, map_as}
 use Rattle.pbx_json_meaning.specs.declared.kind.JsonKind.{JsonKind}
-use Rattle.pbx_json_meaning.specs.declared.options.SerializeOptions.{SerializeOptions}
 use Rattle.pbx_json_laws.proofs.Back.{IsBack}
 use Rattle.pbx_json_laws.proofs.Fits.{ValueHeld, a_null, a_truth, a_text, a_struct, a_values, number_held, value_held}
 use Rattle.pbx_json_laws.proofs.Parts.{from_map}
@@ -140,7 +139,7 @@ module _ (shape : Shape) where
   value_of_list t (string s) c form h = absurd (let bad = sym (ap (λ r. own_is r (string s)) (list_reads shape (type_at shape t 6) itself form)) ∙ h in cc)
   value_of_list t (object ms) c form h = absurd (let bad = sym (ap (λ r. own_is r (object ms)) (list_reads shape (type_at shape t 6) itself form)) ∙ h in cc)
 
-  module _ (o : SerializeOptions) (t : ℕ) where
+  module _ (o : Writing) (t : ℕ) where
     -- a message has a tree, which reads as the message, and is null only where null is read as one
     abbrev pub ContentBack : Content → Type 0
     ContentBack c =

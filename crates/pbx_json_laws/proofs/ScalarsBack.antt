@@ -24,8 +24,7 @@ use Rattle.pbx_json_meaning.specs.Asked.{reads_null}
 use Rattle.pbx_json_meaning.specs.Named.{IsWellNamed}
 use Rattle.pbx_json_meaning.specs.Scalars.{integers, enums, family, in_range, decimal_of, integer_read, is_null_value, number_named}
 use Rattle.pbx_json_meaning.specs.Scalars.{enum_read, scalar_of, key_of, key_read, if_ok}
-use Rattle.pbx_json_meaning.specs.Canonical.{is_wide, integer, integer_tree, value_of_number, name_or_number, number_by, truth_by, text_by, bytes_by, key_text}
-use Rattle.pbx_json_meaning.specs.declared.options.SerializeOptions.{SerializeOptions}
+use Rattle.pbx_json_meaning.specs.Canonical.{Writing, is_wide, integer, integer_tree, value_of_number, name_or_number, number_by, truth_by, text_by, bytes_by, key_text}
 use Rattle.pbx_json_laws.proofs.Fits.{IsNull}
 use Rattle.pbx_json_laws.proofs.FitScalars.{lies}
 use Rattle.pbx_json_laws.proofs.Parts.{both, found_passes}
@@ -85,12 +84,12 @@ IsNullTree (object ms) = ⊥
 pub no_null : {P : Type 0} (d : Data) → (IsNullTree d → P) → d ≡ null → P
 no_null d f e = f (subst IsNullTree (sym e) tt)
 
-module _ (shape : Shape) (well : IsWellNamed shape) (o : SerializeOptions) where
+module _ (shape : Shape) (well : IsWellNamed shape) (o : Writing) where
   integer_back : (min max z : ℤ) (k : Kind) → Ranged min max z
       → (d : Data) × (integer_tree o k z ≡ d) × (integer_read min max d ≡ Ok z) × (d ≡ null → ⊥)
-  integer_back min max z k r = at (is_wide k && o.stringify_64_bit_integers) refl
+  integer_back min max z k r = at (is_wide k && o.options.stringify_64_bit_integers) refl
     where
-      at : (b : Bool) → (is_wide k && o.stringify_64_bit_integers) ≡ b
+      at : (b : Bool) → (is_wide k && o.options.stringify_64_bit_integers) ≡ b
           → (d : Data) × ((if b then string (signed_decimal z) else integer z) ≡ d) × (integer_read min max d ≡ Ok z) × (d ≡ null → ⊥)
       at true e = (string (signed_decimal z), refl, text_back min max z r, no_null (string (signed_decimal z)) (λ x. absurd x))
       at false e = (integer z, refl, whole_back min max z r.inside, no_null (integer z) (λ x. absurd x))
@@ -138,8 +137,8 @@ module _ (shape : Shape) (well : IsWellNamed shape) (o : SerializeOptions) where
           → (d : Data) × ScalarBack shape (kind.Enum e) (content.number z) (number_by shape o (kind.Enum e) (enums e) z) d
       at true p = (null, record { made = rw p refl; back = rw (p, n p) refl; null_ok = λ q. p })
       at false p =
-          let it = other o.use_enum_numbers in (
-            if o.use_enum_numbers then integer z else name_or_number z (value_of_number z (enum_values_of shape e)),
+          let it = other o.options.use_enum_numbers in (
+            if o.options.use_enum_numbers then integer z else name_or_number z (value_of_number z (enum_values_of shape e)),
             record { made = rw p refl; back = rw p it.0; null_ok = λ q. absurd (it.1 q) },
           )
 

@@ -7,8 +7,10 @@ use Rattle.pbx_wire.specs.declared.rec.Rec.{Rec}
 use Rattle.pbx_meaning.specs.Content as content
 use Rattle.pbx_meaning.specs.Content.{Content, Fields, Val, Vals, Pairs, get, fields}
 use Rattle.pbx_meaning.specs.Encoding.{type_of}
+use Rattle.pbx_meaning.specs.Meaning.{meaning_of}
+use Rattle.pbx_meaning.proofs.SoundLaw.{meaning_sound}
 use Rattle.pbx_meaning.specs.Shape.{declared_of, by_number, fields_of, field_of}
-use Rattle.pbx_meaning.specs.Sound.{IsSound, AreSound, IsSoundAt, AreElements, ArePairs, IsElement, IsNumber}
+use Rattle.pbx_meaning.specs.Sound.{IsProper, IsSound, AreSound, IsSoundAt, AreElements, ArePairs, IsElement, IsNumber}
 use Rattle.pbx_meaning.specs.declared.shape.Kind.{Kind}
 use Rattle.pbx_meaning.specs.declared.shape.Kind.TheVariants as kind
 use Rattle.pbx_meaning.specs.declared.shape.FieldShape.{FieldShape}
@@ -17,13 +19,13 @@ use Rattle.pbx_wkt.specs.Shapes.{form_of}
 use Rattle.pbx_wkt.specs.declared.form.Form.{Form}
 use Rattle.pbx_wkt.specs.declared.form.Form.TheVariants as forms
 use Rattle.pbx_json_meaning.specs.Asked.{Asked, field, one}
-use Rattle.pbx_json_meaning.specs.Canonical.{kind_asked, key_text, keeps_float, first_field}
-use Rattle.pbx_json_meaning.specs.Forms.{is_object_type, kind_in, type_at, timestamp_tree, duration_tree, mask_tree}
-use Rattle.pbx_json_meaning.specs.WriteFaults.{Parts, leaf, elements, keyed, members, Taken, as_leaf, several_parts, struct_parts, held_parts, value_parts, form_parts}
+use Rattle.pbx_json_meaning.specs.Canonical.{Writing, kind_asked, key_text, keeps_float, first_field}
+use Rattle.pbx_json_meaning.specs.Forms.{is_object_type, kind_in, type_at, timestamp_tree, duration_tree, mask_tree, text_at, bytes_at}
+use Rattle.pbx_json_meaning.specs.Urls.{type_of_url, stands_beside, is_value_key}
+use Rattle.pbx_json_meaning.specs.WriteFaults.{Parts, leaf, elements, keyed, members, payload, Taken, as_leaf, several_parts, struct_parts, held_parts, value_parts, payload_parts, typed_parts, form_parts}
 use Rattle.pbx_json_meaning.specs.WriteFaults.{content_parts, message_parts, parts_of, val_at, val_under, is_under, asked_of, field_under, into_written}
 use Rattle.pbx_json_meaning.specs.declared.kind.JsonKind.{JsonKind}
 use Rattle.pbx_json_meaning.specs.declared.kind.JsonKind.TheVariants as fault
-use Rattle.pbx_json_meaning.specs.declared.options.SerializeOptions.{SerializeOptions}
 use Rattle.pbx_json_meaning.specs.declared.place.Step.{Step}
 use Rattle.pbx_json_meaning.specs.declared.place.Step.TheVariants.{Key, Index}
 use Rattle.pbx_json_laws.proofs.Numbers.{field_of-by_number}
@@ -108,7 +110,8 @@ module _ (shape : Shape) where
   AreParts leaf = Unit {0}
   AreParts (elements k vs) = AreElements shape k vs
   AreParts (keyed k ps) = (key : Kind) × ArePairs shape key k ps
-  AreParts (members gs fs kept) = AreSound shape (by_number gs) fs
+  AreParts (members typed gs fs kept) = AreSound shape (by_number gs) fs
+  AreParts (payload u c) = IsSound shape u c
 
   abbrev pub AreTaken : Taken → Type 0
   AreTaken (Err kind) = Unit {0}
@@ -157,33 +160,48 @@ module _ (shape : Shape) where
           held_taken (type_at shape t n) (form_of shape (type_at shape t n)) (get n fs)
           (λ c e. own (field_of n (fields_of shape t)) c (sound_at (fields_of shape t) n fs (content.message c) s e))
 
-  form_taken : (t : ℕ) (form : Form) (fs : Fields) (kept : List Rec) → AreSound shape (fields_of shape t) fs → AreTaken (form_parts shape t form fs kept)
-  form_taken t forms.Timestamp fs kept s = leaf_taken (timestamp_tree fs)
-  form_taken t forms.Duration fs kept s = leaf_taken (duration_tree fs)
-  form_taken t forms.FieldMask fs kept s = leaf_taken (mask_tree fs)
-  form_taken t forms.Struct fs kept s = struct_taken t fs s
-  form_taken t forms.ListValue fs kept s = struct_taken t fs s
-  form_taken t forms.Value fs kept s = value_taken t fs kept s
-  form_taken t _ fs kept s = tt
+  module _ (proper : IsProper shape) where
+    payload_taken : (u : ℕ) (x : Option Content) → ((p : Content) → x ≡ Some p → IsSound shape u p) → AreTaken (payload_parts shape u x)
+    payload_taken u None g = tt
+    payload_taken u (Some p) g = at (stands_beside shape u)
+      where
+        at : (b : Bool) → AreTaken (if b then Ok (members true (declared_of shape u) (content.fields p) (content.kept p)) else Ok (payload u p))
+        at true = sound_fields u p (g p refl)
+        at false = g p refl
 
-  message_taken : (t : ℕ) (fs : Fields) (kept : List Rec) → AreSound shape (fields_of shape t) fs → AreTaken (message_parts shape t fs kept)
-  message_taken t fs kept s = at (is_object_type shape t)
-    where
-      at : (b : Bool) → AreTaken (if b then Ok (members (declared_of shape t) fs kept) else form_parts shape t (form_of shape t) fs kept)
-      at true = s
-      at false = form_taken t (form_of shape t) fs kept s
+    -- what a payload means may be held by a message of its type
+    typed_taken : (bytes : List ℕ) (x : Option ℕ) → AreTaken (typed_parts shape bytes x)
+    typed_taken bytes None = tt
+    typed_taken bytes (Some u) = payload_taken u (meaning_of shape u bytes) (λ p e. (meaning_sound shape 100 u bytes p proper e).0)
 
-  content_taken : (t : ℕ) (c : Content) → IsSound shape t c → AreTaken (content_parts shape t c)
-  content_taken t (content.content fs kept) s = message_taken t fs kept s.1
+    form_taken : (t : ℕ) (form : Form) (fs : Fields) (kept : List Rec) → AreSound shape (fields_of shape t) fs → AreTaken (form_parts shape t form fs kept)
+    form_taken t forms.Timestamp fs kept s = leaf_taken (timestamp_tree fs)
+    form_taken t forms.Duration fs kept s = leaf_taken (duration_tree fs)
+    form_taken t forms.FieldMask fs kept s = leaf_taken (mask_tree fs)
+    form_taken t forms.Struct fs kept s = struct_taken t fs s
+    form_taken t forms.ListValue fs kept s = struct_taken t fs s
+    form_taken t forms.Value fs kept s = value_taken t fs kept s
+    form_taken t forms.Any fs kept s = typed_taken (bytes_at (get 2 fs)) (type_of_url shape (text_at (get 1 fs)))
+    form_taken t _ fs kept s = tt
 
-  pub parts_taken : (v : Val) (a : Asked) → IsAsked a v → AreTaken (parts_of shape v a)
-  parts_taken (content.number z) a s = tt
-  parts_taken (content.truth z) a s = tt
-  parts_taken (content.text z) a s = tt
-  parts_taken (content.octets z) a s = tt
-  parts_taken (content.message c) a s = content_taken (type_of (kind_asked a)) c (message_asked a c s)
-  parts_taken (content.many vs) a s = many_asked a vs s
-  parts_taken (content.keyed ps) a s = keyed_asked a ps s
+    message_taken : (t : ℕ) (fs : Fields) (kept : List Rec) → AreSound shape (fields_of shape t) fs → AreTaken (message_parts shape t fs kept)
+    message_taken t fs kept s = at (is_object_type shape t)
+      where
+        at : (b : Bool) → AreTaken (if b then Ok (members false (declared_of shape t) fs kept) else form_parts shape t (form_of shape t) fs kept)
+        at true = s
+        at false = form_taken t (form_of shape t) fs kept s
+
+    content_taken : (t : ℕ) (c : Content) → IsSound shape t c → AreTaken (content_parts shape t c)
+    content_taken t (content.content fs kept) s = message_taken t fs kept s.1
+
+    pub parts_taken : (v : Val) (a : Asked) → IsAsked a v → AreTaken (parts_of shape v a)
+    parts_taken (content.number z) a s = tt
+    parts_taken (content.truth z) a s = tt
+    parts_taken (content.text z) a s = tt
+    parts_taken (content.octets z) a s = tt
+    parts_taken (content.message c) a s = content_taken (type_of (kind_asked a)) c (message_asked a c s)
+    parts_taken (content.many vs) a s = many_asked a vs s
+    parts_taken (content.keyed ps) a s = keyed_asked a ps s
 
   -- ---- where a step leads
 
@@ -200,7 +218,7 @@ module _ (shape : Shape) where
       at true q ih = let P : Val → Type 0 = λ y. IsElement shape k y in subst P (of_some w v q) s.1
       at false q ih = ih q
 
-  module _ (o : SerializeOptions) where
+  module _ (o : Writing) where
     value_under : (x : List ℕ) (gs : List FieldShape) (fs : Fields) (next : Val × Asked) → AreSound shape (by_number gs) fs
         → field_under o x gs fs ≡ Some next → IsAsked next.1 next.0
     value_under x gs content.no_fields next s h = absurd (cc)
@@ -234,8 +252,17 @@ module _ (shape : Shape) where
             let is : (v, one k) ≡ next = of_some _ next q in
             let P : Val × Asked → Type 0 = λ y. IsAsked y.1 y.0 in
             subst P is (entry_under x s.0 k ps v s.1 e)
-    next_asked (members gs fs kept) (Key x) next s h = value_under x gs fs next s h
+    next_asked (members typed gs fs kept) (Key x) next s h = value_under x gs fs next s h
+    next_asked (payload u c) (Key x) next s h = at (is_value_key x) h
+      where
+        at : (b : Bool) → (if b then Some (content.message c, one (kind.Message u)) else None) ≡ Some next → IsAsked next.1 next.0
+        at false q = absurd (cc)
+        at true q =
+            let is : (content.message c, one (kind.Message u)) ≡ next = of_some _ next q in
+            let P : Val × Asked → Type 0 = λ y. IsAsked y.1 y.0 in
+            subst P is (u, refl, s)
     next_asked leaf step next s h = absurd (cc)
     next_asked (elements k vs) (Key x) next s h = absurd (cc)
     next_asked (keyed k ps) (Index i) next s h = absurd (cc)
-    next_asked (members gs fs kept) (Index i) next s h = absurd (cc)
+    next_asked (members typed gs fs kept) (Index i) next s h = absurd (cc)
+    next_asked (payload u c) (Index i) next s h = absurd (cc)

@@ -1,17 +1,17 @@
 -- What has a canonical tree has no fault in writing.
-use Rattle.std.proofs.Common.{◌≡◌, ◌⊎◌, inl, inr, ℕ, zero, suc, ◌==◌, ◌&&◌, ◌||◌, ◌++◌, List, [], ◌∷◌, map as map_list, filter, Bool, true, false, if◌then◌else◌, Option, Some, None, option_map, refl, ap, sym, ◌∙◌, subst}
+use Rattle.std.proofs.Common.{◌≡◌, ◌⊎◌, inl, inr, ℕ, zero, suc, ◌==◌, ◌&&◌, ◌||◌, ◌++◌, List, [], ◌∷◌, map as map_list, filter, codes, Bool, true, false, if◌then◌else◌, Option, Some, None, option_map, refl, ap, sym, ◌∙◌, subst}
 use Rattle.std.specs.Prelude.{Result, Ok, Err}
 use Rattle.std.specs.List.{list_any}
 use Rattle.std.specs.Str.{bytes_eq}
 use Rattle.std.proofs.lemmas.Bool.{eqb-true}
-use Rattle.serde_json.specs.Data.{Data, null, array, object, Members}
+use Rattle.serde_json.specs.Data.{Data, null, boolean, number, string, array, object, Members, put}
 use Rattle.pbx_wire.specs.declared.rec.Rec.{Rec}
 use Rattle.pbx_meaning.specs.Content as content
 use Rattle.pbx_meaning.specs.Content.{Content, Fields, Val, Vals, Pairs, get}
-use Rattle.pbx_meaning.specs.Content.{Key as MapKey}
 use Rattle.pbx_meaning.specs.Encoding.{type_of}
+use Rattle.pbx_meaning.specs.Meaning.{meaning_of}
 use Rattle.pbx_meaning.specs.Shape.{declared_of, fields_of, field_of, is_float}
-use Rattle.pbx_meaning.specs.Sound.{AreSound}
+use Rattle.pbx_meaning.specs.Sound.{IsProper, AreSound}
 use Rattle.pbx_meaning.specs.declared.shape.Kind.{Kind}
 use Rattle.pbx_meaning.specs.declared.shape.Kind.TheVariants as kind
 use Rattle.pbx_meaning.specs.declared.shape.FieldShape.{FieldShape}
@@ -20,25 +20,27 @@ use Rattle.pbx_wkt.specs.Shapes.{form_of}
 use Rattle.pbx_wkt.specs.declared.form.Form.{Form}
 use Rattle.pbx_wkt.specs.declared.form.Form.TheVariants as forms
 use Rattle.pbx_json_meaning.specs.Asked.{Asked, field, one}
-use Rattle.pbx_json_meaning.specs.Canonical.{Line, Tells, Told, key_of_field, is_kept_of, keeps_float, is_written_default, default_line, told_line, lines, members_of_lines, key_text}
-use Rattle.pbx_json_meaning.specs.Canonical.{object_tree, field_tree, first_field, value_tree, form_tree, own_tree, kind_asked, items_of, entry_line, tells, content_tree, fields_tell, vals_tell, pairs_tell}
+use Rattle.pbx_json_meaning.specs.Canonical.{Writing, Line, Tells, Told, key_of_field, is_kept_of, keeps_float, is_written_default, default_line, told_line, lines, has_key, with_member, members_of_lines, key_text}
+use Rattle.pbx_json_meaning.specs.Canonical.{object_tree, field_tree, first_field, value_tree, with_type, type_and_value, any_with, payload_in, form_tree, own_tree, kind_asked, items_of, entry_line, tells, content_tree, fields_tell, vals_tell, pairs_tell}
 use Rattle.pbx_json_meaning.specs.Faults.{SomeWith, OkWith}
-use Rattle.pbx_json_meaning.specs.Forms.{is_object_form, is_object_type, kind_in, kind_at, type_at, timestamp_tree, duration_tree, mask_tree}
+use Rattle.pbx_json_meaning.specs.Forms.{is_object_form, is_object_type, kind_in, kind_at, type_at, timestamp_tree, duration_tree, mask_tree, text_at, bytes_at}
+use Rattle.pbx_json_meaning.specs.Urls.{type_of_url, stands_beside, is_value_key}
 use Rattle.pbx_json_meaning.specs.Stands.{all_read, ok_of}
-use Rattle.pbx_json_meaning.specs.WriteFaults.{Parts, leaf, elements, keyed, members, Taken, as_leaf, several_parts, struct_parts, held_parts, value_parts, form_parts, parts_of, val_at, val_under, is_under, asked_of, field_under}
+use Rattle.pbx_json_meaning.specs.WriteFaults.{Parts, leaf, elements, keyed, members, payload, Taken, as_leaf, several_parts, struct_parts, held_parts, value_parts, payload_parts, typed_parts, form_parts, parts_of, val_at, val_under, is_under, asked_of, field_under}
 use Rattle.pbx_json_meaning.specs.WriteFaults.{into_written, key_in, value_keys, is_twice, KeyBreaks, IsKeyFault, WriteFaultAt}
 use Rattle.pbx_json_meaning.specs.declared.kind.JsonKind.{JsonKind}
 use Rattle.pbx_json_meaning.specs.declared.kind.JsonKind.TheVariants as fault
-use Rattle.pbx_json_meaning.specs.declared.options.SerializeOptions.{SerializeOptions}
 use Rattle.pbx_json_meaning.specs.declared.place.Step.{Step}
 use Rattle.pbx_json_meaning.specs.declared.place.Step.TheVariants.{Key, Index}
 use Rattle.pbx_json_laws.proofs.HeldTrees.{get_first, is_message, nothing_held, tree_or, told_at}
-use Rattle.pbx_json_laws.proofs.LinesMade.{keys_of, Added, added, never_twice}
+use Rattle.pbx_json_laws.proofs.LinesMade.{keys_of, any_key, Added, added, keys_made, never_twice}
 use Rattle.pbx_json_laws.proofs.Parts.{from_then, from_map, unless_some, of_some, neither}
+use Rattle.pbx_json_laws.proofs.PayloadTrees.{WritesPayloads}
+use Rattle.pbx_json_laws.proofs.TypeKeys.{type_never_twice, stands_object}
 use Rattle.pbx_json_laws.proofs.ValueFields.{holds_several, IsOfValue, of_value}
 use Rattle.pbx_json_laws.proofs.WriteAsked.{IsAsked, message_asked, field_at, AreTaken, parts_taken, next_asked}
 
-module _ (shape : Shape) (o : SerializeOptions) where
+module _ (shape : Shape) (o : Writing) where
   -- what a step leads to has no tree
   abbrev IsNeverTold : Val × Asked → Type 0
   IsNeverTold next = (d : Data) → tells shape o next.0 next.1 ≡ Some d → ⊥
@@ -142,7 +144,7 @@ module _ (shape : Shape) (o : SerializeOptions) where
     default_keys (d ∷ ds) = ap (λ x. key_of_field o d ∷ x) (default_keys ds)
 
     -- the keys of the lines are those that are written
-    keys_are : (ds : List FieldShape) (fs : Fields) (ms : Members) → members_of_lines (value_lines fs ++ map_list (default_line shape o) ds) ≡ Some ms
+    pub keys_are : (ds : List FieldShape) (fs : Fields) (ms : Members) → members_of_lines (value_lines fs ++ map_list (default_line shape o) ds) ≡ Some ms
         → keys_of (value_lines fs ++ map_list (default_line shape o) ds) ≡ value_keys o gs fs ++ map_list (key_of_field o) ds
     keys_are ds content.no_fields ms h = default_keys ds
     keys_are ds (content.field n v fs) ms h =
@@ -166,11 +168,15 @@ module _ (shape : Shape) (o : SerializeOptions) where
         at true b e q ih = cc
         at false b e q ih = ih q
 
-    members_clean : (fs : Fields) (kept : List Rec) (d : Data) → object_tree shape o gs fs kept (fields_tell shape o fs) ≡ Some d
-        → (step : Step) (place : List Step) (kind : JsonKind) → IsBroken (members gs fs kept) step place kind → ⊥
-    members_clean fs kept d h (Index i) place kind (inl b) = b
-    members_clean fs kept d h (Index i) place kind (inr b) = b
-    members_clean fs kept d h (Key s) place kind (inl b) = at kind b.1
+    -- the type's key is not among the members, where it is to stand with them
+    abbrev IsFree : Bool → Data → Type 0
+    IsFree typed d = typed ≡ true → (ms : Members) → object ms ≡ d → has_key (codes "@type") ms ≡ false
+
+    members_clean : (typed : Bool) (fs : Fields) (kept : List Rec) (d : Data) → object_tree shape o gs fs kept (fields_tell shape o fs) ≡ Some d → IsFree typed d
+        → (step : Step) (place : List Step) (kind : JsonKind) → IsBroken (members typed gs fs kept) step place kind → ⊥
+    members_clean typed fs kept d h free_type (Index i) place kind (inl b) = b
+    members_clean typed fs kept d h free_type (Index i) place kind (inr b) = b
+    members_clean typed fs kept d h free_type (Key s) place kind (inl b) = at kind b.1
       where
         free : (keeps_float gs kept ≡ false) × (option_map object (members_of_lines (lines shape o gs fs (fields_tell shape o fs))) ≡ Some d)
         free = unless_some (keeps_float gs kept) (option_map object (members_of_lines (lines shape o gs fs (fields_tell shape o fs)))) d h
@@ -178,15 +184,25 @@ module _ (shape : Shape) (o : SerializeOptions) where
         made : (ms : Members) × (members_of_lines (lines shape o gs fs (fields_tell shape o fs)) ≡ Some ms) × (object ms ≡ d)
         made = from_map object (members_of_lines (lines shape o gs fs (fields_tell shape o fs))) d free.1
 
-        at : (kind : JsonKind) → KeyBreaks o (members gs fs kept) s kind → ⊥
+        keys : keys_of (lines shape o gs fs (fields_tell shape o fs)) ≡ value_keys o gs fs ++ map_list (key_of_field o) (filter (is_written_default o fs) gs)
+        keys = keys_are (filter (is_written_default o fs) gs) fs made.0 made.1
+
+        fresh : typed ≡ true → any_key (codes "@type") (value_keys o gs fs ++ map_list (key_of_field o) (filter (is_written_default o fs) gs)) ≡ false
+        fresh e =
+            ap (any_key (codes "@type")) (sym keys) ∙ sym (keys_made (codes "@type") (lines shape o gs fs (fields_tell shape o fs)) made.0 made.1)
+            ∙ free_type e made.0 made.2
+
+        never : is_twice s (value_keys o gs fs ++ map_list (key_of_field o) (filter (is_written_default o fs) gs)) ≡ false
+        never = ap (is_twice s) (sym keys) ∙ never_twice s (lines shape o gs fs (fields_tell shape o fs)) made.0 made.1
+
+        at : (kind : JsonKind) → KeyBreaks o (members typed gs fs kept) s kind → ⊥
         at fault.DuplicateField k =
-            let never = never_twice s (lines shape o gs fs (fields_tell shape o fs)) made.0 made.1 in
-            let keys = keys_are (filter (is_written_default o fs) gs) fs made.0 made.1 in
-            let bad : true ≡ false = sym k ∙ ap (is_twice s) (sym keys) ∙ never in
+            let bad : true ≡ false =
+            sym k ∙ type_never_twice s typed (value_keys o gs fs) (map_list (key_of_field o) (filter (is_written_default o fs) gs)) fresh never in
             cc
         at fault.Float k = no_float_key kept s gs free.0 k
         at _ k = k
-    members_clean fs kept d h (Key s) place kind (inr b) = at (field_under o s gs fs) refl b
+    members_clean typed fs kept d h free_type (Key s) place kind (inr b) = at (field_under o s gs fs) refl b
       where
         free : (keeps_float gs kept ≡ false) × (option_map object (members_of_lines (lines shape o gs fs (fields_tell shape o fs))) ≡ Some d)
         free = unless_some (keeps_float gs kept) (option_map object (members_of_lines (lines shape o gs fs (fields_tell shape o fs)))) d h
@@ -208,10 +224,10 @@ module _ (shape : Shape) (o : SerializeOptions) where
       ((kind : JsonKind) × (t ≡ Err kind))
       ⊎ ((parts : Parts) × (t ≡ Ok parts) × ((step : Step) × (place : List Step) × (kind : JsonKind) × IsBroken parts step place kind))
 
-  no_error : (t : Taken) (x : Parts) (k : JsonKind) → t ≡ Ok x → t ≡ Err k → ⊥
+  pub no_error : (t : Taken) (x : Parts) (k : JsonKind) → t ≡ Ok x → t ≡ Err k → ⊥
   no_error t x k p q = cc
 
-  one_part : (t : Taken) (x y : Parts) → t ≡ Ok x → t ≡ Ok y → x ≡ y
+  pub one_part : (t : Taken) (x y : Parts) → t ≡ Ok x → t ≡ Ok y → x ≡ y
   one_part t x y p q = cc
 
   none_below : (t : Taken) (parts : Parts) → t ≡ Ok parts → ((step : Step) (place : List Step) (kind : JsonKind) → IsBroken parts step place kind → ⊥)
@@ -354,65 +370,125 @@ module _ (shape : Shape) (o : SerializeOptions) where
               (sym (told_at shape o n (kind_at shape t n) (Some null) (content.field n v fs)
               ∙ ap (tree_or shape o (kind_at shape t n) (Some null)) (get_first n v fs)) ∙ q) below
 
-  form_clean : (t : ℕ) (form : Form) (fs : Fields) (kept : List Rec) (d : Data) → form_of shape t ≡ form → AreSound shape (fields_of shape t) fs
-      → form_tree shape o t form fs kept (fields_tell shape o fs) ≡ Some d → IsFaulty (form_parts shape t form fs kept) → ⊥
-  form_clean t forms.Timestamp fs kept d e s h b = text_clean (timestamp_tree fs) d h b
-  form_clean t forms.Duration fs kept d e s h b = text_clean (duration_tree fs) d h b
-  form_clean t forms.FieldMask fs kept d e s h b = text_clean (mask_tree fs) d h b
-  form_clean t forms.Wrapper fs kept d e s h b = bare_clean b
-  form_clean t forms.Struct fs kept d e s h b = struct_clean t _ fs d h b
-  form_clean t forms.ListValue fs kept d e s h b = struct_clean t _ fs d h b
-  form_clean t forms.Value fs kept d e s h b = value_clean t fs kept d e s h b
-  form_clean t _ fs kept d e s h b = absurd (cc)
-
-  -- ---- values
-
-  told_clean : (v : Val) (a : Asked) (d : Data) → IsAsked shape a v → tells shape o v a ≡ Some d → IsFaulty (parts_of shape v a) → ⊥
-  told_clean (content.number z) a d s h b = bare_clean b
-  told_clean (content.truth z) a d s h b = bare_clean b
-  told_clean (content.text z) a d s h b = bare_clean b
-  told_clean (content.octets z) a d s h b = bare_clean b
-  told_clean (content.many vs) a d s h b = many_clean (kind_asked a) vs d h b
-  told_clean (content.keyed ps) a d s h b = entries_clean (kind_asked a) ps d h b
-  told_clean (content.message (content.content fs kept)) a d s h b = at (is_object_type shape (type_of (kind_asked a))) h b
+  -- under `value`
+  under_clean : (u : ℕ) (p : Content) (d : Data) → content_tree shape o p u ≡ Some d
+      → (step : Step) (place : List Step) (k : JsonKind) → IsBroken (payload u p) step place k → ⊥
+  under_clean u p d h (Key s) place k (inl b) = b.1
+  under_clean u p d h (Index i) place k (inl b) = b
+  under_clean u p d h (Index i) place k (inr b) = b
+  under_clean u p d h (Key s) place k (inr b) = at (is_value_key s) b
     where
-      t : ℕ
-      t = type_of (kind_asked a)
+      at : (x : Bool) → SomeWith (if x then Some (content.message p, one (kind.Message u)) else None) IsNeverTold → ⊥
+      at true b = b d h
+      at false b = b
 
-      sound : AreSound shape (fields_of shape t) fs
-      sound = (message_asked shape a (content.content fs kept) s).1
+  -- what has the type among its members is an object in which it was not
+  free_of : (url : List ℕ) (e d : Data) → with_type url e ≡ Some d → (ms : Members) → object ms ≡ e → has_key (codes "@type") ms ≡ false
+  free_of url (object ns) d h ms is =
+      let made = from_map object (with_member (codes "@type") (string url) ns) d h in
+      let same : ms ≡ ns = (cc) in
+      ap (has_key (codes "@type")) same ∙ (unless_some (has_key (codes "@type") ns) (Some (put (codes "@type") (string url) ns)) made.0 made.1).0
+  free_of url null d h ms is = absurd (cc)
+  free_of url (boolean b) d h ms is = absurd (cc)
+  free_of url (number n) d h ms is = absurd (cc)
+  free_of url (string s) d h ms is = absurd (cc)
+  free_of url (array ds) d h ms is = absurd (cc)
 
-      at : (x : Bool)
-          → (if x then object_tree shape o (declared_of shape t) fs kept (fields_tell shape o fs)
-          else own_tree shape o t fs kept (fields_tell shape o fs)) ≡ Some d
-          → IsFaulty (if x then Ok (members (declared_of shape t) fs kept) else form_parts shape t (form_of shape t) fs kept) → ⊥
-      at true q b =
-          none_below (Ok (members (declared_of shape t) fs kept)) (members (declared_of shape t) fs kept) refl
-          (members_clean (declared_of shape t) fs kept d q) b
-      at false q b = form_clean t (form_of shape t) fs kept d refl sound q b
-
-  with_some : {X : Type 0} (P Q : X → Type 0) (x : Option X) → ((y : X) → x ≡ Some y → P y → Q y) → SomeWith x P → SomeWith x Q
-  with_some P Q None f h = h
-  with_some P Q (Some y) f h = f y refl h
-
-  taken_with : (t : Taken) (step : Step) (place : List Step) (kind : JsonKind) → AreTaken shape t
-      → ((next : Val × Asked) → IsAsked shape next.1 next.0 → WriteFaultAt shape o place next.0 next.1 kind → IsNeverTold next)
-      → OkWith t (λ parts. IsKeyFault o parts step place kind ⊎ SomeWith (into_written o parts step) (λ next. WriteFaultAt shape o place next.0 next.1 kind))
-      → IsFaulty t
-  taken_with (Err e) step place kind s f h = absurd h
-  taken_with (Ok parts) step place kind s f h = inr (parts, refl, (step, place, kind, broken h))
+  beside_clean : (u : ℕ) (url : List ℕ) (p : Content) (e d : Data) → is_object_type shape u ≡ true → content_tree shape o p u ≡ Some e
+      → with_type url e ≡ Some d → IsFaulty (Ok (members true (declared_of shape u) (content.fields p) (content.kept p))) → ⊥
+  beside_clean u url (content.content fs kept) e d object_type told w b =
+      none_below (Ok (members true (declared_of shape u) fs kept)) (members true (declared_of shape u) fs kept) refl
+      (members_clean (declared_of shape u) true fs kept e (tree (is_object_type shape u) object_type told) (λ q ms is. free_of url e d w ms is)) b
     where
-      broken : IsKeyFault o parts step place kind ⊎ SomeWith (into_written o parts step) (λ next. WriteFaultAt shape o place next.0 next.1 kind)
-          → IsBroken parts step place kind
-      broken (inl b) = inl b
-      broken (inr b) =
-          inr (with_some (λ next. WriteFaultAt shape o place next.0 next.1 kind) IsNeverTold (into_written o parts step)
-          (λ next e g. f next (next_asked shape o parts step next s e) g) b)
+      tree : (x : Bool) → x ≡ true
+          → (if x then object_tree shape o (declared_of shape u) fs kept (fields_tell shape o fs) else own_tree shape o u fs kept (fields_tell shape o fs)) ≡ Some e
+          → object_tree shape o (declared_of shape u) fs kept (fields_tell shape o fs) ≡ Some e
+      tree true q h = h
+      tree false q h = absurd (cc)
 
-  -- a value with a fault at some place has no tree
-  pub untold : (place : List Step) (v : Val) (a : Asked) (kind : JsonKind) → IsAsked shape a v → WriteFaultAt shape o place v a kind
-      → (d : Data) → tells shape o v a ≡ Some d → ⊥
-  untold [] v a kind s h d e = told_clean v a d s e (inl (kind, h))
-  untold (step ∷ place) v a kind s h d e =
-      told_clean v a d s e (taken_with (parts_of shape v a) step place kind (parts_taken shape v a s)
-      (λ next t g. λ x q. untold place next.0 next.1 kind t g x q) h)
+  module _ (proper : IsProper shape) (writes : WritesPayloads shape o) where
+    payload_clean : (u : ℕ) (url bytes : List ℕ) (x : Option Content) → meaning_of shape u bytes ≡ x → (e d : Data) → o.payloads u bytes ≡ Some e
+        → any_with shape url u e ≡ Some d → IsFaulty (payload_parts shape u x) → ⊥
+    payload_clean u url bytes None means e d q w b = (let bad : None ≡ Some e = sym (writes.by_none u bytes means) ∙ q in cc)
+    payload_clean u url bytes (Some p) means e d q w b = at (stands_beside shape u) refl w b
+      where
+        told : content_tree shape o p u ≡ Some e
+        told = sym (writes.by_content u bytes p means) ∙ q
+
+        at : (x : Bool) → stands_beside shape u ≡ x → (if x then with_type url e else Some (type_and_value url e)) ≡ Some d
+            → IsFaulty (if x then Ok (members true (declared_of shape u) (content.fields p) (content.kept p)) else Ok (payload u p)) → ⊥
+        at true is w b = beside_clean u url p e d (stands_object shape u is) told w b
+        at false is w b = none_below (Ok (payload u p)) (payload u p) refl (under_clean u p e told) b
+
+    any_clean : (url bytes : List ℕ) (x : Option ℕ) (d : Data) → payload_in shape o url bytes x ≡ Some d → IsFaulty (typed_parts shape bytes x) → ⊥
+    any_clean url bytes None d h b = cc
+    any_clean url bytes (Some u) d h b =
+        let it = from_then (any_with shape url u) (o.payloads u bytes) d h in
+        payload_clean u url bytes (meaning_of shape u bytes) refl it.0 d it.1 it.2 b
+
+    form_clean : (t : ℕ) (form : Form) (fs : Fields) (kept : List Rec) (d : Data) → form_of shape t ≡ form → AreSound shape (fields_of shape t) fs
+        → form_tree shape o t form fs kept (fields_tell shape o fs) ≡ Some d → IsFaulty (form_parts shape t form fs kept) → ⊥
+    form_clean t forms.Timestamp fs kept d e s h b = text_clean (timestamp_tree fs) d h b
+    form_clean t forms.Duration fs kept d e s h b = text_clean (duration_tree fs) d h b
+    form_clean t forms.FieldMask fs kept d e s h b = text_clean (mask_tree fs) d h b
+    form_clean t forms.Wrapper fs kept d e s h b = bare_clean b
+    form_clean t forms.Struct fs kept d e s h b = struct_clean t _ fs d h b
+    form_clean t forms.ListValue fs kept d e s h b = struct_clean t _ fs d h b
+    form_clean t forms.Value fs kept d e s h b = value_clean t fs kept d e s h b
+    form_clean t forms.Any fs kept d e s h b = any_clean (text_at (get 1 fs)) (bytes_at (get 2 fs)) (type_of_url shape (text_at (get 1 fs))) d h b
+    form_clean t _ fs kept d e s h b = absurd (cc)
+
+    -- ---- values
+
+    told_clean : (v : Val) (a : Asked) (d : Data) → IsAsked shape a v → tells shape o v a ≡ Some d → IsFaulty (parts_of shape v a) → ⊥
+    told_clean (content.number z) a d s h b = bare_clean b
+    told_clean (content.truth z) a d s h b = bare_clean b
+    told_clean (content.text z) a d s h b = bare_clean b
+    told_clean (content.octets z) a d s h b = bare_clean b
+    told_clean (content.many vs) a d s h b = many_clean (kind_asked a) vs d h b
+    told_clean (content.keyed ps) a d s h b = entries_clean (kind_asked a) ps d h b
+    told_clean (content.message (content.content fs kept)) a d s h b = at (is_object_type shape (type_of (kind_asked a))) h b
+      where
+        t : ℕ
+        t = type_of (kind_asked a)
+
+        no_type : false ≡ true → ⊥
+        no_type e = cc
+
+        sound : AreSound shape (fields_of shape t) fs
+        sound = (message_asked shape a (content.content fs kept) s).1
+
+        at : (x : Bool)
+            → (if x then object_tree shape o (declared_of shape t) fs kept (fields_tell shape o fs)
+            else own_tree shape o t fs kept (fields_tell shape o fs)) ≡ Some d
+            → IsFaulty (if x then Ok (members false (declared_of shape t) fs kept) else form_parts shape t (form_of shape t) fs kept) → ⊥
+        at true q b =
+            none_below (Ok (members false (declared_of shape t) fs kept)) (members false (declared_of shape t) fs kept) refl
+            (members_clean (declared_of shape t) false fs kept d q (λ e. absurd (no_type e))) b
+        at false q b = form_clean t (form_of shape t) fs kept d refl sound q b
+
+    with_some : {X : Type 0} (P Q : X → Type 0) (x : Option X) → ((y : X) → x ≡ Some y → P y → Q y) → SomeWith x P → SomeWith x Q
+    with_some P Q None f h = h
+    with_some P Q (Some y) f h = f y refl h
+
+    taken_with : (t : Taken) (step : Step) (place : List Step) (kind : JsonKind) → AreTaken shape t
+        → ((next : Val × Asked) → IsAsked shape next.1 next.0 → WriteFaultAt shape o place next.0 next.1 kind → IsNeverTold next)
+        → OkWith t (λ parts. IsKeyFault o parts step place kind ⊎ SomeWith (into_written o parts step) (λ next. WriteFaultAt shape o place next.0 next.1 kind))
+        → IsFaulty t
+    taken_with (Err e) step place kind s f h = absurd h
+    taken_with (Ok parts) step place kind s f h = inr (parts, refl, (step, place, kind, broken h))
+      where
+        broken : IsKeyFault o parts step place kind ⊎ SomeWith (into_written o parts step) (λ next. WriteFaultAt shape o place next.0 next.1 kind)
+            → IsBroken parts step place kind
+        broken (inl b) = inl b
+        broken (inr b) =
+            inr (with_some (λ next. WriteFaultAt shape o place next.0 next.1 kind) IsNeverTold (into_written o parts step)
+            (λ next e g. f next (next_asked shape o parts step next s e) g) b)
+
+    -- a value with a fault at some place has no tree
+    pub untold : (place : List Step) (v : Val) (a : Asked) (kind : JsonKind) → IsAsked shape a v → WriteFaultAt shape o place v a kind
+        → (d : Data) → tells shape o v a ≡ Some d → ⊥
+    untold [] v a kind s h d e = told_clean v a d s e (inl (kind, h))
+    untold (step ∷ place) v a kind s h d e =
+        told_clean v a d s e (taken_with (parts_of shape v a) step place kind (parts_taken shape proper v a s)
+        (λ next t g. λ x q. untold place next.0 next.1 kind t g x q) h)

@@ -1,17 +1,22 @@
 -- What a message may have and has no tree has a fault in writing, so a content has a canonical tree exactly where writing it has no fault.
-use Rattle.std.proofs.Common.{◌≡◌, ◌⊎◌, inl, inr, ℕ, ◌==◌, ◌&&◌, ◌||◌, ◌++◌, ℤ, List, [], ◌∷◌, map as map_list, filter, Bool, true, false, if◌then◌else◌, Option, Some, None, option_map, refl, ap, sym, ◌∙◌, subst}
-use Rattle.std.specs.Prelude.{Result, Ok, Err}
+use Rattle.std.proofs.Common.{◌≡◌, ◌⊎◌, inl, inr, ℕ, zero, suc, ◌<◌, ◌≤◌, ◌==◌, ◌&&◌, ◌||◌, ◌++◌, ℤ, List, [], ◌∷◌, length, map as map_list, filter, codes, Bool, true, false, if◌then◌else◌, Option, Some, None, option_map, refl, ap, sym, ◌∙◌, subst, arith}
+use Rattle.std.specs.Prelude.{Result, Ok, Err, option_and_then}
 use Rattle.std.specs.List.{list_any}
 use Rattle.std.specs.Str.{bytes_eq}
 use Rattle.std.proofs.lemmas.Slice.Eq.{bytes_eq-Decides}
-use Rattle.serde_json.specs.Data.{Data, null, array, object}
+use Rattle.serde_json.specs.Data.{Data, null, string, array, object, Members, put}
 use Rattle.pbx_wire.specs.declared.rec.Rec.{Rec}
 use Rattle.pbx_meaning.specs.Content as content
 use Rattle.pbx_meaning.specs.Content.{Content, Fields, Val, Vals, Pairs, get}
 use Rattle.pbx_meaning.specs.Encoding.{type_of}
-use Rattle.pbx_meaning.specs.Meaning.{zero_of}
+use Rattle.pbx_meaning.specs.Meaning.{zero_of, meaning_of}
+use Rattle.pbx_meaning.proofs.SoundLaw.{meaning_sound}
+use Rattle.pbx_payload_laws.specs.Inside.{AreShorter, AreFieldsShorter, IsValShorter, AreValsShorter, ArePairsShorter}
+use Rattle.pbx_payload_laws.proofs.Shrinks.{meaning_shrinks}
+use Rattle.pbx_json_payload_laws.proofs.Payloads.{nothing_means}
+use Rattle.pbx_json_payload_laws.proofs.Shorter.{bytes_short, get_shorter}
 use Rattle.pbx_meaning.specs.Shape.{declared_of, by_number, fields_of, field_of, is_float}
-use Rattle.pbx_meaning.specs.Sound.{IsSound, AreSound, IsSoundAt, AreElements, ArePairs, IsNumber}
+use Rattle.pbx_meaning.specs.Sound.{IsProper, IsSound, AreSound, IsSoundAt, AreElements, ArePairs, IsNumber}
 use Rattle.pbx_meaning.specs.declared.shape.Cardinality.{Cardinality}
 use Rattle.pbx_meaning.specs.declared.shape.Cardinality.TheVariants.{Singular, Repeated, Map}
 use Rattle.pbx_meaning.specs.declared.shape.Kind.{Kind}
@@ -24,31 +29,34 @@ use Rattle.pbx_wkt.specs.declared.form.Form.TheVariants as forms
 use Rattle.pbx_wkt.proofs.Declared.{is_wrapped_kind}
 use Rattle.pbx_wkt.proofs.Forms.{wrapper_fields, struct_fields, list_fields}
 use Rattle.pbx_json_meaning.specs.Asked.{Asked, field, one, root, presence_by}
-use Rattle.pbx_json_meaning.specs.Canonical.{Line, Tells, key_of_field, is_kept_of, keeps_float, is_written_default, default_by, default_tree, default_line, told_line, lines, members_of_lines}
+use Rattle.pbx_json_meaning.specs.Canonical.{Writing, writing, has_key, with_member, with_type, type_and_value, any_with, payload_in, any_tree, Line, Tells, key_of_field, is_kept_of, keeps_float, is_written_default, default_by, default_tree, default_line, told_line, lines, members_of_lines}
 use Rattle.pbx_json_meaning.specs.Canonical.{object_tree, scalar_tree, field_tree, first_field, value_tree, form_tree, own_tree, kind_asked, items_of, entry_line, tells, content_tree, fields_tell, vals_tell, pairs_tell, number_by, truth_by, text_by, bytes_by}
 use Rattle.pbx_json_meaning.specs.Faults.{SomeWith, OkWith}
 use Rattle.pbx_json_meaning.specs.Laws.{CanonicalWithoutFault}
 use Rattle.pbx_json_meaning.specs.Scalars.{family}
-use Rattle.pbx_json_meaning.specs.Forms.{is_object_form, is_object_type, kind_in, kind_at, type_at, timestamp_tree, duration_tree, mask_tree}
+use Rattle.pbx_json_meaning.specs.Forms.{is_object_form, is_object_type, kind_in, kind_at, type_at, timestamp_tree, duration_tree, mask_tree, text_at, bytes_at}
+use Rattle.pbx_json_meaning.specs.Urls.{type_of_url, stands_beside}
 use Rattle.pbx_json_meaning.specs.Stands.{all_read, ok_of}
-use Rattle.pbx_json_meaning.specs.WriteFaults.{Parts, leaf, elements, keyed, members, Taken, as_leaf, several_parts, struct_parts, held_parts, value_parts, form_parts, content_parts, parts_of, into_written, key_in, value_keys, is_twice}
+use Rattle.pbx_json_meaning.specs.WriteFaults.{Parts, leaf, elements, keyed, members, payload, Taken, as_leaf, several_parts, struct_parts, held_parts, value_parts, payload_parts, typed_parts, any_parts, form_parts, content_parts, parts_of, into_written, key_in, value_keys, is_twice}
 use Rattle.pbx_json_meaning.specs.WriteFaults.{KeyBreaks, IsKeyFault, WriteFaultAt, WriteFault}
 use Rattle.pbx_json_meaning.specs.declared.kind.JsonKind.{JsonKind}
 use Rattle.pbx_json_meaning.specs.declared.kind.JsonKind.TheVariants as fault
-use Rattle.pbx_json_meaning.specs.declared.options.SerializeOptions.{SerializeOptions}
 use Rattle.pbx_json_meaning.specs.declared.place.Step.{Step}
 use Rattle.pbx_json_meaning.specs.declared.place.Step.TheVariants.{Key, Index}
 use Rattle.pbx_json_laws.proofs.FaultParts.{map_none}
 use Rattle.pbx_json_laws.proofs.HeldTrees.{get_first, is_message, nothing_held, tells_alike, tree_or, told_at, parts_alike}
-use Rattle.pbx_json_laws.proofs.LinesMade.{keys_of, is_bare, not_made, twice_append}
+use Rattle.pbx_json_laws.proofs.LinesMade.{keys_of, any_key, keys_made, is_bare, not_made, twice_append, twice_in_front, twice_behind}
 use Rattle.pbx_json_laws.proofs.ValueFields.{holds_several, IsOfValue, of_value}
 use Rattle.pbx_json_laws.proofs.WriteAsked.{IsAsked, number_asked, truth_asked, text_asked, octets_asked, message_asked, many_asked, keyed_asked, field_at, own_field, sound_at}
-use Rattle.pbx_json_laws.proofs.WriteClean.{value_lines, untold, default_keys}
+use Rattle.pbx_json_laws.proofs.WriteClean.{value_lines, untold, default_keys, keys_are, no_error, one_part}
 use Rattle.pbx_json_laws.proofs.WriteParts.{FaultOf, ElementFault, element_step, EntryFault, entry_keys, no_twice, entry_step, FieldFault, field_step}
-use Rattle.pbx_json_laws.proofs.Parts.{or_right, of_some}
+use Rattle.pbx_json_laws.proofs.Parts.{or_right, of_some, unless_some, from_map}
+use Rattle.pbx_json_laws.proofs.LongestBytes.{content_bound}
+use Rattle.pbx_json_laws.proofs.PayloadTrees.{WritesPayloads, writes_payloads}
+use Rattle.pbx_json_laws.proofs.TypeKeys.{stands_object}
 use Rattle.pbx_json_laws.proofs.DefaultsBack.{written_default}
 
-module _ (shape : Shape) (o : SerializeOptions) where
+module _ (shape : Shape) (o : Writing) where
   -- ---- scalars and defaults have trees
 
   number_there : (k : Kind) (z : ℤ) → IsNumber k z → number_by shape o k (family k) z ≡ None → ⊥
@@ -238,7 +246,7 @@ module _ (shape : Shape) (o : SerializeOptions) where
   held_faulty u form (content.content fs kept) e s h = at form s (subst FaultsOf (ap parts e) h)
     where
       parts : Form → Taken
-      parts x = if is_object_form x then Ok (members (declared_of shape u) fs kept) else form_parts shape u x fs kept
+      parts x = if is_object_form x then Ok (members false (declared_of shape u) fs kept) else form_parts shape u x fs kept
 
       at : (x : Form) → holds_several x ≡ true → FaultsOf (parts x) → FaultsOf (held_parts shape u x (Some (content.message (content.content fs kept))))
       at forms.Struct s q = q
@@ -298,41 +306,45 @@ module _ (shape : Shape) (o : SerializeOptions) where
       at true q = inl (fault.Float, refl)
       at false q = told fs s each q
 
+  -- an `Any` without a tree has a fault
+  abbrev IsAnyFaulty : Fields → Type 0
+  IsAnyFaulty fs = any_tree shape o (text_at (get 1 fs)) (bytes_at (get 2 fs)) ≡ None → FaultsOf (any_parts shape fs)
+
   form_faulty : (t : ℕ) (form : Form) → form_of shape t ≡ form → (fs : Fields) (kept : List Rec) → AreSound shape (fields_of shape t) fs → AreFaulty fs
-      → form_tree shape o t form fs kept (fields_tell shape o fs) ≡ None → FaultsOf (form_parts shape t form fs kept)
-  form_faulty t forms.Timestamp e fs kept s each h = text_faulty (timestamp_tree fs) h
-  form_faulty t forms.Duration e fs kept s each h = text_faulty (duration_tree fs) h
-  form_faulty t forms.FieldMask e fs kept s each h = text_faulty (mask_tree fs) h
-  form_faulty t forms.Wrapper e fs kept s each h = absurd (wrapper_there t e fs s h)
-  form_faulty t forms.Struct e fs kept s each h =
+      → IsAnyFaulty fs → form_tree shape o t form fs kept (fields_tell shape o fs) ≡ None → FaultsOf (form_parts shape t form fs kept)
+  form_faulty t forms.Timestamp e fs kept s each any h = text_faulty (timestamp_tree fs) h
+  form_faulty t forms.Duration e fs kept s each any h = text_faulty (duration_tree fs) h
+  form_faulty t forms.FieldMask e fs kept s each any h = text_faulty (mask_tree fs) h
+  form_faulty t forms.Wrapper e fs kept s each any h = absurd (wrapper_there t e fs s h)
+  form_faulty t forms.Struct e fs kept s each any h =
       let has = struct_fields shape t e in
       struct_faulty t has.fields.has.field _ fs has.fields.has.there (ap is_single has.fields.has.of_cardinality) s each h
-  form_faulty t forms.ListValue e fs kept s each h =
+  form_faulty t forms.ListValue e fs kept s each any h =
       let has = list_fields shape t e in
       struct_faulty t has.values.has.field _ fs has.values.has.there (ap is_single has.values.has.of_cardinality) s each h
-  form_faulty t forms.Value e fs kept s each h = value_message_faulty t fs kept e s each h
-  form_faulty t forms.FloatWrapper e fs kept s each h = inl (fault.Float, refl)
-  form_faulty t forms.Misshapen e fs kept s each h = inl (fault.Shape, refl)
-  form_faulty t forms.Fields e fs kept s each h = inl (fault.NotBuilt, refl)
-  form_faulty t forms.Any e fs kept s each h = inl (fault.NotBuilt, refl)
-  form_faulty t forms.Empty e fs kept s each h = inl (fault.NotBuilt, refl)
+  form_faulty t forms.Value e fs kept s each any h = value_message_faulty t fs kept e s each h
+  form_faulty t forms.FloatWrapper e fs kept s each any h = inl (fault.Float, refl)
+  form_faulty t forms.Misshapen e fs kept s each any h = inl (fault.Shape, refl)
+  form_faulty t forms.Fields e fs kept s each any h = inl (fault.WrongKind, refl)
+  form_faulty t forms.Any e fs kept s each any h = any h
+  form_faulty t forms.Empty e fs kept s each any h = inl (fault.WrongKind, refl)
 
   -- ---- objects
 
   message_fault : (t : ℕ) (fs : Fields) (kept : List Rec) → AreSound shape (by_number (declared_of shape t)) fs
       → ((ys : List Line) → list_any is_bare ys ≡ false → list_any is_bare (value_lines shape o (declared_of shape t) fs ++ ys) ≡ true
       → FieldFault shape o (declared_of shape t) fs)
-      → AreFaulty fs → content_tree shape o (content.content fs kept) t ≡ None → FaultsOf (content_parts shape t (content.content fs kept))
-  message_fault t fs kept sound each own h = known (is_object_type shape t) h
+      → AreFaulty fs → IsAnyFaulty fs → content_tree shape o (content.content fs kept) t ≡ None → FaultsOf (content_parts shape t (content.content fs kept))
+  message_fault t fs kept sound each own any h = known (is_object_type shape t) h
     where
       gs : List FieldShape
       gs = declared_of shape t
 
-      at_key : (s : List ℕ) (kind : JsonKind) → KeyBreaks o (members (declared_of shape t) fs kept) s kind
-          → FaultsOf (Ok (members (declared_of shape t) fs kept))
-      at_key s kind b = inr (members (declared_of shape t) fs kept, refl, (Key s, [], kind, inl (refl, b)))
+      at_key : (s : List ℕ) (kind : JsonKind) → KeyBreaks o (members false (declared_of shape t) fs kept) s kind
+          → FaultsOf (Ok (members false (declared_of shape t) fs kept))
+      at_key s kind b = inr (members false (declared_of shape t) fs kept, refl, (Key s, [], kind, inl (refl, b)))
 
-      by_field : FieldFault shape o (declared_of shape t) fs → FaultsOf (Ok (members (declared_of shape t) fs kept))
+      by_field : FieldFault shape o (declared_of shape t) fs → FaultsOf (Ok (members false (declared_of shape t) fs kept))
       by_field (inr it) =
           at_key it.0 fault.DuplicateField (twice_append it.0 (value_keys o (declared_of shape t) fs)
           (map_list (key_of_field o) (filter (is_written_default o fs) (declared_of shape t))) it.1)
@@ -340,23 +352,23 @@ module _ (shape : Shape) (o : SerializeOptions) where
           let place = it.3.0 in
           let kind = it.3.1 in
           let P : Option (Val × Asked) → Type 0 = λ x. SomeWith x (λ next. WriteFaultAt shape o place next.0 next.1 kind) in
-          inr (members (declared_of shape t) fs kept, refl, (Key it.0, place, kind, inr (subst P (sym it.2) it.3.2)))
+          inr (members false (declared_of shape t) fs kept, refl, (Key it.0, place, kind, inr (subst P (sym it.2) it.3.2)))
 
       not_lines : (list_any is_bare (lines shape o (declared_of shape t) fs (fields_tell shape o fs)) ≡ true)
           ⊎ ((s : List ℕ) × (is_twice s (keys_of (lines shape o (declared_of shape t) fs (fields_tell shape o fs))) ≡ true))
-          → FaultsOf (Ok (members (declared_of shape t) fs kept))
+          → FaultsOf (Ok (members false (declared_of shape t) fs kept))
       not_lines (inl e) =
           by_field (each (map_list (default_line shape o) (filter (is_written_default o fs) (declared_of shape t))) (no_default_bare fs (declared_of shape t)) e)
       not_lines (inr e) =
           at_key e.0 fault.DuplicateField
           (ap (is_twice e.0) (sym (keys_sound (declared_of shape t) (filter (is_written_default o fs) (declared_of shape t)) fs sound)) ∙ e.1)
 
-      by_float : list_any (λ f. is_float f.kind && is_kept_of kept f) (declared_of shape t) ≡ true → FaultsOf (Ok (members (declared_of shape t) fs kept))
+      by_float : list_any (λ f. is_float f.kind && is_kept_of kept f) (declared_of shape t) ≡ true → FaultsOf (Ok (members false (declared_of shape t) fs kept))
       by_float e = let it = float_key kept (declared_of shape t) e in at_key it.0 fault.Float it.1
 
       kept_case : (b : Bool) → keeps_float (declared_of shape t) kept ≡ b
           → (if b then None else option_map object (members_of_lines (lines shape o (declared_of shape t) fs (fields_tell shape o fs)))) ≡ None
-          → FaultsOf (Ok (members (declared_of shape t) fs kept))
+          → FaultsOf (Ok (members false (declared_of shape t) fs kept))
       kept_case true e q = by_float e
       kept_case false e q =
           not_lines (not_made (lines shape o (declared_of shape t) fs (fields_tell shape o fs))
@@ -365,9 +377,9 @@ module _ (shape : Shape) (o : SerializeOptions) where
       known : (b : Bool)
           → (if b then object_tree shape o (declared_of shape t) fs kept (fields_tell shape o fs)
           else own_tree shape o t fs kept (fields_tell shape o fs)) ≡ None
-          → FaultsOf (if b then Ok (members (declared_of shape t) fs kept) else form_parts shape t (form_of shape t) fs kept)
+          → FaultsOf (if b then Ok (members false (declared_of shape t) fs kept) else form_parts shape t (form_of shape t) fs kept)
       known true q = kept_case (keeps_float (declared_of shape t) kept) refl q
-      known false q = form_faulty t (form_of shape t) refl fs kept sound own q
+      known false q = form_faulty t (form_of shape t) refl fs kept sound own any q
 
   -- ---- all values
 
@@ -398,72 +410,227 @@ module _ (shape : Shape) (o : SerializeOptions) where
       let bad : true ≡ false = sym e.1 ∙ ap (is_twice e.0) (entry_keys shape o k ps) ∙ never in
       absurd (cc)
 
-  mutual
-    -- what stands below a value without a tree
-    below_faulty : (v : Val) (a : Asked) → IsAsked shape a v → tells shape o v a ≡ None → FaultsOf (parts_of shape v a)
-    below_faulty (content.number z) a s h = absurd (number_there (kind_asked a) z (number_asked shape a z s) h)
-    below_faulty (content.truth b) a s h = absurd (truth_there (kind_asked a) b (truth_asked shape a b s) h)
-    below_faulty (content.text x) a s h = absurd (text_there (kind_asked a) x (text_asked shape a x s) h)
-    below_faulty (content.octets x) a s h = absurd (bytes_there (kind_asked a) x (octets_asked shape a x s) h)
-    below_faulty (content.message c) a s h = content_faulty c (type_of (kind_asked a)) (message_asked shape a c s) h
-    below_faulty (content.many vs) a s h =
-        elements_found (kind_asked a) vs (vals_faulty vs (kind_asked a) (many_asked shape a vs s)
-        (map_none (λ ds. array (items_of ds)) (all_read (λ (t : Tells). t (one (kind_asked a))) (vals_tell shape o vs)) h))
-    below_faulty (content.keyed ps) a s h =
-        let keys = keyed_asked shape a ps s in
-        entries_found (kind_asked a) ps (pairs_faulty ps keys.0 (kind_asked a) keys.1
-        (entry_bare keys.0 (kind_asked a) ps keys.1 (not_made (map_list (entry_line (kind_asked a)) (pairs_tell shape o ps))
-        (map_none object (members_of_lines (map_list (entry_line (kind_asked a)) (pairs_tell shape o ps))) h))))
+  -- ---- messages of `Any`
 
-    content_faulty : (c : Content) (t : ℕ) → IsSound shape t c → content_tree shape o c t ≡ None → FaultsOf (content_parts shape t c)
-    content_faulty (content.content fs kept) t s h =
-        message_fault t fs kept s.1 (λ ys none bare. fields_faulty fs (declared_of shape t) s.1 ys none bare) (each_faulty fs) h
+  -- a message without fields has no URL
+  bare_faulty : (t : ℕ) (kept : List Rec) → content_tree shape o (content.content content.no_fields kept) t ≡ None
+      → FaultsOf (content_parts shape t (content.content content.no_fields kept))
+  bare_faulty t kept h =
+      message_fault t content.no_fields kept tt (λ ys none bare. absurd (no_bare ys none bare)) (λ m v f k e s is q. absurd (no_field v e))
+      (λ q. inl (fault.AnyType, refl)) h
+    where
+      no_bare : (ys : List Line) → list_any is_bare ys ≡ false → list_any is_bare ys ≡ true → ⊥
+      no_bare ys p q = (let bad : true ≡ false = sym q ∙ p in cc)
 
-    each_faulty : (fs : Fields) → AreFaulty fs
-    each_faulty content.no_fields n v f k e s is h = absurd (cc)
-    each_faulty (content.field m w fs) n v f k e s is h = at (n == m) e (each_faulty fs n v f k) (below_faulty w (field f))
+      no_field : (v : Val) → None ≡ Some v → ⊥
+      no_field v e = cc
+
+  -- a fault of fields is one of the fields beside the type too
+  typed_faulty : (gs : List FieldShape) (fs : Fields) (kept : List Rec) → FaultsOf (Ok (members false gs fs kept)) → FaultsOf (Ok (members true gs fs kept))
+  typed_faulty gs fs kept (inl it) = absurd (no_error shape o (Ok (members false gs fs kept)) (members false gs fs kept) it.0 refl it.1)
+  typed_faulty gs fs kept (inr it) =
+      let step = it.2.0 in
+      let place = it.2.1 in
+      let kind = it.2.2 in
+      let P : Parts → Type 0 = λ parts.
+      IsKeyFault o parts step place kind ⊎ SomeWith (into_written o parts step) (λ next. WriteFaultAt shape o place next.0 next.1 kind) in
+      inr (members true gs fs kept, refl, (step, place, kind, lifted step place kind (subst P (sym (one_part shape o (Ok (members false gs fs kept)) (members false gs fs kept) it.0 refl it.1)) it.2.3)))
+    where
+      by_key : (s : List ℕ) (k : JsonKind) → KeyBreaks o (members false gs fs kept) s k → KeyBreaks o (members true gs fs kept) s k
+      by_key s fault.DuplicateField h =
+          twice_behind s (codes "@type") (value_keys o gs fs ++ map_list (key_of_field o) (filter (is_written_default o fs) gs)) h
+      by_key s fault.Float h = h
+      by_key s _ h = absurd h
+
+      lifted : (step : Step) (place : List Step) (k : JsonKind)
+          → (IsKeyFault o (members false gs fs kept) step place k
+          ⊎ SomeWith (into_written o (members false gs fs kept) step) (λ next. WriteFaultAt shape o place next.0 next.1 k))
+          → (IsKeyFault o (members true gs fs kept) step place k
+          ⊎ SomeWith (into_written o (members true gs fs kept) step) (λ next. WriteFaultAt shape o place next.0 next.1 k))
+      lifted (Key s) place k (inl b) = inl (b.0, by_key s k b.1)
+      lifted (Key s) place k (inr b) = inr b
+      lifted (Index i) place k (inl b) = absurd b
+      lifted (Index i) place k (inr b) = absurd b
+
+  -- the payload's fault is one of the `Any`
+  payload_faulty : (u : ℕ) (p : Content) → FaultsOf (content_parts shape u p) → FaultsOf (payload_parts shape u (Some p))
+  payload_faulty u (content.content fs kept) h = at (stands_beside shape u) refl
+    where
+      beside : (x : Bool) → x ≡ true → FaultsOf (if x then Ok (members false (declared_of shape u) fs kept) else form_parts shape u (form_of shape u) fs kept)
+          → FaultsOf (Ok (members true (declared_of shape u) fs kept))
+      beside true e q = typed_faulty (declared_of shape u) fs kept q
+      beside false e q = absurd (cc)
+
+      at : (x : Bool) → stands_beside shape u ≡ x
+          → FaultsOf (if x then Ok (members true (declared_of shape u) fs kept) else Ok (payload u (content.content fs kept)))
+      at true e = beside (is_object_type shape u) (stands_object shape u e) h
+      at false e =
+          let it = placed (content.message (content.content fs kept)) (one (kind.Message u)) h in
+          inr (payload u (content.content fs kept), refl, (Key (codes "value"), it.0, it.1, inr it.2))
+
+  -- the type's key is there already
+  key_faulty : (u : ℕ) (url : List ℕ) (fs : Fields) (kept : List Rec) (d : Data) → is_object_type shape u ≡ true
+      → content_tree shape o (content.content fs kept) u ≡ Some d → with_type url d ≡ None → FaultsOf (Ok (members true (declared_of shape u) fs kept))
+  key_faulty u url fs kept d object_type told w = at (is_object_type shape u) object_type told
+    where
+      at_lines : (ms : Members) → members_of_lines (lines shape o (declared_of shape u) fs (fields_tell shape o fs)) ≡ Some ms → object ms ≡ d
+          → FaultsOf (Ok (members true (declared_of shape u) fs kept))
+      at_lines ms made is =
+          let none : with_type url (object ms) ≡ None = ap (with_type url) is ∙ w in
+          let has : has_key (codes "@type") ms ≡ true = taken (has_key (codes "@type") ms) ms (map_none object (with_member (codes "@type") (string url) ms) none) in
+          let keys = keys_are shape o (declared_of shape u) (filter (is_written_default o fs) (declared_of shape u)) fs ms made in
+          let among : any_key (codes "@type") (value_keys o (declared_of shape u) fs ++ map_list (key_of_field o) (filter (is_written_default o fs) (declared_of shape u))) ≡ true =
+          ap (any_key (codes "@type")) (sym keys) ∙ sym (keys_made (codes "@type") (lines shape o (declared_of shape u) fs (fields_tell shape o fs)) ms made) ∙ has in
+          inr (
+            members true (declared_of shape u) fs kept,
+            refl,
+            (
+              Key (codes "@type"),
+              [],
+              fault.DuplicateField,
+              inl (
+                refl,
+                twice_in_front (codes "@type") (codes "@type") (value_keys o (declared_of shape u) fs
+                    ++ map_list (key_of_field o) (filter (is_written_default o fs) (declared_of shape u))) refl among,
+              ),
+            ),
+          )
+        where
+          taken : (x : Bool) (ns : Members) → (if x then None else Some (put (codes "@type") (string url) ns)) ≡ None → x ≡ true
+          taken true ns q = refl
+          taken false ns q = absurd (cc)
+
+      at : (x : Bool) → x ≡ true
+          → (if x then object_tree shape o (declared_of shape u) fs kept (fields_tell shape o fs) else own_tree shape o u fs kept (fields_tell shape o fs)) ≡ Some d
+          → FaultsOf (Ok (members true (declared_of shape u) fs kept))
+      at false q h = absurd (cc)
+      at true q h =
+          let free = unless_some (keeps_float (declared_of shape u) kept)
+          (option_map object (members_of_lines (lines shape o (declared_of shape u) fs (fields_tell shape o fs)))) d h in
+          let made = from_map object (members_of_lines (lines shape o (declared_of shape u) fs (fields_tell shape o fs))) d free.1 in
+          at_lines made.0 made.1 made.2
+
+  -- the payload has a tree, and the `Any` has none
+  joined_faulty : (u : ℕ) (url : List ℕ) (p : Content) (d : Data) → content_tree shape o p u ≡ Some d → any_with shape url u d ≡ None
+      → FaultsOf (payload_parts shape u (Some p))
+  joined_faulty u url (content.content fs kept) d told h = at (stands_beside shape u) refl h
+    where
+      at : (x : Bool) → stands_beside shape u ≡ x → (if x then with_type url d else Some (type_and_value url d)) ≡ None
+          → FaultsOf (if x then Ok (members true (declared_of shape u) fs kept) else Ok (payload u (content.content fs kept)))
+      at true e q = key_faulty u url fs kept d (stands_object shape u e) told q
+      at false e q = absurd (cc)
+
+  -- what is known of payloads, which are shorter than what holds them
+  abbrev AreInner : ℕ → Type 0
+  AreInner size =
+      (u : ℕ) (bytes : List ℕ) (p : Content) → 0 < length bytes → length bytes < size → meaning_of shape u bytes ≡ Some p → content_tree shape o p u ≡ None
+      → FaultsOf (content_parts shape u p)
+
+  module _ (writes : WritesPayloads shape o) (size : ℕ) (some : 0 < size) (inner : AreInner size) where
+    inner_faulty : (u : ℕ) (bytes : List ℕ) (p : Content) → length bytes < size → meaning_of shape u bytes ≡ Some p → content_tree shape o p u ≡ None
+        → FaultsOf (content_parts shape u p)
+    inner_faulty u (x ∷ xs) p below means h = inner u (x ∷ xs) p (omega arith) below means h
+    inner_faulty u [] p below means h =
+        let bare : content.content content.no_fields [] ≡ p =
+        of_some (content.content content.no_fields []) p (sym (nothing_means shape 100 (fields_of shape u)) ∙ means) in
+        subst (λ c. FaultsOf (content_parts shape u c)) bare (bare_faulty u [] (ap (λ c. content_tree shape o c u) bare ∙ h))
+
+    any_faulty : (url bytes : List ℕ) (x : Option ℕ) → length bytes < size → payload_in shape o url bytes x ≡ None → FaultsOf (typed_parts shape bytes x)
+    any_faulty url bytes None below h = inl (fault.AnyType, refl)
+    any_faulty url bytes (Some u) below h = by_meaning (meaning_of shape u bytes) refl
       where
-        at : (b : Bool) → (if b then Some w else get n fs) ≡ Some v
-            → (get n fs ≡ Some v → IsSoundAt shape (Some f) v → f.kind ≡ k → tells shape o v (one k) ≡ None → FaultsOf (parts_of shape v (one k)))
-            → (IsSoundAt shape (Some f) w → tells shape o w (field f) ≡ None → FaultsOf (parts_of shape w (field f)))
-            → FaultsOf (parts_of shape v (one k))
-        at false q later own = later q s is h
-        at true q later own =
-            let same : v ≡ w = sym (of_some w v q) in
-            let sound : IsSoundAt shape (Some f) w = subst (λ x. IsSoundAt shape (Some f) x) same s in
-            let untold : tells shape o w (field f) ≡ None =
-            tells_alike shape o w (field f) (one k) is ∙ ap (λ x. tells shape o x (one k)) (sym same) ∙ h in
-            subst FaultsOf (ap (λ x. parts_of shape x (field f)) (sym same) ∙ parts_alike shape v (field f) (one k) is) (own sound untold)
+        by_tree : (p : Content) → meaning_of shape u bytes ≡ Some p → (x : Option Data) → content_tree shape o p u ≡ x → FaultsOf (payload_parts shape u (Some p))
+        by_tree p means None e = payload_faulty u p (inner_faulty u bytes p below means e)
+        by_tree p means (Some d) e =
+            joined_faulty u url p d e (sym (ap (option_and_then (any_with shape url u)) (writes.by_content u bytes p means ∙ e)) ∙ h)
 
-    fields_faulty : (fs : Fields) (gs : List FieldShape) → AreSound shape (by_number gs) fs → (ys : List Line) → list_any is_bare ys ≡ false
-        → list_any is_bare (value_lines shape o gs fs ++ ys) ≡ true → FieldFault shape o gs fs
-    fields_faulty content.no_fields gs s ys none h = absurd (let bad : true ≡ false = sym h ∙ none in cc)
-    fields_faulty (content.field n v fs) gs s ys none h =
-        let own = own_field shape n v gs s.0 in
-        field_step shape o gs n v fs ys own.0 own.1 (λ q. placed v (field own.0) (below_faulty v (field own.0) own.2 q))
-        (λ q. fields_faulty fs gs s.1 ys none q) h
+        by_meaning : (x : Option Content) → meaning_of shape u bytes ≡ x → FaultsOf (payload_parts shape u x)
+        by_meaning None means = inl (fault.AnyPayload, refl)
+        by_meaning (Some p) means = by_tree p means (content_tree shape o p u) refl
 
-    vals_faulty : (vs : Vals) (k : Kind) → AreElements shape k vs → all_read (λ (t : Tells). t (one k)) (vals_tell shape o vs) ≡ None → ElementFault shape o k vs
-    vals_faulty content.no_vals k s h = absurd (cc)
-    vals_faulty (content.val v vs) k s h = element_step shape o k v vs (λ q. placed v (one k) (below_faulty v (one k) s.0 q)) (λ q. vals_faulty vs k s.1 q) h
+    mutual
+      -- what stands below a value without a tree
+      below_faulty : (v : Val) (a : Asked) → IsValShorter size v → IsAsked shape a v → tells shape o v a ≡ None → FaultsOf (parts_of shape v a)
+      below_faulty (content.number z) a below s h = absurd (number_there (kind_asked a) z (number_asked shape a z s) h)
+      below_faulty (content.truth b) a below s h = absurd (truth_there (kind_asked a) b (truth_asked shape a b s) h)
+      below_faulty (content.text x) a below s h = absurd (text_there (kind_asked a) x (text_asked shape a x s) h)
+      below_faulty (content.octets x) a below s h = absurd (bytes_there (kind_asked a) x (octets_asked shape a x s) h)
+      below_faulty (content.message c) a below s h = content_faulty c (type_of (kind_asked a)) below (message_asked shape a c s) h
+      below_faulty (content.many vs) a below s h =
+          elements_found (kind_asked a) vs (vals_faulty vs (kind_asked a) below (many_asked shape a vs s)
+          (map_none (λ ds. array (items_of ds)) (all_read (λ (t : Tells). t (one (kind_asked a))) (vals_tell shape o vs)) h))
+      below_faulty (content.keyed ps) a below s h =
+          let keys = keyed_asked shape a ps s in
+          entries_found (kind_asked a) ps (pairs_faulty ps keys.0 (kind_asked a) below keys.1
+          (entry_bare keys.0 (kind_asked a) ps keys.1 (not_made (map_list (entry_line (kind_asked a)) (pairs_tell shape o ps))
+          (map_none object (members_of_lines (map_list (entry_line (kind_asked a)) (pairs_tell shape o ps))) h))))
 
-    pairs_faulty : (ps : Pairs) (kk k : Kind) → ArePairs shape kk k ps → list_any is_bare (map_list (entry_line k) (pairs_tell shape o ps)) ≡ true
-        → EntryFault shape o k ps
-    pairs_faulty content.no_pairs kk k s h = absurd (cc)
-    pairs_faulty (content.pair l v ps) kk k s h =
-        entry_step shape o kk k l v ps s (λ q. placed v (one k) (below_faulty v (one k) s.1 q)) (λ q. pairs_faulty ps kk k s.3 q) h
+      content_faulty : (c : Content) (t : ℕ) → AreShorter size c → IsSound shape t c → content_tree shape o c t ≡ None → FaultsOf (content_parts shape t c)
+      content_faulty (content.content fs kept) t below s h =
+          message_fault t fs kept s.1 (λ ys none bare. fields_faulty fs (declared_of shape t) below s.1 ys none bare) (each_faulty fs below)
+          (λ q. any_faulty (text_at (get 1 fs)) (bytes_at (get 2 fs)) (type_of_url shape (text_at (get 1 fs)))
+          (bytes_short size some (get 2 fs) (get_shorter size 2 fs below)) q) h
+
+      each_faulty : (fs : Fields) → AreFieldsShorter size fs → AreFaulty fs
+      each_faulty content.no_fields below n v f k e s is h = absurd (cc)
+      each_faulty (content.field m w fs) below n v f k e s is h =
+          at (n == m) e (each_faulty fs below.1 n v f k) (below_faulty w (field f) below.0)
+        where
+          at : (b : Bool) → (if b then Some w else get n fs) ≡ Some v
+              → (get n fs ≡ Some v → IsSoundAt shape (Some f) v → f.kind ≡ k → tells shape o v (one k) ≡ None → FaultsOf (parts_of shape v (one k)))
+              → (IsSoundAt shape (Some f) w → tells shape o w (field f) ≡ None → FaultsOf (parts_of shape w (field f)))
+              → FaultsOf (parts_of shape v (one k))
+          at false q later own = later q s is h
+          at true q later own =
+              let same : v ≡ w = sym (of_some w v q) in
+              let sound : IsSoundAt shape (Some f) w = subst (λ x. IsSoundAt shape (Some f) x) same s in
+              let untold : tells shape o w (field f) ≡ None =
+              tells_alike shape o w (field f) (one k) is ∙ ap (λ x. tells shape o x (one k)) (sym same) ∙ h in
+              subst FaultsOf (ap (λ x. parts_of shape x (field f)) (sym same) ∙ parts_alike shape v (field f) (one k) is) (own sound untold)
+
+      fields_faulty : (fs : Fields) (gs : List FieldShape) → AreFieldsShorter size fs → AreSound shape (by_number gs) fs → (ys : List Line) → list_any is_bare ys ≡ false
+          → list_any is_bare (value_lines shape o gs fs ++ ys) ≡ true → FieldFault shape o gs fs
+      fields_faulty content.no_fields gs below s ys none h = absurd (let bad : true ≡ false = sym h ∙ none in cc)
+      fields_faulty (content.field n v fs) gs below s ys none h =
+          let own = own_field shape n v gs s.0 in
+          field_step shape o gs n v fs ys own.0 own.1 (λ q. placed v (field own.0) (below_faulty v (field own.0) below.0 own.2 q))
+          (λ q. fields_faulty fs gs below.1 s.1 ys none q) h
+
+      vals_faulty : (vs : Vals) (k : Kind) → AreValsShorter size vs → AreElements shape k vs → all_read (λ (t : Tells). t (one k)) (vals_tell shape o vs) ≡ None → ElementFault shape o k vs
+      vals_faulty content.no_vals k below s h = absurd (cc)
+      vals_faulty (content.val v vs) k below s h =
+          element_step shape o k v vs (λ q. placed v (one k) (below_faulty v (one k) below.0 s.0 q)) (λ q. vals_faulty vs k below.1 s.1 q) h
+
+      pairs_faulty : (ps : Pairs) (kk k : Kind) → ArePairsShorter size ps → ArePairs shape kk k ps → list_any is_bare (map_list (entry_line k) (pairs_tell shape o ps)) ≡ true
+          → EntryFault shape o k ps
+      pairs_faulty content.no_pairs kk k below s h = absurd (cc)
+      pairs_faulty (content.pair l v ps) kk k below s h =
+          entry_step shape o kk k l v ps s (λ q. placed v (one k) (below_faulty v (one k) below.0 s.1 q)) (λ q. pairs_faulty ps kk k below.1 s.3 q) h
+
+  -- payloads in payloads end, as they are shorter
+  pub found_within : (proper : IsProper shape) (writes : WritesPayloads shape o) (m size : ℕ) → size ≤ m → 0 < size → (c : Content) (t : ℕ) → AreShorter size c → IsSound shape t c
+      → content_tree shape o c t ≡ None → FaultsOf (content_parts shape t c)
+  found_within proper writes zero size le some c t below sound h = absurd (omega arith)
+  found_within proper writes (suc m) size le some c t below sound h =
+      content_faulty writes size some
+      (λ u bytes p some_bytes short means none.
+      found_within proper writes m (length bytes) (omega arith) some_bytes p u (meaning_shrinks shape 100 (fields_of shape u) bytes p means)
+      (meaning_sound shape 100 u bytes p proper means).0 none) c t below sound h
 
 pub canonical_without_fault : CanonicalWithoutFault
 canonical_without_fault shape t c o proper sound = (clean, found)
   where
-    clean : (d : Data) × (content_tree shape o c t ≡ Some d) → (place : List Step) (kind : JsonKind) → ¬ WriteFault shape t c o place kind
-    clean it place kind h = untold shape o place (content.message c) (root t) kind (t, refl, sound) h it.0 it.1
+    clean : (d : Data) × (content_tree shape (writing shape o) c t ≡ Some d) → (place : List Step) (kind : JsonKind) → ¬ WriteFault shape t c o place kind
+    clean it place kind h =
+        untold shape (writing shape o) proper (writes_payloads shape o) place (content.message c) (root t) kind (t, refl, sound) h it.0 it.1
 
-    found : ((place : List Step) (kind : JsonKind) → ¬ WriteFault shape t c o place kind) → (d : Data) × (content_tree shape o c t ≡ Some d)
-    found f = at (content_tree shape o c t) refl
+    found : ((place : List Step) (kind : JsonKind) → ¬ WriteFault shape t c o place kind) → (d : Data) × (content_tree shape (writing shape o) c t ≡ Some d)
+    found f = at (content_tree shape (writing shape o) c t) refl
       where
-        at : (x : Option Data) → content_tree shape o c t ≡ x → (d : Data) × (content_tree shape o c t ≡ Some d)
+        at : (x : Option Data) → content_tree shape (writing shape o) c t ≡ x → (d : Data) × (content_tree shape (writing shape o) c t ≡ Some d)
         at (Some d) e = (d, e)
         at None e =
-            let it = placed shape o (content.message c) (root t) (content_faulty shape o c t sound e) in
+            let bound = content_bound c in
+            let faults = found_within shape (writing shape o) proper (writes_payloads shape o) bound.0 bound.0 (omega arith) bound.1 c t bound.2 sound e in
+            let it = placed shape (writing shape o) (content.message c) (root t) faults in
             absurd (f it.0 it.1 it.2)

@@ -5,7 +5,7 @@ use Rattle.std.specs.Str.{bytes_eq}
 use Rattle.std.proofs.lemmas.Slice.Eq.{bytes_eq-Decides}
 use Rattle.serde_json.specs.Data.{Data}
 use Rattle.pbx_meaning.specs.Content as content
-use Rattle.pbx_meaning.specs.Content.{Content, Fields, Val, Vals, Pairs, key_before, get}
+use Rattle.pbx_meaning.specs.Content.{Fields, Val, Vals, Pairs, key_before}
 use Rattle.pbx_meaning.specs.Content.{Key as MapKey}
 use Rattle.pbx_meaning.specs.Shape.{field_of}
 use Rattle.pbx_meaning.specs.Sound.{IsKeyOf, IsBefore, ArePairs}
@@ -13,13 +13,12 @@ use Rattle.pbx_meaning.specs.declared.shape.Kind.{Kind}
 use Rattle.pbx_meaning.specs.declared.shape.FieldShape.{FieldShape}
 use Rattle.pbx_meaning.specs.declared.shape.Shape.{Shape}
 use Rattle.pbx_json_meaning.specs.Asked.{Asked, field, one}
-use Rattle.pbx_json_meaning.specs.Canonical.{Line, Tells, key_of_field, told_line, key_text, entry_line}
+use Rattle.pbx_json_meaning.specs.Canonical.{Writing, Line, Tells, key_of_field, told_line, key_text, entry_line}
 use Rattle.pbx_json_meaning.specs.Canonical.{tells, vals_tell, pairs_tell}
 use Rattle.pbx_json_meaning.specs.Scalars.{key_read}
 use Rattle.pbx_json_meaning.specs.Stands.{all_read}
 use Rattle.pbx_json_meaning.specs.WriteFaults.{val_at, val_under, is_under, asked_of, field_under, key_in, value_keys, is_twice, WriteFaultAt}
 use Rattle.pbx_json_meaning.specs.declared.kind.JsonKind.{JsonKind}
-use Rattle.pbx_json_meaning.specs.declared.options.SerializeOptions.{SerializeOptions}
 use Rattle.pbx_json_meaning.specs.declared.place.Step.{Step}
 use Rattle.pbx_json_laws.proofs.FaultParts.{map_none}
 use Rattle.pbx_json_laws.proofs.KeyOrder.{never_before_itself, before_through}
@@ -28,7 +27,7 @@ use Rattle.pbx_json_laws.proofs.Parts.{nor_of, one_ok}
 use Rattle.pbx_json_laws.proofs.ScalarsBack.{key_back}
 use Rattle.pbx_json_laws.proofs.WriteClean.{value_lines}
 
-module _ (shape : Shape) (o : SerializeOptions) where
+module _ (shape : Shape) (o : Writing) where
   -- a fault of the value, where this is asked of it
   abbrev pub FaultOf : Val → Asked → Type 0
   FaultOf v a = (place : List Step) × (kind : JsonKind) × WriteFaultAt shape o place v a kind

@@ -1,15 +1,15 @@
 // Laws that callers use in their proofs. They have no body.
-ghost use Rattle.pbx_json_meaning.specs.Laws.{StandsSound, StandingIsWritten, CanonicalStands, WrittenStands, StandsWithoutFault, CanonicalWithoutFault};
+ghost use Rattle.pbx_json_meaning.specs.Laws.{StandsSound, FittingIsWritten, CanonicalStands, WrittenStands, StandsWithoutFault, CanonicalWithoutFault};
 
 /// What a tree stands for may be held by a message of the type.
 pub fn stands_sound()
     ensures { StandsSound }
 {}
 
-/// What a tree stands for has a tree under any options, where no key has two meanings under them and well-known names
-/// have their shapes.
-pub fn standing_is_written()
-    ensures { StandingIsWritten }
+/// What a tree stands for has a tree under any options, where no key has two meanings under them, well-known names
+/// have their shapes, and the payloads of its `Any` messages are read again.
+pub fn fitting_is_written()
+    ensures { FittingIsWritten }
 {}
 
 /// What is written of it under the fields' JSON names stands for it again, and under any options where no JSON name

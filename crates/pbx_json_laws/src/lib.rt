@@ -7,7 +7,7 @@ mod laws;
 mod values;
 
 pub use laws::{
-    canonical_stands, canonical_without_fault, standing_is_written, stands_sound,
+    canonical_stands, canonical_without_fault, fitting_is_written, stands_sound,
     stands_without_fault,
 };
 pub use values::values_have_texts;

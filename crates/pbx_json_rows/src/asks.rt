@@ -56,13 +56,24 @@ pub(crate) fn read(alloc: Global, pool: &DescriptorPool, row: &Row) -> Result<St
     Ok(format!(in alloc; "{digits} {text}")?)
 }
 
+/// The message that bytes in hexadecimal digits mean.
+fn decoded(
+    alloc: Global,
+    pool: &DescriptorPool,
+    row: &Row,
+    digits: &str,
+) -> Result<DynamicMessage, Stop> {
+    let desc = type_of(pool, row)?;
+    let bytes = hex::decode(alloc, digits)?;
+    match DynamicMessage::decode(alloc, desc, bytes.as_slice()) {
+        Ok(message) => Ok(message),
+        Err(_) => Err(Stop::NoSuchWord),
+    }
+}
+
 /// The text of the message that bytes mean, under options by letters.
 pub(crate) fn written(alloc: Global, pool: &DescriptorPool, row: &Row) -> Result<String, Stop> {
-    let desc = type_of(pool, row)?;
-    let bytes = hex::decode(alloc, row.text(3))?;
-    let Ok(message) = DynamicMessage::decode(alloc, desc, bytes.as_slice()) else {
-        return Err(Stop::NoSuchWord);
-    };
+    let message = decoded(alloc, pool, row, row.text(3))?;
     let letters = row.text(2);
     let options = SerializeOptions::new()
         .stringify_64_bit_integers(!letters.contains('s'))
@@ -72,15 +83,26 @@ pub(crate) fn written(alloc: Global, pool: &DescriptorPool, row: &Row) -> Result
     text_of(alloc, &message, &options)
 }
 
-/// Whether the message that a text stands for nests few levels.
-pub(crate) fn levels(alloc: Global, pool: &DescriptorPool, row: &Row) -> Result<String, Stop> {
-    let message = message_of(alloc, pool, row, row.text(2), &DeserializeOptions::new())?;
-    let word = if fits_levels(alloc, &message)? {
+/// Whether the message and its payloads nest few levels, and the payloads decode.
+fn fits_word(alloc: Global, message: &DynamicMessage) -> Result<String, Stop> {
+    let word = if fits_levels(alloc, message)? {
         "fits"
     } else {
         "too deep"
     };
     Ok(String::from_str(alloc, word)?)
+}
+
+/// The same of the message that a text stands for.
+pub(crate) fn levels(alloc: Global, pool: &DescriptorPool, row: &Row) -> Result<String, Stop> {
+    let message = message_of(alloc, pool, row, row.text(2), &DeserializeOptions::new())?;
+    fits_word(alloc, &message)
+}
+
+/// The same of the message that bytes mean.
+pub(crate) fn fits(alloc: Global, pool: &DescriptorPool, row: &Row) -> Result<String, Stop> {
+    let message = decoded(alloc, pool, row, row.text(2))?;
+    fits_word(alloc, &message)
 }
 
 /// The first message with a key that has two meanings, and the key, or the first that has not the shape of its well-known name.

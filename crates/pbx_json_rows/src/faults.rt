@@ -24,7 +24,6 @@ fn kind_word(kind: JsonKind) -> &'static str {
         JsonKind::Shape => "Shape",
         JsonKind::AnyPayload => "AnyPayload",
         JsonKind::NoMemory => "NoMemory",
-        JsonKind::NotBuilt => "NotBuilt",
     }
 }
 

@@ -3,7 +3,8 @@
 //! A row has a word, what the word asks for, and then the bytes of a `FileDescriptorSet` in hexadecimal digits and the full name of a type of its
 //! pool. `read` has `deny` or `allow`, what becomes of unknown fields, and a JSON text, and asks for the bytes of the message that it stands for and
 //! the canonical text; `write` has letters for options (`s` integers of 64 bits as numbers, `e` enums as numbers, `p` fields under their own names,
-//! `d` defaults too) and the bytes of a message, and asks for its text; `levels` has a JSON text, and asks whether its message nests few levels.
+//! `d` defaults too) and the bytes of a message, and asks for its text; `levels` has a JSON text and `fits` the bytes of a message, and both ask
+//! whether the message and its payloads nest few levels, and the payloads decode.
 //! `deep` has a number, and asks the same of a tree of so many levels. `names` has the set alone, and asks for the first key that has two meanings.
 //!
 //! What is wanted is made by checks/json-rows.
@@ -14,7 +15,7 @@ mod deep;
 mod faults;
 mod stop;
 
-use asks::{levels, names, read, type_of, written};
+use asks::{fits, levels, names, read, type_of, written};
 use deep::deep;
 use pbx_link::DescriptorPool;
 use std::alloc::{AllocError, Global};
@@ -37,6 +38,7 @@ fn answer(alloc: Global, row: &Row) -> Result<String, Stop> {
         "read" => read(alloc, &pool, row),
         "write" => written(alloc, &pool, row),
         "levels" => levels(alloc, &pool, row),
+        "fits" => fits(alloc, &pool, row),
         "deep" => deep(alloc, type_of(&pool, row)?, row.number(2)),
         "names" => names(alloc, &pool),
         _ => Err(Stop::NoSuchWord),

@@ -1,6 +1,6 @@
 -- Among the fields and extensions of a message each name is found once.
 use Rattle.std.proofs.Common.{◌≡◌, ◌∙◌, ◌⊎◌, ℕ, ◌+◌, ◌≤◌, ◌&&◌, not, if◌then◌else◌, List, [], ◌∷◌, ◌++◌, map, Bool, true, false, Option, Some, None, refl, ap, sym, subst, inl, inr, arith}
-use Rattle.std.specs.Prelude.{Contains, find, filter}
+use Rattle.std.specs.Prelude.{Contains, codes, find, filter}
 use Rattle.std.specs.List.{flat_map, enumerate_from}
 use Rattle.std.specs.Str.{bytes_eq}
 use Rattle.std.proofs.lemmas.Slice.Eq.{bytes_eq-Decides}
@@ -23,6 +23,7 @@ use Rattle.pbx_described.proofs.Lists.{parts_back, parts_of_described}
 use Rattle.pbx_message_laws.specs.Pools.{IsPooled}
 use Rattle.pbx_message_laws.proofs.FieldNames.{field_named}
 use Rattle.pbx_json_meaning.specs.Names.{name_is, extension_is}
+use Rattle.pbx_json_meaning.specs.Urls.{is_type_key}
 use Rattle.pbx_json_shape_laws.proofs.Once.{find_only, find_none, count_fewer, count_left, count_none}
 use Rattle.pbx_json_shape_laws.proofs.Defined.{fields_once, extension_once}
 use Rattle.pbx_json_shape_laws.proofs.Places.{IsPart}
@@ -172,6 +173,26 @@ module _ (pool : List FileDescriptorProto) (pooled : ArePooled [] pool) (d : Des
       let x = of_field f c own_field in
       let named_so : is_ident f.name ≡ true = ap (λ (g : FieldShape). is_ident g.name) (sym x.2) ∙ ident x.0 of x.1 in
       find_none (extension_is f.name) fs (apart_by f.name named_so)
+
+  -- a field's name is no key of the type of an `Any`
+  pub field_plain : (f : FieldShape) → IsPooled d → Contains fs f → f.is_extension ≡ false → is_type_key f.name ≡ false
+  field_plain f of c own_field =
+      let x = of_field f c own_field in
+      let named_so : is_ident f.name ≡ true = ap (λ (g : FieldShape). is_ident g.name) (sym x.2) ∙ ident x.0 of x.1 in
+      at (is_type_key f.name) refl named_so
+    where
+      at : (b : Bool) → is_type_key f.name ≡ b → is_ident f.name ≡ true → b ≡ false
+      at false e named_so = refl
+      at true e named_so =
+          let same : f.name ≡ codes "@type" = are_same f.name (codes "@type") e in
+          let bad : true ≡ false = sym named_so ∙ ap is_ident same in
+          absurd (cc)
+
+  -- nor is an extension's name in brackets
+  pub extension_plain : (f : FieldShape) → Contains fs f → f.is_extension ≡ true → is_type_key f.json_name ≡ false
+  extension_plain f c extends =
+      let x = of_extension f c extends in
+      ap (λ (g : FieldShape). is_type_key g.json_name) (sym x.2)
 
   fields_unextended : (key : List ℕ) (ys : List (Described FieldDescriptorProto)) → count (extension_is key) (map field_shape ys) ≡ 0
   fields_unextended key [] = refl

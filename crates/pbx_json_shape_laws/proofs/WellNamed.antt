@@ -14,9 +14,10 @@ use Rattle.pbx_message_laws.specs.Pools.{IsPooled}
 use Rattle.pbx_json_meaning.specs.Canonical.{value_of_number}
 use Rattle.pbx_json_meaning.specs.Named.{IsOwn, IsExtension, IsWellNamed}
 use Rattle.pbx_json_meaning.specs.Names.{name_is, extension_is}
+use Rattle.pbx_json_meaning.specs.Urls.{is_type_key}
 use Rattle.pbx_json_meaning.specs.Scalars.{value_named}
 use Rattle.pbx_json_shape_laws.specs.Laws.{ShapesAreWellNamed}
-use Rattle.pbx_json_shape_laws.proofs.FieldsOnce.{field_found, field_apart, extension_found}
+use Rattle.pbx_json_shape_laws.proofs.FieldsOnce.{field_found, field_apart, field_plain, extension_plain, extension_found}
 use Rattle.pbx_json_shape_laws.proofs.Places.{IsMessageAt, message_at, IsEnumAt, enum_at, is_part, field_there}
 use Rattle.pbx_json_shape_laws.proofs.ValuesOnce.{value_found, numbers_fit}
 
@@ -75,6 +76,12 @@ shapes_are_well_named pool pooled numbers =
       extensions =
           λ t n f own. by_message pool pooled (λ fs g. find (extension_is g.json_name) fs ≡ Some g) true
           (λ d c g k e. extension_found pool pooled d (is_part messages pool d c) g k e) t n f own.0 own.1;
+      plain_names =
+          λ t n f own. by_message pool pooled (λ fs g. is_type_key g.name ≡ false) false
+          (λ d c g k e. field_plain pool pooled d (is_part messages pool d c) g (is_pooled pool pooled d c) k e) t n f own.0 own.1;
+      plain_extensions =
+          λ t n f own. by_message pool pooled (λ fs g. is_type_key g.json_name ≡ false) true
+          (λ d c g k e. extension_plain pool pooled d (is_part messages pool d c) g k e) t n f own.0 own.1;
       numbers = λ e. numbers_fit (map enum_shape (all_enums pool)) e numbers;
       values = λ e z v h. values pool pooled e z v h;
     }

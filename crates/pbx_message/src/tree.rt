@@ -2,15 +2,19 @@
 
 ghost use Rattle.std.specs.Prelude.{◌≡◌, IfOk, IfErr};
 ghost use Rattle.serde_json.specs.View.{view};
+ghost use Rattle.pbx_json_meaning.specs.Fits.{fits};
+ghost use Rattle.pbx_message.specs.Message.{shape_in, place_in};
 ghost use Rattle.pbx_message.specs.Trees.{IsRead, IsReadFault, IsUnread, IsWritten, IsWriteFault, IsUnwritten};
 
 use crate::message::DynamicMessage;
 use pbx_json_laws::{stands_sound, values_have_texts};
+use pbx_json_levels::fits as content_fits;
 use pbx_json_meaning::{DeserializeOptions, JsonError, JsonKind, Place, SerializeOptions};
 use pbx_json_reading::read_content;
 use pbx_json_shape_laws::shapes_are_well_named;
 use pbx_json_writing::write_content;
 use pbx_link::MessageDescriptor;
+use pbx_wire::NoMemory;
 use serde_json::Value;
 use std::alloc::Global;
 
@@ -70,5 +74,16 @@ impl DynamicMessage {
         };
         let place = self.desc.place(schema.as_ref());
         write_content(alloc, schema.as_ref(), place, &self.tree, options)
+    }
+
+    /// Whether at most 100 levels stand below the top, and each payload of a `google.protobuf.Any` in the message decodes as its
+    /// type within 100 levels of its own, payloads inside payloads too; a payload's type is a message of this one's pool. The only
+    /// error is want of memory, which may be the answer where messages and payloads nest more than 1,024 levels.
+    pub fn fits_levels(&self, alloc: Global) -> Result<bool, NoMemory>
+        ensures { IfOk result (λ yes. yes ≡ fits (shape_in self.now) (place_in self.now) self.now.content) }
+    {
+        let schema = self.desc.schema()?;
+        let place = self.desc.place(schema.as_ref());
+        content_fits(alloc, schema.as_ref(), place, &self.tree)
     }
 }

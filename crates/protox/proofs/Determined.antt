@@ -14,7 +14,7 @@ use Rattle.pbx_json_meaning.specs.Options.{default_writing}
 use Rattle.pbx_json_meaning.specs.Stands.{Stands}
 use Rattle.pbx_json_meaning.specs.declared.names_fault.NameFault.{NameFault}
 use Rattle.pbx_json_meaning.specs.declared.names_fault.NameFault.TheVariants as names
-use Rattle.pbx_json.specs.Fits.{fits}
+use Rattle.pbx_json_meaning.specs.Fits.{fits}
 use Rattle.pbx_described.specs.Shapes.{shape_of, place_of}
 use Rattle.pbx_parse.specs.declared.error.ParseError.TheVariants as parse
 use Rattle.protox_paths.specs.Paths.{resolved}
@@ -160,7 +160,7 @@ both_of_type name files P Q h k =
 fits_alone : (shape : Shape) (t : ℕ) (tree : Data) (wire : List ℕ) (written : Data) → Transcodes shape t tree wire written → IsTooDeep shape t tree → ⊥
 fits_alone shape t tree wire written h k =
     let same : h.0 ≡ k.0 = (let e : Some h.0 ≡ Some k.0 = sym h.1 ∙ k.1 in cc) in
-    not_both (fits h.0) h.2 (ap fits same ∙ k.2)
+    not_both (fits shape t h.0) h.2 (ap (fits shape t) same ∙ k.2)
 
 clear_alone : (files : List FileDescriptorProto) (fault : NameFault) → HaveClearNames files → name_fault false (shape_of files) ≡ Some fault → ⊥
 clear_alone files fault h k = nothing_there fault (sym h ∙ k)

@@ -1,5 +1,5 @@
 -- What a tree is transcoded to.
-use Rattle.std.proofs.Common.{◌≡◌, ◌≤◌, ◌<◌, ◌^◌, ◌∙◌, ◌⊎◌, inl, inr, ℕ, List, length, [], Bool, true, false, nat_le, Result, Ok, Err, IfOk, IfErr, Option, Some, None, ap, refl, sym, subst, leb-true}
+use Rattle.std.proofs.Common.{◌≡◌, ◌≤◌, ◌<◌, ◌^◌, ◌∙◌, ◌⊎◌, inl, inr, ℕ, List, length, [], Bool, true, false, ◌&&◌, nat_le, Result, Ok, Err, IfOk, IfErr, Option, Some, None, ap, refl, sym, subst, leb-true}
 use Rattle.std.specs.Str.{bytes_eq}
 use Rattle.serde_json.specs.Data.{Data}
 use Rattle.pbx_meaning.specs.Content.{Content}
@@ -16,7 +16,7 @@ use Rattle.pbx_described.specs.Shapes.{shape_of, place_of}
 use Rattle.pbx_pool_laws.specs.Pool.{ArePooled}
 use Rattle.pbx_message_laws.specs.Types.{PlaceHasType}
 use Rattle.pbx_json_meaning.specs.Canonical.{canonical}
-use Rattle.pbx_json_meaning.specs.Laws.{CanonicalStands, StandingIsWritten}
+use Rattle.pbx_json_meaning.specs.Laws.{CanonicalStands, FittingIsWritten}
 use Rattle.pbx_json_meaning.specs.Options.{default_reading, default_writing}
 use Rattle.pbx_json_meaning.specs.Stands.{Stands}
 use Rattle.pbx_json_meaning.specs.Trees.{HasTexts}
@@ -24,7 +24,7 @@ use Rattle.pbx_json_meaning.specs.declared.error.JsonError.{JsonError}
 use Rattle.pbx_json_meaning.specs.declared.kind.JsonKind.{JsonKind}
 use Rattle.pbx_json_meaning.specs.declared.kind.JsonKind.TheVariants as fault
 use Rattle.pbx_json_meaning.specs.declared.place.Step.{Step}
-use Rattle.pbx_json.specs.Fits.{fits}
+use Rattle.pbx_json_meaning.specs.Fits.{fits, payloads_fit}
 use Rattle.pbx_message.specs.Trees as read_specs
 use Rattle.protox.specs.Parts.{IsClear, IsNamed, IsNoSet, IsNotClear, IsNotNamed, IsNotTold, IsNotWritten, IsWritten}
 use Rattle.protox.proofs.Found.{has_place, found_at}
@@ -71,7 +71,6 @@ json_told d tree place fault.AnyValue read unread = told d tree _ (λ e. absurd 
 json_told d tree place fault.Float read unread = told d tree _ (λ e. absurd (cc)) read unread
 json_told d tree place fault.Shape read unread = told d tree _ (λ e. absurd (cc)) read unread
 json_told d tree place fault.AnyPayload read unread = told d tree _ (λ e. absurd (cc)) read unread
-json_told d tree place fault.NotBuilt read unread = told d tree _ (λ e. absurd (cc)) read unread
 json_told d tree place fault.NoMemory read unread = tt
 
 none : {X : Type 0} (e : JsonError) → ¬ (e.kind ≡ fault.NoMemory) → (e.kind ≡ fault.NoMemory) ⊎ X → X
@@ -99,20 +98,30 @@ json_unwritten d c place fault.AnyValue o = none (record { place = place; kind =
 json_unwritten d c place fault.Float o = none (record { place = place; kind = fault.Float }) (λ e. absurd (cc)) o
 json_unwritten d c place fault.Shape o = none (record { place = place; kind = fault.Shape }) (λ e. absurd (cc)) o
 json_unwritten d c place fault.AnyPayload o = none (record { place = place; kind = fault.AnyPayload }) (λ e. absurd (cc)) o
-json_unwritten d c place fault.NotBuilt o = none (record { place = place; kind = fault.NotBuilt }) (λ e. absurd (cc)) o
 json_unwritten d c place fault.NoMemory o = tt
 
 within : (n m : ℕ) → nat_le n m ≡ true → n ≤ m
 within n m h = leb-true n m h
 
+both_true : (a b : Bool) → (a && b) ≡ true → (a ≡ true) × (b ≡ true)
+both_true true b h = (refl, h)
+both_true false b h = absurd (cc)
+
+-- a message that fits nests few levels, and its payloads are read again
+few_levels : (shape : Shape) (t : ℕ) (c : Content) → fits shape t c ≡ true → depth c ≤ 100
+few_levels shape t c h = within (depth c) 100 (both_true (nat_le (depth c) 100) (payloads_fit shape t c) h).0
+
+payloads_read : (shape : Shape) (t : ℕ) (c : Content) → fits shape t c ≡ true → payloads_fit shape t c ≡ true
+payloads_read shape t c h = (both_true (nat_le (depth c) 100) (payloads_fit shape t c) h).1
+
 -- what is written stands for the content, and decodes to it
 pub transcodes : (d : Described DescriptorProto) (tree : Data) (c : Content) (wire : List ℕ) (written : Data) → EncodingDecodes → CanonicalStands
     → IsClear (shape_of d.pool) → HasTexts tree → Stands (shape_of d.pool) (place_of d) false tree c → IsSound (shape_of d.pool) (place_of d) c
-    → fits c ≡ true → IsWritten d c wire written → Transcodes (shape_of d.pool) (place_of d) tree wire written
+    → fits (shape_of d.pool) (place_of d) c ≡ true → IsWritten d c wire written → Transcodes (shape_of d.pool) (place_of d) tree wire written
 transcodes d tree c wire written decodes again clear texts stands sound fit h =
     let short : length (encoded (shape_of d.pool) (place_of d) c) < 2 ^ 64 = (let S : List ℕ → Type 0 = λ w. length w < 2 ^ 64 in subst S h.0 h.1) in
     let decoded : Decodes (shape_of d.pool) (place_of d) wire c = (let P : List ℕ → Type 0 = λ w. Decodes (shape_of d.pool) (place_of d) w c in
-    subst P (sym h.0) (decodes (shape_of d.pool) (place_of d) c clear.proper sound short (within (depth c) 100 fit))) in (
+    subst P (sym h.0) (decodes (shape_of d.pool) (place_of d) c clear.proper sound short (few_levels (shape_of d.pool) (place_of d) c fit))) in (
       c,
       stands,
       fit,
@@ -122,39 +131,46 @@ transcodes d tree c wire written decodes again clear texts stands sound fit h =
       again (shape_of d.pool) (place_of d) false tree written c default_writing clear.proper clear.named clear.clear texts refl stands h.2,
     )
 
-unwritten : (d : Described DescriptorProto) (tree : Data) (c : Content) → StandingIsWritten → IsClear (shape_of d.pool) → HasTexts tree
-    → Stands (shape_of d.pool) (place_of d) false tree c → canonical (shape_of d.pool) (place_of d) c default_writing ≡ None → ⊥
-unwritten d tree c written clear texts stands h =
-    let made = written (shape_of d.pool) (place_of d) false tree c default_writing clear.proper clear.named clear.clear texts stands in
+unwritten : (d : Described DescriptorProto) (tree : Data) (c : Content) → FittingIsWritten → IsClear (shape_of d.pool) → HasTexts tree
+    → Stands (shape_of d.pool) (place_of d) false tree c → fits (shape_of d.pool) (place_of d) c ≡ true
+    → canonical (shape_of d.pool) (place_of d) c default_writing ≡ None → ⊥
+unwritten d tree c written clear texts stands fit h =
+    let made =
+    written (shape_of d.pool) (place_of d) false tree c default_writing clear.proper clear.named clear.clear texts stands
+    (payloads_read (shape_of d.pool) (place_of d) c fit) in
     let bad : Some made.0 ≡ None = sym made.1 ∙ h in
     cc
 
 -- a content that a tree stands for is written
-pub not_told : (d : Described DescriptorProto) (tree : Data) (c : Content) (error : TopError) → StandingIsWritten → IsClear (shape_of d.pool) → HasTexts tree
-    → Stands (shape_of d.pool) (place_of d) false tree c
+pub not_told : (d : Described DescriptorProto) (tree : Data) (c : Content) (error : TopError) → FittingIsWritten → IsClear (shape_of d.pool) → HasTexts tree
+    → Stands (shape_of d.pool) (place_of d) false tree c → fits (shape_of d.pool) (place_of d) c ≡ true
     → IsNotWritten (canonical (shape_of d.pool) (place_of d) c default_writing) error → IsNotTold d tree error
-not_told d tree c (File error) written clear texts stands h = absurd (unwritten d tree c written clear texts stands h)
-not_told d tree c (JsonNames message key) written clear texts stands h = absurd (unwritten d tree c written clear texts stands h)
-not_told d tree c (WellKnownShape message) written clear texts stands h = absurd (unwritten d tree c written clear texts stands h)
-not_told d tree c (TypeNotFound n) written clear texts stands h = absurd (unwritten d tree c written clear texts stands h)
-not_told d tree c (Json e) written clear texts stands h = absurd (unwritten d tree c written clear texts stands h)
-not_told d tree c TooDeep written clear texts stands h = absurd (unwritten d tree c written clear texts stands h)
-not_told d tree c NoMemory written clear texts stands h = tt
+not_told d tree c (File error) written clear texts stands fit h = absurd (unwritten d tree c written clear texts stands fit h)
+not_told d tree c (JsonNames message key) written clear texts stands fit h = absurd (unwritten d tree c written clear texts stands fit h)
+not_told d tree c (WellKnownShape message) written clear texts stands fit h = absurd (unwritten d tree c written clear texts stands fit h)
+not_told d tree c (TypeNotFound n) written clear texts stands fit h = absurd (unwritten d tree c written clear texts stands fit h)
+not_told d tree c (Json e) written clear texts stands fit h = absurd (unwritten d tree c written clear texts stands fit h)
+not_told d tree c TooDeep written clear texts stands fit h = absurd (unwritten d tree c written clear texts stands fit h)
+not_told d tree c NoMemory written clear texts stands fit h = tt
 
 module _ (d e : Described DescriptorProto) (tree : Data) (c : Content) (same : e ≡ d) (clear : IsClear (shape_of d.pool)) (texts : HasTexts tree)
     (stands : Stands (shape_of d.pool) (place_of d) false tree c) where
   -- the same of a message of a type that is equal
-  pub transcoded_as : (wire : List ℕ) (written : Data) → EncodingDecodes → CanonicalStands → IsSound (shape_of e.pool) (place_of e) c → fits c ≡ true
+  pub transcoded_as : (wire : List ℕ) (written : Data) → EncodingDecodes → CanonicalStands → IsSound (shape_of e.pool) (place_of e) c
+      → fits (shape_of e.pool) (place_of e) c ≡ true
       → IsWritten e c wire written → Transcodes (shape_of d.pool) (place_of d) tree wire written
   transcoded_as wire written decodes again sound fit h =
       let S : Described DescriptorProto → Type 0 = λ x. IsSound (shape_of x.pool) (place_of x) c in
       let W : Described DescriptorProto → Type 0 = λ x. IsWritten x c wire written in
-      transcodes d tree c wire written decodes again clear texts stands (subst S same sound) fit (subst W same h)
+      let F : Described DescriptorProto → Type 0 = λ x. fits (shape_of x.pool) (place_of x) c ≡ true in
+      transcodes d tree c wire written decodes again clear texts stands (subst S same sound) (subst F same fit) (subst W same h)
 
-  pub not_told_as : (error : TopError) → StandingIsWritten → IsNotWritten (canonical (shape_of e.pool) (place_of e) c default_writing) error → IsNotTold d tree error
-  not_told_as error written h =
+  pub not_told_as : (error : TopError) → FittingIsWritten → fits (shape_of e.pool) (place_of e) c ≡ true
+      → IsNotWritten (canonical (shape_of e.pool) (place_of e) c default_writing) error → IsNotTold d tree error
+  not_told_as error written fit h =
+      let F : Described DescriptorProto → Type 0 = λ x. fits (shape_of x.pool) (place_of x) c ≡ true in
       let W : Described DescriptorProto → Type 0 = λ x. IsNotWritten (canonical (shape_of x.pool) (place_of x) c default_writing) error in
-      not_told d tree c error written clear texts stands (subst W same h)
+      not_told d tree c error written clear texts stands (subst F same fit) (subst W same h)
 
 -- ---- the type
 

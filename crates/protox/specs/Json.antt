@@ -28,7 +28,6 @@ kind_text kind.Float = codes "floating-point numbers are not supported"
 kind_text kind.Shape = codes "well-known type of another shape"
 kind_text kind.AnyPayload = codes "payload does not decode"
 kind_text kind.NoMemory = codes "out of memory"
-kind_text kind.NotBuilt = codes "not built yet"
 
 -- a step of a place: `.` and a key, or an index in brackets
 abbrev pub step_text : Step → List ℕ

@@ -23,7 +23,7 @@ use Rattle.pbx_json_meaning.specs.declared.kind.JsonKind.{JsonKind}
 use Rattle.pbx_json_meaning.specs.declared.kind.JsonKind.TheVariants as json
 use Rattle.pbx_json_meaning.specs.declared.names_fault.NameFault.{NameFault}
 use Rattle.pbx_json_meaning.specs.declared.names_fault.NameFault.TheVariants as names
-use Rattle.pbx_json.specs.Fits.{fits}
+use Rattle.pbx_json_meaning.specs.Fits.{fits}
 use Rattle.protox_file.specs.Lines.{long_line_of}
 use Rattle.protox_file.specs.Told.{Told, ByLookups}
 use Rattle.protox_file.specs.declared.error.ErrorKind.{ErrorKind}
@@ -43,7 +43,7 @@ most_files = 65536
 -- its canonical tree, which stands for it again.
 abbrev pub Transcodes : Shape → ℕ → Data → List ℕ → Data → Type 0
 Transcodes shape t tree wire written =
-    (c : Content) × Stands shape t false tree c × (fits c ≡ true) × Decodes shape t wire c × (wire ≡ encoded shape t c)
+    (c : Content) × Stands shape t false tree c × (fits shape t c ≡ true) × Decodes shape t wire c × (wire ≡ encoded shape t c)
     × (canonical shape t c default_writing ≡ Some written) × Stands shape t false written c
 
 -- the bytes are the canonical encoding of the set of the files, and decode to it file by file (Protocol Buffers `descriptor.proto`:
@@ -84,7 +84,7 @@ IsUnread shape t tree e =
 
 -- the tree stands for a message of the type that nests more than 100 levels
 abbrev pub IsTooDeep : Shape → ℕ → Data → Type 0
-IsTooDeep shape t tree = (c : Content) × Stands shape t false tree c × (fits c ≡ false)
+IsTooDeep shape t tree = (c : Content) × Stands shape t false tree c × (fits shape t c ≡ false)
 
 -- Why a type's name and a tree are refused among these linked files. A file is told first, then the names of the files' messages, their shapes, the
 -- type's name, and the tree.

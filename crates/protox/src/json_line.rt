@@ -32,7 +32,6 @@ fn kind_text(kind: JsonKind) -> &'static str
         JsonKind::Shape => "well-known type of another shape",
         JsonKind::AnyPayload => "payload does not decode",
         JsonKind::NoMemory => "out of memory",
-        JsonKind::NotBuilt => "not built yet",
     }
 }
 

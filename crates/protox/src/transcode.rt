@@ -22,7 +22,7 @@ use crate::input_tree::InputTree;
 use crate::set::set_of;
 use pbx_desc::Message;
 use pbx_json::{JsonMessage, check_names, fits_levels};
-use pbx_json_laws::{canonical_stands, standing_is_written, values_have_texts};
+use pbx_json_laws::{canonical_stands, fitting_is_written, values_have_texts};
 use pbx_json_shape_laws::shapes_are_well_named;
 use pbx_link::{DescriptorPool, MessageDescriptor};
 use pbx_meaning::encoding_decodes;
@@ -115,7 +115,7 @@ fn transcode_as(
 {
     // What the message is written as stands for it, and decodes to it.
     canonical_stands();
-    standing_is_written();
+    fitting_is_written();
     encoding_decodes();
     let message = match message_of(alloc, desc, tree) {
         Ok(message) => message,

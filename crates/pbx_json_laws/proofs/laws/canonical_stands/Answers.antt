@@ -1,4 +1,4 @@
-use Rattle.pbx_json_laws.proofs.Again.{canonical_stands, written_stands}
+use Rattle.pbx_json_laws.proofs.Rewritten.{canonical_stands, written_stands}
 use Rattle.pbx_json_laws.proofs.laws.canonical_stands.Goals as goal
 
 pub returns : goal.returns

@@ -1,6 +1,7 @@
 use Rattle.std.proofs.Common.{◌≡◌, ◌∙◌, sym, true}
 use Rattle.serde_json.specs.View.{view}
-use Rattle.pbx_json.specs.Fits.{fits}
+use Rattle.pbx_described.specs.Shapes.{shape_of, place_of}
+use Rattle.pbx_json_meaning.specs.Fits.{fits}
 use Rattle.protox.specs.Input.{data_of}
 use Rattle.protox.proofs.Transcoding.{ok_then, err_then, transcoded_as, not_told_as}
 use Rattle.protox.proofs.transcode.transcode_as.Goals as goal
@@ -8,7 +9,7 @@ use Rattle.protox.proofs.transcode.transcode_as.Goals as goal
 pub returns-in-Ok-true-clause-ok : goal.returns-in-Ok-true-clause-ok
 returns-in-Ok-true-clause-ok c clear =
     let m = c.in-Ok.message in
-    let fit : fits m.content ≡ true = sym c.in-Ok-true.ensures ∙ c.in-Ok-true.field-0-test in
+    let fit : fits (shape_of m.of.pool) (place_of m.of) m.content ≡ true = sym c.in-Ok-true.ensures ∙ c.in-Ok-true.field-0-test in
     ok_then c.write_both.result
     (λ done h. transcoded_as c.args.desc m.of (data_of c.args.tree) m.content c.in-Ok.ensures.of clear c.message_of.ensures.texts c.in-Ok.ensures.read
     done.0 (view done.1) c.encoding_decodes.ensures.whole c.canonical_stands.ensures.canonical c.descriptor-sound.ensures.sound fit h)
@@ -17,7 +18,8 @@ returns-in-Ok-true-clause-ok c clear =
 pub returns-in-Ok-true-clause-err : goal.returns-in-Ok-true-clause-err
 returns-in-Ok-true-clause-err c clear =
     let m = c.in-Ok.message in
+    let fit : fits (shape_of m.of.pool) (place_of m.of) m.content ≡ true = sym c.in-Ok-true.ensures ∙ c.in-Ok-true.field-0-test in
     err_then c.write_both.result
     (λ error h. not_told_as c.args.desc m.of (data_of c.args.tree) m.content c.in-Ok.ensures.of clear c.message_of.ensures.texts c.in-Ok.ensures.read
-    error c.standing_is_written.ensures h)
+    error c.fitting_is_written.ensures fit h)
     c.write_both.ensures.stop
