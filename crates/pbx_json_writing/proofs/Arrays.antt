@@ -14,7 +14,7 @@ use Rattle.pbx_json_meaning.specs.Canonical.{Tells, tells, vals_tell, items_of}
 use Rattle.pbx_json_meaning.specs.Stands.{all_read}
 use Rattle.pbx_json_meaning.specs.WriteFaults.{val_at}
 use Rattle.pbx_json_meaning.specs.declared.kind.JsonKind.{JsonKind}
-use Rattle.pbx_json_meaning.specs.declared.options.SerializeOptions.{SerializeOptions}
+use Rattle.pbx_json_meaning.specs.Canonical.{Writing}
 use Rattle.pbx_json_meaning.specs.declared.place.Step.{Step}
 use Rattle.pbx_json_meaning.specs.declared.place.Step.TheVariants.{Index}
 use Rattle.serde_json.specs.View.{view}
@@ -79,7 +79,7 @@ val_at_seam : (xs : List Held) (h : Held) (ys : List Held) → val_at (length xs
 val_at_seam [] h ys = refl
 val_at_seam (x ∷ xs) h ys = val_at_seam xs h ys
 
-module _ (shape : Shape) (o : SerializeOptions) (k : Kind) where
+module _ (shape : Shape) (o : Writing) (k : Kind) where
   -- the tree of an element
   abbrev pub told : Held → Option Data
   told h = tells shape o (val_of h) (one k)

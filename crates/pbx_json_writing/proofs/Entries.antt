@@ -17,7 +17,7 @@ use Rattle.pbx_json_meaning.specs.Canonical.{Line, tells, pairs_tell, entry_line
 use Rattle.pbx_json_meaning.specs.WriteFaults.{val_under}
 use Rattle.pbx_json_meaning.specs.declared.kind.JsonKind.{JsonKind}
 use Rattle.pbx_json_meaning.specs.declared.kind.JsonKind.TheVariants as fault
-use Rattle.pbx_json_meaning.specs.declared.options.SerializeOptions.{SerializeOptions}
+use Rattle.pbx_json_meaning.specs.Canonical.{Writing}
 use Rattle.pbx_json_meaning.specs.declared.place.Step.{Step}
 use Rattle.pbx_json_meaning.specs.declared.place.Step.TheVariants.{Key as KeyStep}
 use Rattle.pbx_json_writing.specs.Lines.{with_lines, collected, pair_line}
@@ -89,7 +89,7 @@ module _ (shape : Shape) (key k : Kind) where
 
 -- ---- the lines of a map
 
-module _ (shape : Shape) (o : SerializeOptions) (k : Kind) where
+module _ (shape : Shape) (o : Writing) (k : Kind) where
   -- the line of a pair
   abbrev pub entry : Pair → Line
   entry p = pair_line shape o k (pair_of p)

@@ -13,3 +13,4 @@ pub mod OfScalars
 pub mod OfForms
 pub mod ValueRows
 pub mod OfValues
+pub mod OfAny

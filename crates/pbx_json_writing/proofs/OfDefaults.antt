@@ -17,7 +17,7 @@ use Rattle.pbx_json_meaning.specs.Asked.{one}
 use Rattle.pbx_json_meaning.specs.Canonical.{Line, tells, keeps_float, default_line, is_written_default, key_of_field, has_key}
 use Rattle.pbx_json_meaning.specs.WriteFaults.{value_keys, written_keys, is_twice}
 use Rattle.pbx_json_meaning.specs.declared.kind.JsonKind.TheVariants as fault
-use Rattle.pbx_json_meaning.specs.declared.options.SerializeOptions.{SerializeOptions}
+use Rattle.pbx_json_meaning.specs.Canonical.{Writing}
 use Rattle.pbx_json_meaning.specs.declared.place.Step.TheVariants.{Key}
 use Rattle.pbx_json_writing.specs.Lines.{with_lines, collected, field_lines, field_members, default_lines}
 use Rattle.pbx_json_writing.proofs.Collected.{split_at, take_more, take_all, map-append, with_lines-append, with_lines_twice, keys_of_lines}
@@ -38,7 +38,7 @@ filter_all p (z ∷ xs) x ys h = at (p z) (filter_all p xs x ys h)
     at false ih = ih
 
 -- what is refused of a field without a value
-pub default_refused : {X : Type 0} (o : SerializeOptions) (fs : Fields) (f : FieldShape) (key : List ℕ) (ms : Members) (written : Result Value Refusal)
+pub default_refused : {X : Type 0} (o : Writing) (fs : Fields) (f : FieldShape) (key : List ℕ) (ms : Members) (written : Result Value Refusal)
     (result : Result X Refusal) → is_written_default o fs f ≡ true → key ≡ key_of_field o f → IfErr written (λ r. r ≡ refused.Memory)
     → IfErr result (IsMemberRefused key written ms) → IfErr result (IsDefaultRefused o fs f ms)
 default_refused o fs f key ms written (Ok x) is named memory h = tt
@@ -49,9 +49,9 @@ default_refused o fs f key ms (Err below) (Err (refused.Rule rule steps)) is nam
     let other : refused.Rule rule h.1.0 ≡ refused.Memory = sym h.1.1 ∙ memory in
     absurd (cc)
 
-module _ (shape : Shape) (o : SerializeOptions) where
+module _ (shape : Shape) (o : Writing) where
   -- where defaults are skipped, no line is written
-  pub skipped : (fs : Fields) (gs : List FieldShape) → o.skip_default_fields ≡ true → default_lines shape o fs gs ≡ []
+  pub skipped : (fs : Fields) (gs : List FieldShape) → o.options.skip_default_fields ≡ true → default_lines shape o fs gs ≡ []
   skipped fs [] h = refl
   skipped fs (g ∷ gs) h = rw h (skipped fs gs h)
 
@@ -74,7 +74,7 @@ module _ (shape : Shape) (o : SerializeOptions) where
       → with_lines (default_lines shape o fs (take i gs)) r ≡ Some ms → with_lines (default_lines shape o fs gs) r ≡ Some ms
   defaults_done fs gs i r ms past so = ap (λ xs. with_lines (default_lines shape o fs xs) r) (sym (take_all gs i past)) ∙ so
 
-  keys_of_defaults : (s : List ℕ) (gs : List FieldShape)
+  pub keys_of_defaults : (s : List ℕ) (gs : List FieldShape)
       → list_any (λ (l : Line). bytes_eq l.0 s) (map (default_line shape o) gs) ≡ list_any (λ k. bytes_eq k s) (map (key_of_field o) gs)
   keys_of_defaults s [] = refl
   keys_of_defaults s (g ∷ gs) = ap (λ b. bytes_eq (key_of_field o g) s || b) (keys_of_defaults s gs)
@@ -113,7 +113,7 @@ module _ (shape : Shape) (o : SerializeOptions) where
         let any : list_any (λ x. bytes_eq x key) (value_keys o gs (fields c) ++ map (key_of_field o) before) ≡ true =
         list_any-append (λ x. bytes_eq x key) (value_keys o gs (fields c)) (map (key_of_field o) before)
         ∙ or_back (list_any (λ x. bytes_eq x key) (map (key_of_field o) before)) (list_any (λ x. bytes_eq x key) (value_keys o gs (fields c))) there in
-        let keys : written_keys o gs (fields c) ≡ (value_keys o gs (fields c) ++ map (key_of_field o) before) ++ key ∷ map (key_of_field o) behind =
+        let keys : written_keys o false gs (fields c) ≡ (value_keys o gs (fields c) ++ map (key_of_field o) before) ++ key ∷ map (key_of_field o) behind =
         ap (λ xs. value_keys o gs (fields c) ++ map (key_of_field o) xs) listed
         ∙ ap (λ xs. value_keys o gs (fields c) ++ xs) (map-append (key_of_field o) before (g ∷ behind))
         ∙ sym (append_assoc (value_keys o gs (fields c)) (map (key_of_field o) before) (key ∷ map (key_of_field o) behind)) in (
@@ -122,8 +122,8 @@ module _ (shape : Shape) (o : SerializeOptions) where
               (key_is_twice gs key keys (key_twice key (value_keys o gs (fields c) ++ map (key_of_field o) before) key (map (key_of_field o) behind) any refl)),
         )
       where
-        key_is_twice : (gs : List FieldShape) (key : List ℕ) {keys : List (List ℕ)} → written_keys o gs (fields c) ≡ keys → is_twice key keys ≡ true
-            → is_twice key (written_keys o gs (fields c)) ≡ true
+        key_is_twice : (gs : List FieldShape) (key : List ℕ) {keys : List (List ℕ)} → written_keys o false gs (fields c) ≡ keys → is_twice key keys ≡ true
+            → is_twice key (written_keys o false gs (fields c)) ≡ true
         key_is_twice gs key e h = ap (is_twice key) e ∙ h
 
     pub default_stops : (r : Refusal) → IsDefaultRefused o (fields c) g ns r → Refused shape o (message c) k r

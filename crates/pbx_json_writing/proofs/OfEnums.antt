@@ -10,7 +10,7 @@ use Rattle.pbx_meaning.specs.Shape.{enum_values_of}
 use Rattle.pbx_meaning.specs.declared.shape.EnumValueShape.{EnumValueShape}
 use Rattle.pbx_meaning.specs.declared.shape.Shape.{Shape}
 use Rattle.pbx_json_meaning.specs.Canonical.{value_of_number}
-use Rattle.pbx_json_writing.specs.Indexes.{value_at, IsIndexOf, AreIndexes}
+use Rattle.pbx_json_writing.specs.Indexes.{value_at, IsIndexOf, AreEnumIndexes}
 
 slice_here : (vs : List EnumValueShape) (i : ℕ) (v : EnumValueShape) → i < length vs → v ≡ get_or vs i v → slice_get vs i ≡ Some v
 slice_here [] i v h is = absurd (omega arith)
@@ -40,10 +40,10 @@ index_more vs left i v old new next within is set so z =
     at false = so z ∙ ap (λ n. value_of_number z (drop n vs)) after
 
 -- indexes with one more
-pub indexes_more : (shape : Shape) (e : ℕ) (index : BTreeMap ℤ ℕ) (old new : BTreeMap ℕ (BTreeMap ℤ ℕ)) → AreIndexes shape old
+pub indexes_more : (shape : Shape) (e : ℕ) (index : BTreeMap ℤ ℕ) (old new : BTreeMap ℕ (BTreeMap ℤ ℕ)) → AreEnumIndexes shape old
     → IsIndexOf (enum_values_of shape e) index → ((q : ℕ) → get nat_cmp new q ≡ cond (is_at (nat_cmp e) q) (Some index) (get nat_cmp old q))
-    → AreIndexes shape new
-unfolding AreIndexes
+    → AreEnumIndexes shape new
+unfolding AreEnumIndexes
 indexes_more shape e index old new known is set q = rw (set q) (at (is_at (nat_cmp e) q) refl)
   where
     same_place : (q : ℕ) → is_eq (nat_cmp e q) ≡ true → e ≡ q
@@ -54,19 +54,19 @@ indexes_more shape e index old new known is set q = rw (set q) (at (is_at (nat_c
     at false h = known q
 
 -- indexes of the same entries
-pub indexes_same : (shape : Shape) (old new : BTreeMap ℕ (BTreeMap ℤ ℕ)) → AreIndexes shape old → new.entries ≡ old.entries → AreIndexes shape new
-unfolding AreIndexes
+pub indexes_same : (shape : Shape) (old new : BTreeMap ℕ (BTreeMap ℤ ℕ)) → AreEnumIndexes shape old → new.entries ≡ old.entries → AreEnumIndexes shape new
+unfolding AreEnumIndexes
 indexes_same shape old new known same e =
     subst (λ es. IfSome (lookup (is_at (nat_cmp e)) es) (IsIndexOf (enum_values_of shape e))) (sym same) (known e)
 
 -- an index that is found
-pub index_known : (shape : Shape) (indexes : BTreeMap ℕ (BTreeMap ℤ ℕ)) (e : ℕ) (index : BTreeMap ℤ ℕ) → AreIndexes shape indexes
+pub index_known : (shape : Shape) (indexes : BTreeMap ℕ (BTreeMap ℤ ℕ)) (e : ℕ) (index : BTreeMap ℤ ℕ) → AreEnumIndexes shape indexes
     → Some index ≡ get nat_cmp indexes e → IsIndexOf (enum_values_of shape e) index
-unfolding AreIndexes
+unfolding AreEnumIndexes
 index_known shape indexes e index known found = subst (λ o. IfSome o (IsIndexOf (enum_values_of shape e))) (sym found) (known e)
 
 -- no index
-pub indexes_none : (shape : Shape) (indexes : BTreeMap ℕ (BTreeMap ℤ ℕ)) → indexes.entries ≡ [] → AreIndexes shape indexes
-unfolding AreIndexes
+pub indexes_none : (shape : Shape) (indexes : BTreeMap ℕ (BTreeMap ℤ ℕ)) → indexes.entries ≡ [] → AreEnumIndexes shape indexes
+unfolding AreEnumIndexes
 indexes_none shape indexes empty e =
     subst (λ es. IfSome (lookup (is_at (nat_cmp e)) es) (IsIndexOf (enum_values_of shape e))) (sym empty) tt

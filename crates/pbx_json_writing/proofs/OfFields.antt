@@ -24,7 +24,7 @@ use Rattle.pbx_json_meaning.specs.Canonical.{with_line, with_member, members_of_
 use Rattle.pbx_json_meaning.specs.WriteFaults.{WriteFaultAt, parts_of, members, KeyBreaks, key_in, value_keys, written_keys, is_twice, is_under, asked_of, field_under}
 use Rattle.pbx_json_meaning.specs.declared.kind.JsonKind.{JsonKind}
 use Rattle.pbx_json_meaning.specs.declared.kind.JsonKind.TheVariants as fault
-use Rattle.pbx_json_meaning.specs.declared.options.SerializeOptions.{SerializeOptions}
+use Rattle.pbx_json_meaning.specs.Canonical.{Writing}
 use Rattle.pbx_json_meaning.specs.declared.place.Step.{Step}
 use Rattle.pbx_json_meaning.specs.declared.place.Step.TheVariants.{Key}
 use Rattle.pbx_json_writing.specs.Lines.{with_lines, collected, field_lines, default_lines}
@@ -59,7 +59,7 @@ field_of-by_number n (f ∷ fs) =
 
 -- ---- what is asked of a field's value is asked of a value of its kind
 
-pub told_field : (shape : Shape) (o : SerializeOptions) (f : FieldShape) (v : Val) → tells shape o v (field f) ≡ tells shape o v (one f.kind)
+pub told_field : (shape : Shape) (o : Writing) (f : FieldShape) (v : Val) → tells shape o v (field f) ≡ tells shape o v (one f.kind)
 told_field shape o f (content.number z) = refl
 told_field shape o f (content.truth b) = refl
 told_field shape o f (content.text s) = refl
@@ -78,7 +78,7 @@ parts_of_field shape f (content.many vs) = refl
 parts_of_field shape f (content.keyed ps) = refl
 
 -- values of which the same is written below break the same rules
-pub same_parts : (shape : Shape) (o : SerializeOptions) (place : List Step) (v w : Val) (a b : Asked) (rule : JsonKind)
+pub same_parts : (shape : Shape) (o : Writing) (place : List Step) (v w : Val) (a b : Asked) (rule : JsonKind)
     → parts_of shape v a ≡ parts_of shape w b → WriteFaultAt shape o place v a rule → WriteFaultAt shape o place w b rule
 same_parts shape o [] v w a b rule same h = sym same ∙ h
 same_parts shape o (step ∷ place) v w a b rule same h = rw (← same) h
@@ -120,7 +120,7 @@ key_twice s xs k ys any is =
 
 -- ---- the lines of a message
 
-module _ (shape : Shape) (o : SerializeOptions) where
+module _ (shape : Shape) (o : Writing) where
   lines_told : (gs : List FieldShape) (fs : Fields)
       → map (λ (t : Told). told_line o t.tells (field_of t.number gs)) (fields_tell shape o fs) ≡ field_lines shape o gs fs
   lines_told gs no_fields = refl
@@ -130,7 +130,7 @@ module _ (shape : Shape) (o : SerializeOptions) where
   abbrev pub all_lines : List FieldShape → Fields → List Line
   all_lines gs fs = field_lines shape o gs fs ++ default_lines shape o fs gs
 
-  lines_are : (gs : List FieldShape) (fs : Fields) → members_of_lines (lines shape o gs fs (fields_tell shape o fs)) ≡ collected (all_lines gs fs)
+  pub lines_are : (gs : List FieldShape) (fs : Fields) → members_of_lines (lines shape o gs fs (fields_tell shape o fs)) ≡ collected (all_lines gs fs)
   lines_are gs fs =
       ap (λ ls. members_of_lines (ls ++ default_lines shape o fs gs)) (lines_told gs fs) ∙ collected_is (all_lines gs fs)
 
@@ -158,7 +158,7 @@ module _ (shape : Shape) (o : SerializeOptions) where
 
   -- a rule that a key of a message breaks
   pub broken_key : (k : Kind) (c : Content) (key : List ℕ) (rule : JsonKind) → is_object_type shape (type_of k) ≡ true
-      → KeyBreaks o (members (declared_of shape (type_of k)) (fields c) (kept c)) key rule → WriteFaultAt shape o (Key key ∷ []) (message c) (one k) rule
+      → KeyBreaks o (members false (declared_of shape (type_of k)) (fields c) (kept c)) key rule → WriteFaultAt shape o (Key key ∷ []) (message c) (one k) rule
   broken_key k (content.content fs ks) key rule plain breaks = rw plain (inl (refl, breaks))
 
   -- a rule that is broken below a key of a message
@@ -288,7 +288,7 @@ module _ (shape : Shape) (o : SerializeOptions) where
           let is : (line gs x).0 ≡ key = ap (λ (l : Line). l.0) (line_of gs x f found) in
           let any : list_any (λ s. bytes_eq s key) (value_keys o gs (held_fields gs xs)) ≡ true = sym (there gs key xs ms so) ∙ h in
           let more : List (List ℕ) = value_keys o gs (held_fields gs ys) ++ map (key_of_field o) (filter (is_written_default o fs) gs) in
-          let keys : written_keys o gs fs ≡ value_keys o gs (held_fields gs xs) ++ key ∷ more =
+          let keys : written_keys o false gs fs ≡ value_keys o gs (held_fields gs xs) ++ key ∷ more =
           ap (λ zs. zs ++ map (key_of_field o) (filter (is_written_default o fs) gs))
           (value_keys-append gs xs (x ∷ ys) ∙ ap (λ g. value_keys o gs (held_fields gs xs) ++ (key_in o g ++ value_keys o gs (held_fields gs ys))) found)
           ∙ append_assoc (value_keys o gs (held_fields gs xs)) _ _ in (

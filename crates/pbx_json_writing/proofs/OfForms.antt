@@ -38,7 +38,7 @@ use Rattle.pbx_json_meaning.specs.Forms.{is_object_form, kind_in, kind_at, text_
 use Rattle.pbx_json_meaning.specs.Stands.{ok_of}
 use Rattle.pbx_json_meaning.specs.WriteFaults.{WriteFaultAt, IsKeyFault, leaf, as_leaf, form_parts, parts_of, into_written}
 use Rattle.pbx_json_meaning.specs.declared.kind.JsonKind.{JsonKind}
-use Rattle.pbx_json_meaning.specs.declared.options.SerializeOptions.{SerializeOptions}
+use Rattle.pbx_json_meaning.specs.Canonical.{Writing}
 use Rattle.pbx_json_meaning.specs.declared.place.Step.{Step}
 use Rattle.pbx_json_meaning.specs.declared.place.Step.TheVariants.{Key, Index}
 use Rattle.pbx_json_writing.specs.Kinds.{is_scalar}
@@ -130,7 +130,7 @@ pub answer_of : (wanted written : Result (List ℕ) TextFault) → IfOk written 
 answer_of wanted (Ok s) ok err = ok
 answer_of wanted (Err e) ok err = err
 
-module _ (shape : Shape) (o : SerializeOptions) where
+module _ (shape : Shape) (o : Writing) where
   -- ---- what a form says of its messages
 
   pub own_told : (f : Form) (k : Kind) (c : Content) → form_of shape (type_of k) ≡ f → is_object_form f ≡ false

@@ -18,7 +18,7 @@ use Rattle.pbx_meaning.specs.declared.shape.FieldShape.{FieldShape}
 use Rattle.pbx_json_meaning.specs.Forms.{is_object_type}
 use Rattle.pbx_json_meaning.specs.Canonical.{keeps_float, is_kept_of, key_of_field}
 use Rattle.pbx_json_meaning.specs.declared.kind.JsonKind.TheVariants as fault
-use Rattle.pbx_json_meaning.specs.declared.options.SerializeOptions.{SerializeOptions}
+use Rattle.pbx_json_meaning.specs.Canonical.{Writing}
 use Rattle.pbx_json_meaning.specs.declared.place.Step.TheVariants.{Key}
 use Rattle.pbx_json_writing.specs.Kinds.{is_float_number}
 use Rattle.pbx_json_writing.specs.Refusals.{IsKeptFloat}
@@ -159,7 +159,7 @@ keeps_none (g ∷ gs) = at (is_float g.kind) (keeps_none gs)
 pub keeps : (gs : List FieldShape) (rs : List Rec) (f : FieldShape) → IsKeptFloat gs rs f → keeps_float gs rs ≡ true
 keeps gs rs f h = any_field (λ g. is_float g.kind && is_kept_of rs g) f.number gs f h.0 (rw (h.1, h.2) refl)
 
-module _ (shape : Shape) (o : SerializeOptions) (k : Kind) where
+module _ (shape : Shape) (o : Writing) (k : Kind) where
   pub float_stops : (c : Content) (f : FieldShape) → is_object_type shape (type_of k) ≡ true
       → IsKeptFloat (declared_of shape (type_of k)) (kept c) f → Stops shape o (message c) k fault.Float (Key (key_of_field o f) ∷ [])
   float_stops (content.content fs ks) f plain h =

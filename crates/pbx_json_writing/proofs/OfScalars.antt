@@ -14,7 +14,7 @@ use Rattle.pbx_wkt.specs.Types.{enum_name_at}
 use Rattle.pbx_json_meaning.specs.Scalars.{family}
 use Rattle.pbx_json_meaning.specs.Canonical.{number_tree, integer_tree, truth_by, text_by, bytes_by}
 use Rattle.pbx_json_meaning.specs.declared.kind.JsonKind.TheVariants as fault
-use Rattle.pbx_json_meaning.specs.declared.options.SerializeOptions.{SerializeOptions}
+use Rattle.pbx_json_meaning.specs.Canonical.{Writing}
 use Rattle.pbx_json_writing.specs.Kinds.{is_integer}
 use Rattle.pbx_json_writing.proofs.Refusing.{Stops}
 
@@ -48,7 +48,7 @@ fields_of ms t o h = fields_in ms t ∙ ap (λ (p : Option MessageShape). option
 
 -- ---- numbers
 
-module _ (shape : Shape) (o : SerializeOptions) where
+module _ (shape : Shape) (o : Writing) where
   pub integer_told : (k : Kind) (z : ℤ) → is_integer k ≡ true → number_tree shape o k z ≡ Some (integer_tree o k z)
   integer_told kind.Int32 z h = refl
   integer_told kind.Int64 z h = refl

@@ -26,7 +26,7 @@ use Rattle.pbx_json_meaning.specs.Canonical.{tells, form_tree, field_tree, told_
 use Rattle.pbx_json_meaning.specs.Faults.{SomeWith}
 use Rattle.pbx_json_meaning.specs.Forms.{is_object_form, kind_in, kind_at, type_at}
 use Rattle.pbx_json_meaning.specs.WriteFaults.{leaf, form_parts, held_parts, several_parts, parts_of}
-use Rattle.pbx_json_meaning.specs.declared.options.SerializeOptions.{SerializeOptions}
+use Rattle.pbx_json_meaning.specs.Canonical.{Writing}
 use Rattle.pbx_json_meaning.specs.declared.kind.JsonKind.TheVariants as fault
 use Rattle.pbx_json_writing.specs.Kinds.{told_value, is_passed_form}
 use Rattle.pbx_json_writing.specs.Refusals.{Holds, Refused}
@@ -47,13 +47,14 @@ other_than m n apart = at (m == n) refl
     at true is = absurd (apart (grind (arith, nat_tests)))
     at false is = refl
 
-pub is_value : (f : Form) → is_passed_form f ≡ true → (f ≡ forms.Struct → ⊥) → (f ≡ forms.ListValue → ⊥) → f ≡ forms.Value
-is_value forms.Value passed struct list = refl
-is_value forms.Struct passed struct list = absurd (struct refl)
-is_value forms.ListValue passed struct list = absurd (list refl)
-is_value _ passed struct list = absurd cc
+pub is_value : (f : Form) → is_passed_form f ≡ true → (f ≡ forms.Struct → ⊥) → (f ≡ forms.ListValue → ⊥) → (f ≡ forms.Any → ⊥) → f ≡ forms.Value
+is_value forms.Value passed struct list any = refl
+is_value forms.Struct passed struct list any = absurd (struct refl)
+is_value forms.ListValue passed struct list any = absurd (list refl)
+is_value forms.Any passed struct list any = absurd (any refl)
+is_value _ passed struct list any = absurd cc
 
-module _ (shape : Shape) (o : SerializeOptions) where
+module _ (shape : Shape) (o : Writing) where
   -- ---- the value of a field
 
   told_get : (n : ℕ) (k : Kind) (otherwise : Option Data) (fs : Fields)

@@ -11,7 +11,7 @@ use Rattle.pbx_json_meaning.specs.Canonical.{tells, has_key}
 use Rattle.pbx_json_meaning.specs.WriteFaults.{WriteFaultAt}
 use Rattle.pbx_json_meaning.specs.declared.kind.JsonKind.{JsonKind}
 use Rattle.pbx_json_meaning.specs.declared.kind.JsonKind.TheVariants as fault
-use Rattle.pbx_json_meaning.specs.declared.options.SerializeOptions.{SerializeOptions}
+use Rattle.pbx_json_meaning.specs.Canonical.{Writing}
 use Rattle.pbx_json_meaning.specs.declared.place.Step.{Step}
 use Rattle.pbx_json_meaning.specs.declared.place.Step.TheVariants.{Key}
 use Rattle.pbx_json_writing.specs.declared.refusal.Refusal.{Refusal}
@@ -23,7 +23,7 @@ pub both_ok : {X E : Type 0} (P Q : X → Type 0) (written : Result X E) → IfO
 both_ok P Q (Ok x) p q = (x, p, q)
 both_ok P Q (Err e) p q = absurd q
 
-module _ (shape : Shape) (o : SerializeOptions) (v : Val) (k : Kind) where
+module _ (shape : Shape) (o : Writing) (v : Val) (k : Kind) where
   -- the value has no tree, and where it is one of the kind, the rule is broken at the place
   abbrev pub Stops : JsonKind → List Step → Type 0
   Stops rule place = (tells shape o v (one k) ≡ None) × (Holds shape k v → WriteFaultAt shape o place v (one k) rule)

@@ -12,7 +12,7 @@ use Rattle.pbx_wkt.specs.declared.form.Form.{Form}
 use Rattle.pbx_wkt.specs.declared.form.Form.TheVariants as forms
 use Rattle.pbx_json_meaning.specs.Asked.{one}
 use Rattle.pbx_json_meaning.specs.Canonical.{tells}
-use Rattle.pbx_json_meaning.specs.declared.options.SerializeOptions.{SerializeOptions}
+use Rattle.pbx_json_meaning.specs.Canonical.{Writing}
 
 -- the kinds of integers
 abbrev pub is_integer : Kind → Bool
@@ -37,13 +37,14 @@ is_scalar (keyed ps) = false
 is_scalar _ = true
 
 -- the tree of a value as one of the kind, or another where there is no value
-abbrev pub told_value : Shape → SerializeOptions → Kind → Option Data → Option Val → Option Data
+abbrev pub told_value : Shape → Writing → Kind → Option Data → Option Val → Option Data
 told_value shape o k otherwise None = otherwise
 told_value shape o k otherwise (Some v) = tells shape o v (one k)
 
--- messages of the form are written as the value of one of their fields
+-- messages of the form are written as the value of one of their fields, or by their payload
 abbrev pub is_passed_form : Form → Bool
 is_passed_form forms.Struct = true
 is_passed_form forms.ListValue = true
 is_passed_form forms.Value = true
+is_passed_form forms.Any = true
 is_passed_form _ = false

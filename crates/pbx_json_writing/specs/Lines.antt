@@ -8,7 +8,7 @@ use Rattle.pbx_meaning.specs.declared.shape.FieldShape.{FieldShape}
 use Rattle.pbx_meaning.specs.declared.shape.Shape.{Shape}
 use Rattle.pbx_json_meaning.specs.Asked.{one}
 use Rattle.pbx_json_meaning.specs.Canonical.{Line, with_line, tells, told_line, key_text, default_line, is_written_default}
-use Rattle.pbx_json_meaning.specs.declared.options.SerializeOptions.{SerializeOptions}
+use Rattle.pbx_json_meaning.specs.Canonical.{Writing}
 
 -- the members with each of the lines, the first line first; None: a line has no tree, or its key is there already
 abbrev pub with_lines : List Line → Option Members → Option Members
@@ -20,18 +20,18 @@ abbrev pub collected : List Line → Option Members
 collected ls = with_lines ls (Some no_members)
 
 -- a line for each field that has a value
-abbrev pub field_lines : Shape → SerializeOptions → List FieldShape → Fields → List Line
+abbrev pub field_lines : Shape → Writing → List FieldShape → Fields → List Line
 field_lines shape o gs no_fields = []
 field_lines shape o gs (field n v fs) = told_line o (tells shape o v) (field_of n gs) ∷ field_lines shape o gs fs
 
 -- the members of the fields that have a value
-abbrev pub field_members : Shape → SerializeOptions → List FieldShape → Content → Option Members
+abbrev pub field_members : Shape → Writing → List FieldShape → Content → Option Members
 field_members shape o gs c = collected (field_lines shape o gs (fields c))
 
 -- the line of an entry
-abbrev pub pair_line : Shape → SerializeOptions → Kind → Key × Val → Line
+abbrev pub pair_line : Shape → Writing → Kind → Key × Val → Line
 pair_line shape o k p = (key_text p.0, tells shape o p.1 (one k))
 
 -- the lines of defaults
-abbrev pub default_lines : Shape → SerializeOptions → Fields → List FieldShape → List Line
+abbrev pub default_lines : Shape → Writing → Fields → List FieldShape → List Line
 default_lines shape o fs gs = map_list (default_line shape o) (filter (is_written_default o fs) gs)

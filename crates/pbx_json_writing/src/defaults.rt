@@ -8,8 +8,9 @@ ghost use Rattle.pbx_codec.specs.View.{content_of};
 ghost use Rattle.pbx_json_meaning.specs.Forms.{is_object_type};
 ghost use Rattle.pbx_json_meaning.specs.Asked.{one, has_presence as has_presence_of};
 ghost use Rattle.pbx_json_meaning.specs.Canonical.{default_by, default_tree as default_tree_of, is_written_default as is_written_default_of};
-ghost use Rattle.pbx_json_meaning.specs.Canonical.{tells, keeps_float};
+ghost use Rattle.pbx_json_meaning.specs.Canonical.{writing, tells, keeps_float};
 ghost use Rattle.pbx_json_writing.specs.Lines.{with_lines, default_lines, field_members};
+ghost use Rattle.pbx_json_writing.specs.Writings.{plain};
 ghost use Rattle.pbx_json_writing.specs.Refusals.{Refused, IsDefaultRefused};
 ghost use Rattle.pbx_json_writing.specs.declared.refusal.Refusal.TheVariants as refused;
 
@@ -37,7 +38,7 @@ fn has_presence(field: &FieldShape) -> bool
 
 /// Whether the field is written though it has no value.
 fn is_written_default(options: &SerializeOptions, contents: &Contents, field: &FieldShape) -> bool
-    ensures { result ≡ is_written_default_of options.now (fields (content_of contents.now)) field.now }
+    ensures { result ≡ is_written_default_of (plain options.now) (fields (content_of contents.now)) field.now }
 {
     !options.skip_default_fields
         && !has_presence(field)
@@ -53,7 +54,7 @@ pub(crate) fn zero_tree(
     options: &SerializeOptions,
     kind: Kind,
 ) -> Result<Value, NoMemory>
-    ensures { IfOk result (λ tree. default_by schema.now options.now kind (zero_of schema.now kind) ≡ Some (view tree)) }
+    ensures { IfOk result (λ tree. default_by schema.now (writing schema.now options.now) kind (zero_of schema.now kind) ≡ Some (view tree)) }
 {
     if is_integer(kind) {
         return integer_tree(alloc, options, kind, 0);
@@ -80,7 +81,7 @@ fn default_tree(
     options: &SerializeOptions,
     field: &FieldShape,
 ) -> Result<Value, Refusal>
-    ensures written { IfOk result (λ tree. default_tree_of schema.now options.now field.now field.now.cardinality ≡ Some (view tree)) }
+    ensures written { IfOk result (λ tree. default_tree_of schema.now (writing schema.now options.now) field.now field.now.cardinality ≡ Some (view tree)) }
     ensures refused { IfErr result (λ r. r ≡ refused.Memory) }
 {
     match field.cardinality {
@@ -102,9 +103,10 @@ fn add_default(
     field: &FieldShape,
     map: &mut Map<String, Value>,
 ) -> Result<(), Refusal>
-    ensures written { OnOk result (with_lines (default_lines schema.now options.now (fields (content_of contents.now)) (field.now ∷ []))
+    ensures written { OnOk result (with_lines (default_lines schema.now (writing schema.now options.now) (fields (content_of contents.now)) (field.now ∷ []))
         (Some (members_view map.old.entries)) ≡ Some (members_view map.new.entries)) }
-    ensures refused { IfErr result (IsDefaultRefused options.now (fields (content_of contents.now)) field.now (members_view map.old.entries)) }
+    ensures refused { IfErr result (IsDefaultRefused (writing schema.now options.now) (fields (content_of contents.now)) field.now
+        (members_view map.old.entries)) }
 {
     if !is_written_default(options, contents, field) {
         return Ok(());
@@ -123,12 +125,12 @@ pub(crate) fn add_defaults(
     map: &mut Map<String, Value>,
 ) -> Result<(), Refusal>
     requires plain { is_object_type schema.now (type_of kind) ≡ true }
-    requires fields { field_members schema.now options.now (declared_of_type schema.now (type_of kind)) (content_of contents.now)
+    requires fields { field_members schema.now (writing schema.now options.now) (declared_of_type schema.now (type_of kind)) (content_of contents.now)
         ≡ Some (members_view map.old.entries) }
     ensures written { OnOk result
-        (with_lines (default_lines schema.now options.now (fields (content_of contents.now)) (declared_of_type schema.now (type_of kind)))
+        (with_lines (default_lines schema.now (writing schema.now options.now) (fields (content_of contents.now)) (declared_of_type schema.now (type_of kind)))
         (Some (members_view map.old.entries)) ≡ Some (members_view map.new.entries)) }
-    ensures refused { IfErr result (Refused schema.now options.now (message (content_of contents.now)) kind) }
+    ensures refused { IfErr result (Refused schema.now (writing schema.now options.now) (message (content_of contents.now)) kind) }
 {
     if options.skip_default_fields {
         return Ok(());
@@ -152,10 +154,11 @@ pub(crate) fn with_defaults(
 ) -> Result<Value, Refusal>
     requires plain { is_object_type schema.now (type_of kind) ≡ true }
     requires whole { keeps_float (declared_of_type schema.now (type_of kind)) (kept (content_of contents.now)) ≡ false }
-    requires fields { field_members schema.now options.now (declared_of_type schema.now (type_of kind)) (content_of contents.now)
+    requires fields { field_members schema.now (writing schema.now options.now) (declared_of_type schema.now (type_of kind)) (content_of contents.now)
         ≡ Some (members_view map.entries) }
-    ensures written { IfOk result (λ tree. tells schema.now options.now (message (content_of contents.now)) (one kind) ≡ Some (view tree)) }
-    ensures refused { IfErr result (Refused schema.now options.now (message (content_of contents.now)) kind) }
+    ensures written { IfOk result (λ tree. tells schema.now (writing schema.now options.now) (message (content_of contents.now)) (one kind)
+        ≡ Some (view tree)) }
+    ensures refused { IfErr result (Refused schema.now (writing schema.now options.now) (message (content_of contents.now)) kind) }
 {
     match add_defaults(alloc, schema, options, kind, contents, &mut map) {
         Ok(()) => Ok(Value::Object(map)),

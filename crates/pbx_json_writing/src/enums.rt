@@ -4,7 +4,7 @@ ghost use Rattle.std.specs.Str.{bytes_eq};
 ghost use Rattle.pbx_meaning.specs.Shape.{enum_values_of, first_of, first_number as first_number_of};
 ghost use Rattle.pbx_json_meaning.specs.Scalars.{is_null_value as is_null_value_of};
 ghost use Rattle.pbx_json_meaning.specs.Canonical.{value_of_number as value_of_number_of};
-ghost use Rattle.pbx_json_writing.specs.Indexes.{value_at as value_at_of, IsIndexOf, AreIndexes};
+ghost use Rattle.pbx_json_writing.specs.Indexes.{value_at as value_at_of, IsIndexOf, AreEnumIndexes};
 
 use pbx_meaning::{EnumShape, EnumValueShape, Schema};
 use pbx_wire::NoMemory;
@@ -12,7 +12,7 @@ use std::alloc::Global;
 use std::collections::BTreeMap;
 
 /// Of enums that were looked into, the place of the first value of each number.
-pub(crate) type Indexes = BTreeMap<usize, BTreeMap<i128, usize>>;
+pub(crate) type EnumIndexes = BTreeMap<usize, BTreeMap<i128, usize>>;
 
 /// Up to how many values an enum is gone through, without an index.
 const SHORT: usize = 16;
@@ -110,13 +110,13 @@ fn index_of(alloc: Global, values: &[EnumValueShape]) -> Result<BTreeMap<i128, u
 fn add_index(
     alloc: Global,
     schema: &Schema,
-    indexes: &mut Indexes,
+    indexes: &mut EnumIndexes,
     place: usize,
     values: &[EnumValueShape],
 ) -> Result<(), NoMemory>
-    requires known { AreIndexes schema.now indexes.old }
+    requires known { AreEnumIndexes schema.now indexes.old }
     requires values { values.now ≡ enum_values_of schema.now place }
-    ensures { AreIndexes schema.now indexes.new }
+    ensures { AreEnumIndexes schema.now indexes.new }
 {
     if indexes.contains_key(&place) {
         return Ok(());
@@ -151,12 +151,12 @@ fn value_at<'s>(
 pub(crate) fn value_by_index<'s>(
     alloc: Global,
     schema: &'s Schema,
-    indexes: &mut Indexes,
+    indexes: &mut EnumIndexes,
     place: usize,
     number: i128,
 ) -> Result<Option<&'s EnumValueShape>, NoMemory>
-    requires { AreIndexes schema.now indexes.old }
-    ensures known { AreIndexes schema.now indexes.new }
+    requires { AreEnumIndexes schema.now indexes.old }
+    ensures known { AreEnumIndexes schema.now indexes.new }
     ensures value { IfOk result (λ found. option_map (λ it. it.now) found ≡ value_of_number_of number (enum_values_of schema.now place)) }
 {
     let Some(found) = enum_at(schema, place) else {

@@ -6,9 +6,10 @@ ghost use Rattle.pbx_meaning.specs.Shape.{declared_of as declared_of_type, field
 ghost use Rattle.pbx_meaning.specs.Sound.{IsProper};
 ghost use Rattle.pbx_codec.specs.View.{content_of};
 ghost use Rattle.pbx_json_meaning.specs.Forms.{is_object_type, kind_at as kind_at_of};
-ghost use Rattle.pbx_json_meaning.specs.Canonical.{key_of_field as key_of_field_of, keeps_float};
+ghost use Rattle.pbx_json_meaning.specs.Canonical.{writing, key_of_field as key_of_field_of, keeps_float};
 ghost use Rattle.pbx_json_writing.specs.Refusals.{Refused, IsKeptFloat};
 ghost use Rattle.pbx_json_writing.specs.Kinds.{is_float_number};
+ghost use Rattle.pbx_json_writing.specs.Writings.{plain};
 
 use crate::refusal::Refusal;
 use pbx_codec::Contents;
@@ -65,7 +66,7 @@ pub(crate) fn kind_at(schema: &Schema, type_at: usize, number: u32) -> Kind
 
 /// The key that a field is written under: its JSON name, or by option its own name; an extension keeps its JSON name.
 pub(crate) fn key_of_field<'f>(options: &SerializeOptions, field: &'f FieldShape) -> &'f str
-    ensures { result.now ≡ key_of_field_of options.now field.now }
+    ensures { result.now ≡ key_of_field_of (plain options.now) field.now }
 {
     if options.use_proto_field_name && !field.is_extension {
         field.name.as_str()
@@ -138,7 +139,7 @@ pub(crate) fn keeps_no_float(
 ) -> Result<(), Refusal>
     requires { is_object_type schema.now (type_of kind) ≡ true }
     ensures whole { OnOk result (keeps_float (declared_of_type schema.now (type_of kind)) (kept (content_of contents.now)) ≡ false) }
-    ensures refused { IfErr result (Refused schema.now options.now (message (content_of contents.now)) kind) }
+    ensures refused { IfErr result (Refused schema.now (writing schema.now options.now) (message (content_of contents.now)) kind) }
 {
     match kept_float(schema, message_type(kind), &contents.kept) {
         None => Ok(()),

@@ -14,14 +14,14 @@ ghost use Rattle.pbx_json_meaning.specs.Asked.{one};
 ghost use Rattle.pbx_json_meaning.specs.Canonical.{tells, scalar_tree as scalar_tree_of, first_field, keeps_float};
 ghost use Rattle.pbx_json_meaning.specs.Forms.{is_object_form as is_object_form_of, as_text, number_in, text_in, texts_of, texts_in};
 ghost use Rattle.pbx_json_meaning.specs.Forms.{timestamp_tree as timestamp_tree_of, duration_tree as duration_tree_of, mask_tree as mask_tree_of};
-ghost use Rattle.pbx_json_meaning.specs.declared.options.SerializeOptions.{SerializeOptions as Options};
+ghost use Rattle.pbx_json_meaning.specs.Canonical.{Writing, writing};
 ghost use Rattle.pbx_json_writing.specs.Indexes.{AreIndexes};
 ghost use Rattle.pbx_json_writing.specs.Kinds.{is_passed_form as is_passed_form_of};
 ghost use Rattle.pbx_json_writing.specs.Refusals.{Refused, IsAnswer, IsTextRefused, IsHeldRefused, IsOutOfTime};
 
 use crate::defaults::zero_tree;
-use crate::enums::Indexes;
 use crate::fields::{kept_float, kind_at, message_type};
+use crate::indexes::Indexes;
 use crate::refusal::Refusal;
 use crate::scalars::{scalar_tree, string_tree};
 use pbx_codec::{Contents, Held};
@@ -224,8 +224,9 @@ fn wrapper_tree(
     kind: Kind,
 ) -> Result<Value, Refusal>
     requires { AreIndexes schema.now indexes.old }
-    ensures written { IfOk result (λ tree. scalar_tree_of schema.now options.now kind (get 1 (fields (content_of contents.now))) ≡ Some (view tree)) }
-    ensures refused { IfErr result (IsHeldRefused schema.now options.now kind (get 1 (fields (content_of contents.now)))) }
+    ensures written { IfOk result (λ tree. scalar_tree_of schema.now (writing schema.now options.now) kind (get 1 (fields (content_of contents.now)))
+        ≡ Some (view tree)) }
+    ensures refused { IfErr result (IsHeldRefused schema.now (writing schema.now options.now) kind (get 1 (fields (content_of contents.now)))) }
     ensures known { AreIndexes schema.now indexes.new }
 {
     match contents.get(1) {
@@ -234,11 +235,14 @@ fn wrapper_tree(
     }
 }
 
-/// Whether messages of the form are told by the value of a field of theirs.
+/// Whether messages of the form are told by the value of a field of theirs, or by their payload.
 pub(crate) fn is_passed_form(form: Form) -> bool
     ensures { result ≡ is_passed_form_of form }
 {
-    matches!(form, Form::Struct | Form::ListValue | Form::Value)
+    matches!(
+        form,
+        Form::Struct | Form::ListValue | Form::Value | Form::Any
+    )
 }
 
 /// The number of the first field that has a value; 0 where none has.
@@ -261,7 +265,7 @@ pub(crate) fn number_of_value(
     requires { form_of schema.now (type_of kind) ≡ forms.Value }
     ensures whole { OnOk result (keeps_float (declared_of schema.now (type_of kind)) (kept (content_of contents.now)) ≡ false) }
     ensures first { IfOk result (λ number. number ≡ first_field (fields (content_of contents.now))) }
-    ensures refused { (options : Options) → IfErr result (Refused schema.now options (message (content_of contents.now)) kind) }
+    ensures refused { (way : Writing) → IfErr result (Refused schema.now way (message (content_of contents.now)) kind) }
 {
     match kept_float(schema, message_type(kind), &contents.kept) {
         Some(_) => Err(Refusal::here(alloc, JsonKind::Float)),
@@ -269,7 +273,7 @@ pub(crate) fn number_of_value(
     }
 }
 
-/// A message of a type that is told by a value of its own, and not by fields or the value of one of them.
+/// A message of a type that is told by a value of its own, and not by fields, the value of one of them or a payload.
 pub(crate) fn own_tree(
     contents: &Contents,
     alloc: Global,
@@ -283,8 +287,9 @@ pub(crate) fn own_tree(
     requires own { is_object_form_of form ≡ false }
     requires alone { is_passed_form_of form ≡ false }
     requires known { AreIndexes schema.now indexes.old }
-    ensures written { IfOk result (λ tree. tells schema.now options.now (message (content_of contents.now)) (one kind) ≡ Some (view tree)) }
-    ensures refused { IfErr result (Refused schema.now options.now (message (content_of contents.now)) kind) }
+    ensures written { IfOk result (λ tree. tells schema.now (writing schema.now options.now) (message (content_of contents.now)) (one kind)
+        ≡ Some (view tree)) }
+    ensures refused { IfErr result (Refused schema.now (writing schema.now options.now) (message (content_of contents.now)) kind) }
     ensures known { AreIndexes schema.now indexes.new }
 {
     match form {
@@ -297,6 +302,6 @@ pub(crate) fn own_tree(
         }
         Form::FloatWrapper => Err(Refusal::here(alloc, JsonKind::Float)),
         Form::Misshapen => Err(Refusal::here(alloc, JsonKind::Shape)),
-        _ => Err(Refusal::here(alloc, JsonKind::NotBuilt)),
+        _ => Err(Refusal::Memory),
     }
 }

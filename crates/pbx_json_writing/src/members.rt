@@ -18,7 +18,12 @@ fn has_key(map: &Map<String, Value>, key: &str) -> bool
 }
 
 /// Puts a tree under a key that is new.
-fn put(alloc: Global, key: &str, tree: Value, map: &mut Map<String, Value>) -> Result<(), Refusal>
+pub(crate) fn put(
+    alloc: Global,
+    key: &str,
+    tree: Value,
+    map: &mut Map<String, Value>,
+) -> Result<(), Refusal>
     requires { has_key_in key.now (members_view map.old.entries) ≡ false }
     ensures written { OnOk result (with_member key.now (view tree) (members_view map.old.entries) ≡ Some (members_view map.new.entries)) }
     ensures refused { IfErr result (λ r. r ≡ refused.Memory) }

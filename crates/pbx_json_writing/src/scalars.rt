@@ -7,14 +7,16 @@ ghost use Rattle.pbx_meaning.specs.Content.{number as number_of, truth, text as 
 ghost use Rattle.pbx_codec.specs.View.{val_of, key_of};
 ghost use Rattle.pbx_json_meaning.specs.Asked.{one};
 ghost use Rattle.pbx_json_meaning.specs.Canonical.{is_wide as is_wide_of, integer, integer_tree as integer_tree_of, enum_tree as enum_tree_of};
-ghost use Rattle.pbx_json_meaning.specs.Canonical.{tells, truth_by, text_by, bytes_by, key_text as key_text_of};
+ghost use Rattle.pbx_json_meaning.specs.Canonical.{writing, tells, truth_by, text_by, bytes_by, key_text as key_text_of};
 ghost use Rattle.pbx_json_meaning.specs.Scalars.{family};
 ghost use Rattle.pbx_json_writing.specs.Indexes.{AreIndexes};
 ghost use Rattle.pbx_json_writing.specs.Kinds.{is_integer as is_integer_of, is_scalar};
+ghost use Rattle.pbx_json_writing.specs.Writings.{plain};
 ghost use Rattle.pbx_json_writing.specs.Refusals.{Refused, RefusedAnyhow};
 ghost use Rattle.pbx_json_writing.specs.declared.refusal.Refusal.TheVariants as refused;
 
-use crate::enums::{Indexes, is_null_value, value_by_index, value_of_number};
+use crate::enums::{is_null_value, value_of_number};
+use crate::indexes::Indexes;
 use crate::refusal::Refusal;
 use pbx_codec::{Held, MapKey};
 use pbx_json_meaning::{JsonKind, SerializeOptions};
@@ -90,7 +92,7 @@ pub(crate) fn integer_tree(
     kind: Kind,
     number: i128,
 ) -> Result<Value, NoMemory>
-    ensures { IfOk result (λ tree. view tree ≡ integer_tree_of options.now kind number) }
+    ensures { IfOk result (λ tree. view tree ≡ integer_tree_of (plain options.now) kind number) }
 {
     if is_wide(kind) && options.stringify_64_bit_integers {
         let text = decimal(alloc, number)?;
@@ -108,7 +110,7 @@ pub(crate) fn enum_tree(
     place: usize,
     number: i128,
 ) -> Result<Value, NoMemory>
-    ensures { IfOk result (λ tree. view tree ≡ enum_tree_of schema.now options.now place number) }
+    ensures { IfOk result (λ tree. view tree ≡ enum_tree_of schema.now (writing schema.now options.now) place number) }
 {
     if is_null_value(schema, place) {
         return Ok(Value::Null);
@@ -132,7 +134,7 @@ fn indexed_enum_tree(
     number: i128,
 ) -> Result<Value, NoMemory>
     requires { AreIndexes schema.now indexes.old }
-    ensures written { IfOk result (λ tree. view tree ≡ enum_tree_of schema.now options.now place number) }
+    ensures written { IfOk result (λ tree. view tree ≡ enum_tree_of schema.now (writing schema.now options.now) place number) }
     ensures known { AreIndexes schema.now indexes.new }
 {
     if is_null_value(schema, place) {
@@ -141,7 +143,7 @@ fn indexed_enum_tree(
     if options.use_enum_numbers {
         return plain_number(number);
     }
-    match value_by_index(alloc, schema, indexes, place, number) {
+    match indexes.value_of_number(alloc, schema, place, number) {
         Ok(Some(value)) => string_tree(alloc, value.name.as_str()),
         Ok(None) => plain_number(number),
         Err(NoMemory) => Err(NoMemory),
@@ -158,8 +160,8 @@ fn number_tree(
     number: i128,
 ) -> Result<Value, Refusal>
     requires { AreIndexes schema.now indexes.old }
-    ensures written { IfOk result (λ tree. tells schema.now options.now (number_of number) (one kind) ≡ Some (view tree)) }
-    ensures refused { IfErr result (Refused schema.now options.now (number_of number) kind) }
+    ensures written { IfOk result (λ tree. tells schema.now (writing schema.now options.now) (number_of number) (one kind) ≡ Some (view tree)) }
+    ensures refused { IfErr result (Refused schema.now (writing schema.now options.now) (number_of number) kind) }
     ensures known { AreIndexes schema.now indexes.new }
 {
     if is_integer(kind) {
@@ -224,8 +226,8 @@ pub(crate) fn scalar_tree(
     kind: Kind,
 ) -> Result<Value, Refusal>
     requires { AreIndexes schema.now indexes.old }
-    ensures written { IfOk result (λ tree. tells schema.now options.now (val_of held.now) (one kind) ≡ Some (view tree)) }
-    ensures refused { IfErr result (Refused schema.now options.now (val_of held.now) kind) }
+    ensures written { IfOk result (λ tree. tells schema.now (writing schema.now options.now) (val_of held.now) (one kind) ≡ Some (view tree)) }
+    ensures refused { IfErr result (Refused schema.now (writing schema.now options.now) (val_of held.now) kind) }
     ensures alone { (is_scalar (val_of held.now) ≡ true) ⊎ (result ≡ Err refused.Memory) }
     ensures known { AreIndexes schema.now indexes.new }
 {

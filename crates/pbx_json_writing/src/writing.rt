@@ -7,9 +7,10 @@ ghost use Rattle.pbx_meaning.specs.Sound.{IsSound};
 ghost use Rattle.pbx_codec.specs.View.{val_of, content_of, pair_of};
 ghost use Rattle.pbx_json_meaning.specs.Forms.{is_object_type, kind_at as kind_at_of};
 ghost use Rattle.pbx_wkt.specs.Shapes.{form_of as form_of_type};
+ghost use Rattle.pbx_wkt.specs.declared.form.Form.TheVariants as forms;
 ghost use Rattle.pbx_json_meaning.specs.Asked.{one};
 ghost use Rattle.pbx_json_meaning.specs.Faults.{SomeWith};
-ghost use Rattle.pbx_json_meaning.specs.Canonical.{tells, canonical};
+ghost use Rattle.pbx_json_meaning.specs.Canonical.{writing, tells, canonical};
 ghost use Rattle.pbx_json_meaning.specs.WriteFaults.{WriteFault};
 ghost use Rattle.pbx_json_meaning.specs.declared.kind.JsonKind.TheVariants as fault;
 ghost use Rattle.pbx_json_writing.specs.Indexes.{AreIndexes};
@@ -17,10 +18,11 @@ ghost use Rattle.pbx_json_writing.specs.Kinds.{told_value, is_passed_form as is_
 ghost use Rattle.pbx_json_writing.specs.Lines.{field_members};
 ghost use Rattle.pbx_json_writing.specs.Refusals.{Refused};
 
+use crate::any::{payload_of, url_of, with_payload};
 use crate::defaults::with_defaults;
-use crate::enums::Indexes;
 use crate::fields::{field_numbered, keeps_no_float, key_of_field, kind_at, message_type};
 use crate::forms::{is_object_form, is_passed_form, number_of_value, own_tree};
+use crate::indexes::Indexes;
 use crate::members::{add_item, add_member};
 use crate::refusal::Refusal;
 use crate::scalars::{key_text, scalar_tree};
@@ -47,8 +49,8 @@ fn held_tree(
     room: u32,
 ) -> Result<Value, Refusal>
     requires { AreIndexes schema.now indexes.old }
-    ensures written { IfOk result (λ tree. tells schema.now options.now (val_of held.now) (one kind) ≡ Some (view tree)) }
-    ensures refused { IfErr result (Refused schema.now options.now (val_of held.now) kind) }
+    ensures written { IfOk result (λ tree. tells schema.now (writing schema.now options.now) (val_of held.now) (one kind) ≡ Some (view tree)) }
+    ensures refused { IfErr result (Refused schema.now (writing schema.now options.now) (val_of held.now) kind) }
     ensures known { AreIndexes schema.now indexes.new }
 {
     match held {
@@ -73,8 +75,9 @@ fn array_tree(
     room: u32,
 ) -> Result<Value, Refusal>
     requires { AreIndexes schema.now indexes.old }
-    ensures written { IfOk result (λ tree. tells schema.now options.now (many_of (vals_of (map_list val_of many.now))) (one kind) ≡ Some (view tree)) }
-    ensures refused { IfErr result (Refused schema.now options.now (many_of (vals_of (map_list val_of many.now))) kind) }
+    ensures written { IfOk result (λ tree. tells schema.now (writing schema.now options.now) (many_of (vals_of (map_list val_of many.now))) (one kind)
+        ≡ Some (view tree)) }
+    ensures refused { IfErr result (Refused schema.now (writing schema.now options.now) (many_of (vals_of (map_list val_of many.now))) kind) }
     ensures known { AreIndexes schema.now indexes.new }
 {
     if room == 0 {
@@ -102,8 +105,9 @@ fn entries_tree(
     room: u32,
 ) -> Result<Value, Refusal>
     requires { AreIndexes schema.now indexes.old }
-    ensures written { IfOk result (λ tree. tells schema.now options.now (keyed (pairs_of (map_list pair_of pairs.now))) (one kind) ≡ Some (view tree)) }
-    ensures refused { IfErr result (Refused schema.now options.now (keyed (pairs_of (map_list pair_of pairs.now))) kind) }
+    ensures written { IfOk result (λ tree. tells schema.now (writing schema.now options.now) (keyed (pairs_of (map_list pair_of pairs.now))) (one kind)
+        ≡ Some (view tree)) }
+    ensures refused { IfErr result (Refused schema.now (writing schema.now options.now) (keyed (pairs_of (map_list pair_of pairs.now))) kind) }
     ensures known { AreIndexes schema.now indexes.new }
 {
     if room == 0 {
@@ -135,9 +139,10 @@ fn field_map(
 ) -> Result<Map<String, Value>, Refusal>
     requires plain { is_object_type schema.now (type_of kind) ≡ true }
     requires known { AreIndexes schema.now indexes.old }
-    ensures written { IfOk result (λ map. field_members schema.now options.now (declared_of schema.now (type_of kind)) (content_of contents.now)
+    ensures written { IfOk result (λ map. field_members schema.now (writing schema.now options.now) (declared_of schema.now (type_of kind))
+        (content_of contents.now)
         ≡ Some (members_view map.entries)) }
-    ensures refused { IfErr result (Refused schema.now options.now (message (content_of contents.now)) kind) }
+    ensures refused { IfErr result (Refused schema.now (writing schema.now options.now) (message (content_of contents.now)) kind) }
     ensures known { AreIndexes schema.now indexes.new }
 {
     let type_at = message_type(kind);
@@ -168,10 +173,11 @@ fn field_tree(
     room: u32,
 ) -> Result<Value, Refusal>
     requires { AreIndexes schema.now indexes.old }
-    ensures written { IfOk result (λ tree. told_value schema.now options.now (kind_at_of schema.now (type_of kind) number) (Some (view otherwise))
+    ensures written { IfOk result (λ tree. told_value schema.now (writing schema.now options.now) (kind_at_of schema.now (type_of kind) number)
+        (Some (view otherwise))
         (get number (fields (content_of contents.now))) ≡ Some (view tree)) }
     ensures refused { IfErr result (λ refusal. SomeWith (get number (fields (content_of contents.now)))
-        (λ held. Refused schema.now options.now held (kind_at_of schema.now (type_of kind) number) refusal)) }
+        (λ held. Refused schema.now (writing schema.now options.now) held (kind_at_of schema.now (type_of kind) number) refusal)) }
     ensures known { AreIndexes schema.now indexes.new }
 {
     match contents.get(number) {
@@ -184,7 +190,41 @@ fn field_tree(
     }
 }
 
-/// A message of a type that is told by the value of a field.
+/// A message of `google.protobuf.Any`: the URL of a type, and a payload of that type.
+#[cycle(write)]
+fn any_tree(
+    contents: &Contents,
+    alloc: Global,
+    schema: &Schema,
+    options: &SerializeOptions,
+    indexes: &mut Indexes,
+    kind: Kind,
+    room: u32,
+) -> Result<Value, Refusal>
+    requires form { form_of_type schema.now (type_of kind) ≡ forms.Any }
+    requires known { AreIndexes schema.now indexes.old }
+    ensures written { IfOk result (λ tree. tells schema.now (writing schema.now options.now) (message (content_of contents.now)) (one kind)
+        ≡ Some (view tree)) }
+    ensures refused { IfErr result (Refused schema.now (writing schema.now options.now) (message (content_of contents.now)) kind) }
+    ensures known { AreIndexes schema.now indexes.new }
+{
+    let payload = match payload_of(contents, alloc, schema, indexes, kind) {
+        Ok(payload) => payload,
+        Err(refusal) => return Err(refusal),
+    };
+    let written = message_tree(
+        &payload.contents,
+        alloc,
+        schema,
+        options,
+        indexes,
+        Kind::Message(payload.type_at),
+        room,
+    );
+    with_payload(alloc, schema, url_of(contents), payload.type_at, written)
+}
+
+/// A message of a type that is told by the value of a field, or by its payload.
 #[cycle(write)]
 fn passed_tree(
     contents: &Contents,
@@ -199,8 +239,9 @@ fn passed_tree(
     requires form { form ≡ form_of_type schema.now (type_of kind) }
     requires passed { is_passed_form_of form ≡ true }
     requires known { AreIndexes schema.now indexes.old }
-    ensures written { IfOk result (λ tree. tells schema.now options.now (message (content_of contents.now)) (one kind) ≡ Some (view tree)) }
-    ensures refused { IfErr result (Refused schema.now options.now (message (content_of contents.now)) kind) }
+    ensures written { IfOk result (λ tree. tells schema.now (writing schema.now options.now) (message (content_of contents.now)) (one kind)
+        ≡ Some (view tree)) }
+    ensures refused { IfErr result (Refused schema.now (writing schema.now options.now) (message (content_of contents.now)) kind) }
     ensures known { AreIndexes schema.now indexes.new }
 {
     match form {
@@ -216,6 +257,7 @@ fn passed_tree(
                 contents, alloc, schema, options, indexes, kind, 1, empty, room,
             )
         }
+        Form::Any => any_tree(contents, alloc, schema, options, indexes, kind, room),
         _ => match number_of_value(contents, alloc, schema, kind) {
             Ok(1) => Ok(Value::Null),
             Ok(number) => field_tree(
@@ -246,8 +288,9 @@ fn message_tree(
     room: u32,
 ) -> Result<Value, Refusal>
     requires { AreIndexes schema.now indexes.old }
-    ensures written { IfOk result (λ tree. tells schema.now options.now (message (content_of contents.now)) (one kind) ≡ Some (view tree)) }
-    ensures refused { IfErr result (Refused schema.now options.now (message (content_of contents.now)) kind) }
+    ensures written { IfOk result (λ tree. tells schema.now (writing schema.now options.now) (message (content_of contents.now)) (one kind)
+        ≡ Some (view tree)) }
+    ensures refused { IfErr result (Refused schema.now (writing schema.now options.now) (message (content_of contents.now)) kind) }
     ensures known { AreIndexes schema.now indexes.new }
 {
     if room == 0 {
@@ -282,7 +325,7 @@ fn message_tree(
 ///
 /// A content that no message of the type may have can lack a tree with no rule broken; the error then has some kind and
 /// place. The stack is memory too: where messages, lists and maps stand inside one another more than 2,049 deep, as they
-/// do not where messages nest at most 1,024 levels, that is `NoMemory`.
+/// do not where messages nest at most 1,024 levels, that is `NoMemory`. The payload of an `Any` stands inside it.
 pub fn write_content(
     alloc: Global,
     schema: &Schema,
@@ -295,7 +338,7 @@ pub fn write_content(
     ensures fault { IsSound schema.now place (content_of content.now)
         → IfErr result (λ e. (e.kind ≡ fault.NoMemory) ⊎ WriteFault schema.now place (content_of content.now) options.now e.place e.kind) }
 {
-    let mut indexes = Indexes::new(alloc);
+    let mut indexes = Indexes::new(alloc, schema);
     match message_tree(
         content,
         alloc,

@@ -3,6 +3,7 @@ use Rattle.serde_json.specs.View.{view, members_view}
 use Rattle.pbx_meaning.specs.Encoding.{type_of}
 use Rattle.pbx_meaning.specs.Shape.{declared_of}
 use Rattle.pbx_json_meaning.specs.Stands.{all_read}
+use Rattle.pbx_json_meaning.specs.Canonical.{writing}
 use Rattle.pbx_json_writing.specs.Indexes.{AreIndexes}
 use Rattle.pbx_json_writing.specs.Lines.{collected}
 use Rattle.pbx_json_writing.proofs.Arrays.{told}
@@ -29,23 +30,26 @@ decreases-field_map l = 4 * l.room + 2
 abbrev pub decreases-field_tree : goal.decreases-field_tree
 decreases-field_tree l = 4 * l.room + 2
 
+abbrev pub decreases-any_tree : goal.decreases-any_tree
+decreases-any_tree l = 4 * l.room + 2
+
 abbrev pub decreases-passed_tree : goal.decreases-passed_tree
 decreases-passed_tree l = 4 * l.room + 3
 
 abbrev pub invariant-array_tree-loop-held : goal.invariant-array_tree-loop-held
 invariant-array_tree-loop-held l = record {
-  so : all_read (told l.schema l.options l.kind) (take l.held-index l.held-items) ≡ Some (map view l.items.items);
+  so : all_read (told l.schema (writing l.schema l.options) l.kind) (take l.held-index l.held-items) ≡ Some (map view l.items.items);
   known : AreIndexes l.schema l.indexes;
 }
 
 abbrev pub invariant-entries_tree-loop-pair : goal.invariant-entries_tree-loop-pair
 invariant-entries_tree-loop-pair l = record {
-  so : collected (map (entry l.schema l.options l.kind) (take l.pair-index l.pair-items)) ≡ Some (members_view l.map.entries);
+  so : collected (map (entry l.schema (writing l.schema l.options) l.kind) (take l.pair-index l.pair-items)) ≡ Some (members_view l.map.entries);
   known : AreIndexes l.schema l.indexes;
 }
 
 abbrev pub invariant-field_map-loop-field : goal.invariant-field_map-loop-field
 invariant-field_map-loop-field l = record {
-  so : collected (map (line l.schema l.options (declared_of l.schema (type_of l.fn.kind))) (take l.field-index l.field-items)) ≡ Some (members_view l.map.entries);
+  so : collected (map (line l.schema (writing l.schema l.options) (declared_of l.schema (type_of l.fn.kind))) (take l.field-index l.field-items)) ≡ Some (members_view l.map.entries);
   known : AreIndexes l.schema l.indexes;
 }

@@ -1,0 +1,236 @@
+// The payload of a message of `google.protobuf.Any`, and where its tree stands.
+ghost use Rattle.std.specs.Prelude.{◌≡◌, codes, Some, IfOk, IfErr, IsOkAnd};
+ghost use Rattle.serde_json.specs.Data.{string};
+ghost use Rattle.serde_json.specs.View.{view};
+ghost use Rattle.pbx_meaning.specs.Content.{get, fields, message};
+ghost use Rattle.pbx_meaning.specs.Encoding.{type_of};
+ghost use Rattle.pbx_meaning.specs.Meaning.{meaning_of};
+ghost use Rattle.pbx_meaning.specs.Sound.{IsSound};
+ghost use Rattle.pbx_codec.specs.View.{val_of, content_of};
+ghost use Rattle.pbx_wkt.specs.Shapes.{form_of as form_of_type};
+ghost use Rattle.pbx_wkt.specs.declared.form.Form.TheVariants as forms;
+ghost use Rattle.pbx_json_meaning.specs.Canonical.{writing, any_with, with_type as with_type_of, type_and_value as type_and_value_of};
+ghost use Rattle.pbx_json_meaning.specs.Forms.{text_at as text_at_of, bytes_at as bytes_at_of};
+ghost use Rattle.pbx_json_meaning.specs.Urls.{stands_beside as stands_beside_of};
+ghost use Rattle.pbx_json_meaning.specs.declared.options.SerializeOptions.{SerializeOptions as Options};
+ghost use Rattle.pbx_json_writing.specs.Indexes.{AreIndexes};
+ghost use Rattle.pbx_json_writing.specs.Payloads.{IsPayloadOf};
+ghost use Rattle.pbx_json_writing.specs.Refusals.{Refused, IsPayloadRefused, IsTypeRefused, IsPayloadLifted, IsAnyRefused};
+ghost use Rattle.pbx_json_writing.specs.declared.refusal.Refusal.TheVariants as refused;
+
+use crate::indexes::Indexes;
+use crate::members::{add_member, put};
+use crate::refusal::Refusal;
+use crate::scalars::string_tree;
+use pbx_codec::{Contents, Held, decode};
+use pbx_json_meaning::JsonKind;
+use pbx_meaning::{Kind, Schema, meaning_is_sound};
+use pbx_wire::DecodeError;
+use pbx_wkt::{Form, form_of};
+use serde_json::{Map, Value};
+use std::alloc::Global;
+
+/// The payload of an `Any`.
+#[derive(Drop)]
+pub(crate) struct Payload {
+    /// The place of its type.
+    pub(crate) type_at: usize,
+    /// What its bytes mean.
+    pub(crate) contents: Contents,
+}
+
+// ---- the payload
+
+/// The text that is held; of a value that is none, the empty one.
+fn text_held(held: &Held) -> &str
+    ensures { result.now ≡ text_at_of (Some (val_of held.now)) }
+{
+    match held {
+        Held::Text(text) => text.as_str(),
+        Held::I32(_)
+        | Held::I64(_)
+        | Held::U32(_)
+        | Held::U64(_)
+        | Held::Bool(_)
+        | Held::Bytes(_)
+        | Held::Message(_)
+        | Held::Many(_)
+        | Held::Pairs(_) => "",
+    }
+}
+
+/// The text in a field, and the empty one where it is absent.
+fn text_at(contents: &Contents, number: u32) -> &str
+    ensures { result.now ≡ text_at_of (get number (fields (content_of contents.now))) }
+{
+    match contents.get(number) {
+        Some(held) => text_held(held),
+        None => "",
+    }
+}
+
+/// The bytes that are held; of a value that is none, no bytes.
+fn bytes_held(held: &Held) -> &[u8]
+    ensures { result.now ≡ bytes_at_of (Some (val_of held.now)) }
+{
+    match held {
+        Held::Bytes(bytes) => bytes.as_slice(),
+        Held::I32(_)
+        | Held::I64(_)
+        | Held::U32(_)
+        | Held::U64(_)
+        | Held::Bool(_)
+        | Held::Text(_)
+        | Held::Message(_)
+        | Held::Many(_)
+        | Held::Pairs(_) => &[],
+    }
+}
+
+/// The bytes in a field, and none where it is absent.
+fn bytes_at(contents: &Contents, number: u32) -> &[u8]
+    ensures { result.now ≡ bytes_at_of (get number (fields (content_of contents.now))) }
+{
+    match contents.get(number) {
+        Some(held) => bytes_held(held),
+        None => &[],
+    }
+}
+
+/// The URL of the payload's type.
+pub(crate) fn url_of(contents: &Contents) -> &str
+    ensures { result.now ≡ text_at_of (get 1 (fields (content_of contents.now))) }
+{
+    text_at(contents, 1)
+}
+
+/// What bytes mean as a message of a type.
+fn decoded(
+    alloc: Global,
+    schema: &Schema,
+    type_at: usize,
+    bytes: &[u8],
+) -> Result<Contents, Refusal>
+    ensures found { IfOk result (λ contents. meaning_of schema.now type_at bytes.now ≡ Some (content_of contents)) }
+    ensures sound { IfOk result (λ contents. IsSound schema.now type_at (content_of contents)) }
+    ensures refused { IfErr result (IsPayloadRefused (meaning_of schema.now type_at bytes.now)) }
+{
+    let _proper = schema.shape();
+    meaning_is_sound();
+    match decode(alloc, schema, type_at, bytes) {
+        Ok(contents) => Ok(contents),
+        Err(DecodeError::NoMemory) => Err(Refusal::Memory),
+        Err(_) => Err(Refusal::here(alloc, JsonKind::AnyPayload)),
+    }
+}
+
+/// The payload of an `Any`, of the type that its URL names.
+pub(crate) fn payload_of(
+    contents: &Contents,
+    alloc: Global,
+    schema: &Schema,
+    indexes: &mut Indexes,
+    kind: Kind,
+) -> Result<Payload, Refusal>
+    requires form { form_of_type schema.now (type_of kind) ≡ forms.Any }
+    requires known { AreIndexes schema.now indexes.old }
+    ensures found { IfOk result (IsPayloadOf schema.now (fields (content_of contents.now))) }
+    ensures refused { (options : Options) → IfErr result (Refused schema.now (writing schema.now options) (message (content_of contents.now)) kind) }
+    ensures known { AreIndexes schema.now indexes.new }
+{
+    match indexes.type_of_url(alloc, schema, url_of(contents))? {
+        Some(type_at) => match decoded(alloc, schema, type_at, bytes_at(contents, 2)) {
+            Ok(contents) => Ok(Payload { type_at, contents }),
+            Err(refusal) => Err(refusal),
+        },
+        None => Err(Refusal::here(alloc, JsonKind::AnyType)),
+    }
+}
+
+// ---- its tree
+
+/// Whether the payload's fields stand beside the URL of their type.
+fn stands_beside(schema: &Schema, type_at: usize) -> bool
+    ensures { result ≡ stands_beside_of schema.now type_at }
+{
+    matches!(form_of(schema, type_at), Form::Fields)
+}
+
+/// A URL as a tree.
+fn url_tree(alloc: Global, url: &str) -> Result<Value, Refusal>
+    ensures written { IfOk result (λ tree. view tree ≡ string url.now) }
+    ensures refused { IfErr result (λ r. r ≡ refused.Memory) }
+{
+    Ok(string_tree(alloc, url)?)
+}
+
+/// The object with the type's URL among its members.
+fn with_type(alloc: Global, url: &str, tree: Value) -> Result<Value, Refusal>
+    ensures written { IfOk result (λ any. with_type_of url.now (view tree) ≡ Some (view any)) }
+    ensures refused { IfErr result (IsTypeRefused (view tree)) }
+{
+    match tree {
+        Value::Object(mut map) => match add_member(alloc, "@type", url_tree(alloc, url), &mut map) {
+            Ok(()) => Ok(Value::Object(map)),
+            Err(refusal) => Err(refusal),
+        },
+        _ => Err(Refusal::Memory),
+    }
+}
+
+/// An object of the type's URL and the payload's tree.
+fn type_and_value(alloc: Global, url: &str, tree: Value) -> Result<Value, Refusal>
+    ensures written { IfOk result (λ any. type_and_value_of url.now (view tree) ≡ view any) }
+    ensures refused { IfErr result (λ r. r ≡ refused.Memory) }
+{
+    let mut map = Map::new(alloc);
+    put(alloc, "value", tree, &mut map)?;
+    put(alloc, "@type", url_tree(alloc, url)?, &mut map)?;
+    Ok(Value::Object(map))
+}
+
+/// The tree of an `Any` with that of its payload.
+fn with_tree(
+    alloc: Global,
+    schema: &Schema,
+    url: &str,
+    type_at: usize,
+    tree: Value,
+) -> Result<Value, Refusal>
+    ensures written { IfOk result (λ any. any_with schema.now url.now type_at (view tree) ≡ Some (view any)) }
+    ensures refused { IfErr result (IsAnyRefused (stands_beside_of schema.now type_at) (Ok tree)) }
+{
+    if stands_beside(schema, type_at) {
+        with_type(alloc, url, tree)
+    } else {
+        type_and_value(alloc, url, tree)
+    }
+}
+
+/// The refusal of an `Any` whose payload is refused.
+fn lifted(alloc: Global, schema: &Schema, type_at: usize, below: Refusal) -> Refusal
+    ensures { IsPayloadLifted (stands_beside_of schema.now type_at) below result }
+{
+    if stands_beside(schema, type_at) {
+        below
+    } else {
+        below.under_key(alloc, "value")
+    }
+}
+
+/// The tree of an `Any` with what is written of its payload.
+pub(crate) fn with_payload(
+    alloc: Global,
+    schema: &Schema,
+    url: &str,
+    type_at: usize,
+    written: Result<Value, Refusal>,
+) -> Result<Value, Refusal>
+    ensures written { IfOk result (λ any. IsOkAnd written (λ tree. any_with schema.now url.now type_at (view tree) ≡ Some (view any))) }
+    ensures refused { IfErr result (IsAnyRefused (stands_beside_of schema.now type_at) written) }
+{
+    match written {
+        Ok(tree) => with_tree(alloc, schema, url, type_at, tree),
+        Err(below) => Err(lifted(alloc, schema, type_at, below)),
+    }
+}
