@@ -402,7 +402,6 @@ module _ (shape : Shape) where
   own_as_goes (Ok (whole c)) s d ds ms g m h v e = rw h e
   own_as_goes (Ok (a_list k wrap)) s d ds ms g m h v e = rw h (map_goes wrap _ _ (map_goes (shown shape false k) _ _ (list_goes k d ds g)) v e)
   own_as_goes (Ok (a_map k wrap)) s d ds ms g m h v e = rw h (map_goes wrap _ _ (map_goes (shown shape false k) _ _ (map_as_goes kind.String k d ms m)) v e)
-
   own_as_goes (Ok (beside a fs wrap)) s d ds ms g m h v e = at h
     where
       object_goes : (b : Bool) → Goes (message_of a fs (entries_said shape false (without_type ms))) (message_of b fs (entries_said shape true (without_type ms)))
