@@ -49,7 +49,12 @@ fn type_places(alloc: Global, messages: &[MessageShape]) -> Result<NamePlaces, N
 {
     let mut places = NamePlaces::new(alloc);
     for place in 0..messages.len() {
-        add_place(&mut places, alloc, messages[place].full_name.as_str(), place)?;
+        add_place(
+            &mut places,
+            alloc,
+            messages[place].full_name.as_str(),
+            place,
+        )?;
     }
     Ok(places)
 }
