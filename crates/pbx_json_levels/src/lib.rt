@@ -1,7 +1,7 @@
 //! Whether a message nests no deeper than is read, and the payloads of its `google.protobuf.Any` messages are read again.
 #![tactic(auto)]
 
-mod payload;
+mod types;
 mod walk;
 
 pub use walk::fits;

@@ -8,7 +8,8 @@ ghost use Rattle.pbx_json_meaning.specs.Fits.{fits as fits_of, payload_fits, pay
 ghost use Rattle.pbx_json_meaning.specs.Fits.{fields_payloads, vals_payloads, pairs_payloads};
 ghost use Rattle.pbx_field_names.specs.Index.{AreTypesIn};
 
-use crate::payload::{kind_at, message_type, payload_bytes, url};
+use crate::types::{kind_at, message_type};
+use pbx_any::{payload_bytes, type_url};
 use pbx_codec::{Contents, Held, Pair, decode, depth};
 use pbx_field_names::TypeNames;
 use pbx_json_payload_laws::fits_by_content;
@@ -140,7 +141,7 @@ fn own_payload_fits(
     ensures fit { IfOk result (λ yes. yes ≡ list_all (payload_fits schema.now) (payload_by schema.now Form.Any (fields (content_of contents.now)))) }
     ensures known { AreTypesIn schema.now types.new }
 {
-    match types.find_url(alloc, schema, url(contents))? {
+    match types.find_url(alloc, schema, type_url(contents))? {
         Some(place) => payload_is_read(payload_bytes(contents), alloc, schema, types, place, room),
         None => Ok(true),
     }

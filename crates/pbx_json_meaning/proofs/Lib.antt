@@ -3,3 +3,4 @@ mod First
 mod Allowed
 mod Plain
 mod Rows
+mod AnyRows

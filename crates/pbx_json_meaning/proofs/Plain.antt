@@ -39,9 +39,9 @@ use Rattle.pbx_json_meaning.specs.Canonical.{is_wide, integer_tree, value_of_num
 use Rattle.pbx_json_meaning.specs.Canonical.{Line, has_key, with_line, members_of_lines, Tells, Told, default_by, default_tree}
 use Rattle.pbx_json_meaning.specs.Canonical.{default_line, told_line, message_tree, scalar_tree, form_tree, told_tree, first_field, kind_asked, items_of, array_tree, entry_line}
 use Rattle.pbx_json_meaning.specs.Canonical.{tells, content_tree, fields_tell, vals_tell, pairs_tell}
-use Rattle.pbx_json_meaning.specs.Canonical.{Writing, writing, with_member, with_type, type_and_value, any_with, payload_in, payload_tree}
+use Rattle.pbx_json_meaning.specs.Canonical.{Writing, writing, with_type, type_and_value, any_with, payload_in, payload_tree}
 use Rattle.pbx_json_meaning.specs.Urls.{stands_beside, type_of_url}
-use Rattle.pbx_json_meaning.specs.Forms.{text_at, bytes_at}
+use Rattle.pbx_json_meaning.specs.Forms.{text_at}
 use Rattle.pbx_json_meaning.specs.declared.options.SerializeOptions.{SerializeOptions}
 
 -- ---- trees

@@ -25,11 +25,7 @@ use Rattle.pbx_json_meaning.specs.Place.{place_cmp}
 use Rattle.pbx_json_meaning.specs.Options.{default_writing}
 use Rattle.pbx_json_meaning.specs.Stands.{content_for}
 use Rattle.pbx_json_meaning.specs.Faults.{JsonFault}
-use Rattle.pbx_json_meaning.specs.Canonical.{canonical, payload_tree}
-use Rattle.pbx_json_meaning.specs.Forms.{packed}
-use Rattle.pbx_json_meaning.specs.Fits.{fits, decodes_within}
-use Rattle.pbx_meaning.specs.Meaning.{meaning}
-use Rattle.pbx_wire.specs.Reading.{body_at, items_at, item_at, key_at, varint_at, keyed_at, value_at}
+use Rattle.pbx_json_meaning.specs.Canonical.{canonical}
 use Rattle.pbx_json_meaning.specs.WriteFaults.{WriteFault}
 use Rattle.pbx_json_meaning.specs.Clash.{name_fault, first_clash}
 use Rattle.pbx_json_meaning.specs.declared.kind.JsonKind.TheVariants as fault
@@ -81,7 +77,7 @@ abbrev ext : FieldShape
 ext = record (a_field 10 (codes "p.e") (codes "[p.e]") kind.Int32 Singular true None) { is_extension = true }
 
 -- by their places: M, N, P, O, T, the entry of T, p.X, two of well-known names without their shapes, U, six well-known types
-abbrev pool : Shape
+abbrev pub pool : Shape
 pool = record {
   messages =
       a_message (codes "M") (plain 1 (codes "foo") kind.Int32 ∷ [])
@@ -123,13 +119,13 @@ row_shapes : name_fault true pool ≡ Some (WellKnownShape (codes "google.protob
 unfolding form_of known_of is_as_declared
 row_shapes = refl
 
-abbrev int : ℕ → Data
+abbrev pub int : ℕ → Data
 int n = number (unsigned n)
 
-abbrev one_key : List ℕ → Data → Data
+abbrev pub one_key : List ℕ → Data → Data
 one_key k d = object (member k d no_members)
 
-abbrev two_keys : List ℕ → Data → List ℕ → Data → Data
+abbrev pub two_keys : List ℕ → Data → List ℕ → Data → Data
 two_keys k d l e = object (member k d (member l e no_members))
 
 abbrev fields_with : Fields → Option Content
@@ -594,111 +590,6 @@ unfolding form_of known_of is_as_declared
 row_two_kinds = inr refl
 
 -- ---- well-known types
-
--- an `Any` names a type, behind a `/`
-row_any_empty : JsonFault pool 15 false (object no_members) [] fault.AnyType
-unfolding form_of known_of is_as_declared
-row_any_empty = refl
-
-row_any_no_slash : JsonFault pool 15 false (one_key (codes "@type") (string (codes "M"))) [] fault.AnyType
-unfolding form_of known_of is_as_declared
-row_any_no_slash = refl
-
-row_any_no_text : JsonFault pool 15 false (one_key (codes "@type") (int 1)) [] fault.AnyType
-unfolding form_of known_of is_as_declared
-row_any_no_text = refl
-
-row_any_no_object : JsonFault pool 15 false (string (codes "/M")) [] fault.WrongKind
-unfolding form_of known_of is_as_declared
-row_any_no_object = refl
-
--- the fields of an ordinary payload stand beside `@type`
-abbrev any_m : List ℕ → Content
-any_m bytes = content.content (content.field 1 (content.text (codes "/M")) (content.field 2 (content.octets bytes) content.no_fields)) []
-
-row_any_message : content_for pool 15 false (two_keys (codes "@type") (string (codes "/M")) (codes "foo") (int 150))
-    ≡ Some (packed pool 15 (codes "/M") 0 (content.content (content.field 1 (content.number (pos 150)) content.no_fields) []))
-unfolding form_of known_of is_as_declared
-row_any_message = refl
-
-row_any_unknown : JsonFault pool 15 false (two_keys (codes "@type") (string (codes "/M")) (codes "value") (int 1)) (Key (codes "value") ∷ []) fault.UnknownField
-unfolding form_of known_of is_as_declared
-row_any_unknown = inl (refl, refl, (refl, refl))
-
-row_any_message_written : canonical pool 15 (any_m (8 ∷ 150 ∷ 1 ∷ [])) default_writing
-    ≡ Some (two_keys (codes "@type") (string (codes "/M")) (codes "foo") (int 150))
-unfolding form_of known_of is_as_declared payload_tree meaning body_at items_at item_at key_at varint_at keyed_at value_at
-row_any_message_written = refl
-
-row_any_payload : WriteFault pool 15 (any_m (8 ∷ [])) default_writing [] fault.AnyPayload
-unfolding form_of known_of is_as_declared meaning body_at items_at item_at key_at varint_at keyed_at value_at
-row_any_payload = refl
-
-row_any_payload_fits : fits pool 15 (any_m (8 ∷ [])) ≡ false
-unfolding form_of known_of is_as_declared decodes_within meaning body_at items_at item_at key_at varint_at keyed_at value_at
-row_any_payload_fits = refl
-
-row_any_untyped : WriteFault pool 15 content.empty default_writing [] fault.AnyType
-unfolding form_of known_of is_as_declared
-row_any_untyped = refl
-
--- a payload without a type is none
-row_any_untyped_fits : fits pool 15 content.empty ≡ true
-unfolding form_of known_of is_as_declared
-row_any_untyped_fits = refl
-
--- a well-known payload stands under `value`
-abbrev any_wrapped : Data → Data
-any_wrapped d = two_keys (codes "@type") (string (codes "/google.protobuf.Int64Value")) (codes "value") d
-
-row_any_value : content_for pool 15 false (any_wrapped (string (codes "7")))
-    ≡ Some (packed pool 15 (codes "/google.protobuf.Int64Value") 12 (content.content (content.field 1 (content.number (pos 7)) content.no_fields) []))
-unfolding form_of known_of is_as_declared
-row_any_value = refl
-
-row_any_no_value : JsonFault pool 15 false (one_key (codes "@type") (string (codes "/google.protobuf.Int64Value"))) [] fault.AnyValue
-unfolding form_of known_of is_as_declared
-row_any_no_value = refl
-
-row_any_below : JsonFault pool 15 false (any_wrapped (boolean true)) (Key (codes "value") ∷ []) fault.WrongKind
-unfolding form_of known_of is_as_declared
-row_any_below = inr refl
-
--- null is no value of a wrapper here
-row_any_null : JsonFault pool 15 false (any_wrapped null) (Key (codes "value") ∷ []) fault.WrongKind
-unfolding form_of known_of is_as_declared
-row_any_null = inr refl
-
--- an extra key, which stands before `value`
-abbrev any_extra : Data
-any_extra =
-    object (member (codes "@type") (string (codes "/google.protobuf.Int64Value")) (member (codes "a") null (member (codes "value") (int 7) no_members)))
-
-row_any_extra : JsonFault pool 15 false any_extra (Key (codes "a") ∷ []) fault.UnknownField
-unfolding form_of known_of is_as_declared
-row_any_extra = inl (refl, refl, (refl, refl))
-
-row_any_extra_allowed : content_for pool 15 true any_extra
-    ≡ Some (packed pool 15 (codes "/google.protobuf.Int64Value") 12 (content.content (content.field 1 (content.number (pos 7)) content.no_fields) []))
-unfolding form_of known_of is_as_declared
-row_any_extra_allowed = refl
-
--- a payload of a well-known name without its shape
-row_any_misshapen : JsonFault pool 15 false (two_keys (codes "@type") (string (codes "/google.protobuf.Duration")) (codes "value") (string (codes "1s")))
-    (Key (codes "value") ∷ []) fault.Shape
-unfolding form_of known_of is_as_declared
-row_any_misshapen = inr refl
-
--- an `Any` in an `Any`
-abbrev any_in_any : Data
-any_in_any =
-    two_keys (codes "@type") (string (codes "/google.protobuf.Any")) (codes "value") (two_keys (codes "@type") (string (codes "/M")) (codes "foo") (int 7))
-
-row_any_in_any : content_for pool 15 false any_in_any
-    ≡ Some (packed pool 15 (codes "/google.protobuf.Any") 15
-    (packed pool 15 (codes "/M") 0 (content.content (content.field 1 (content.number (pos 7)) content.no_fields) [])))
-unfolding form_of known_of is_as_declared
-row_any_in_any = refl
 
 row_misshapen : JsonFault pool 7 false (object no_members) [] fault.Shape
 unfolding form_of known_of is_as_declared

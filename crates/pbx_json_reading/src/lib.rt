@@ -12,5 +12,6 @@ mod payload;
 mod read;
 mod scalar;
 mod state;
+mod steps;
 
 pub use read::read_content;

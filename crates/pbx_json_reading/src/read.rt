@@ -10,9 +10,9 @@ ghost use Rattle.pbx_json_meaning.specs.Faults.{FirstJsonFault};
 ghost use Rattle.pbx_json_meaning.specs.declared.kind.JsonKind.TheVariants.{NoMemory as OutOfMemory};
 ghost use Rattle.pbx_json_meaning.specs.declared.place.Step.TheVariants.{Key as to_key};
 ghost use Rattle.pbx_field_names.specs.Index.{AreNamesIn};
-ghost use Rattle.pbx_json_walk.specs.Walk.{IsFaultOf, answer_map, answers, at_step, key_judged, noted, message_found, payload_turn};
+ghost use Rattle.pbx_json_walk.specs.Walk.{IsFaultOf, answer_map, answers, at_step, key_judged, message_found, payload_turn};
 ghost use Rattle.pbx_json_walk.specs.Walk.{turn, message_answer, own_answer, value_answer, list_answer, map_answer, target_answer};
-ghost use Rattle.pbx_json_walk.specs.Walk.{parts_in, elements_in, entry_key, entry_turn, item_turn, with_present, with_entry, map_value};
+ghost use Rattle.pbx_json_walk.specs.Walk.{parts_in, elements_in, entry_key, entry_turn, item_turn};
 ghost use Rattle.pbx_json_reading.specs.States.{state_of, entries_of};
 ghost use Rattle.pbx_json_reading.specs.Objects.{object_answer, beside_object, beside_turn, payload_object};
 ghost use Rattle.pbx_json_reading.specs.Holders.{own_of};
@@ -27,6 +27,7 @@ use crate::opened::{is_left_out, list_items, map_members, object_members};
 use crate::payload::{is_type_key, is_value_key, pack, payload_found};
 use crate::scalar::{read_key, read_scalar};
 use crate::state::ObjectState;
+use crate::steps::{add_entry, add_value, map_held, note_at};
 use pbx_codec::{Contents, Held, MapKey};
 use pbx_field_names::SchemaNames;
 use pbx_json_meaning::{DeserializeOptions, JsonError, JsonKind};
@@ -93,64 +94,6 @@ fn fresh_key(alloc: Global, kind: Kind, key: &str, entries: &MapEntries) -> Resu
             Ok(read)
         },
         Err(kind) => Err(kind),
-    }
-}
-
-/// With what was read for the field that a key names.
-fn note_at(
-    alloc: Global,
-    key: &str,
-    state: &mut ObjectState,
-    field: &FieldShape,
-    held: Option<Held>,
-) -> Result<(), JsonError>
-    ensures ok { OnOk result (at_step (to_key key.now) (noted field.now (state_of state.old) (option_map val_of held)) ≡ Ok (state_of state.new)) }
-    ensures err { IfErr result (λ e. IsFaultOf (at_step (to_key key.now) (noted field.now (state_of state.old) (option_map val_of held))) e) }
-{
-    match state.note(alloc, field, held) {
-        Ok(()) => Ok(()),
-        Err(error) => Err(below_key(alloc, key, error)),
-    }
-}
-
-/// With an element, if it was not dropped.
-fn add_value(alloc: Global, values: &mut List<Held>, held: Option<Held>) -> Result<(), JsonError>
-    ensures ok { OnOk result (with_present (option_map val_of held) (map val_of values.old) ≡ map val_of values.new) }
-    ensures err { IfErr result (λ e. e.kind ≡ OutOfMemory) }
-{
-    match held {
-        Some(held) => match values.add(held) {
-            Ok(()) => Ok(()),
-            Err(_) => Err(at_tree(alloc, JsonKind::NoMemory)),
-        },
-        None => Ok(()),
-    }
-}
-
-/// With an entry.
-fn add_entry(
-    alloc: Global,
-    entries: &mut MapEntries,
-    key: MapKey,
-    held: Option<Held>,
-) -> Result<(), JsonError>
-    ensures ok { OnOk result (entries_of entries.new ≡ with_entry (key_of key) (entries_of entries.old) (option_map val_of held)) }
-    ensures err { IfErr result (λ e. e.kind ≡ OutOfMemory) }
-{
-    match entries.add(key, held) {
-        Ok(()) => Ok(()),
-        Err(_) => Err(at_tree(alloc, JsonKind::NoMemory)),
-    }
-}
-
-/// The entries as a value.
-fn map_held(alloc: Global, entries: MapEntries) -> Result<Option<Held>, JsonError>
-    ensures ok { IfOk result (λ r. option_map val_of r ≡ map_value (entries_of entries)) }
-    ensures err { IfErr result (λ e. e.kind ≡ OutOfMemory) }
-{
-    match entries.into_value(alloc) {
-        Ok(held) => Ok(Some(held)),
-        Err(_) => Err(at_tree(alloc, JsonKind::NoMemory)),
     }
 }
 

@@ -1,16 +1,15 @@
 // The payload of a message of `google.protobuf.Any`, and where its tree stands.
-ghost use Rattle.std.specs.Prelude.{◌≡◌, codes, Some, IfOk, IfErr, IsOkAnd};
+ghost use Rattle.std.specs.Prelude.{◌≡◌, Some, IfOk, IfErr, IsOkAnd};
 ghost use Rattle.serde_json.specs.Data.{string};
 ghost use Rattle.serde_json.specs.View.{view};
-ghost use Rattle.pbx_meaning.specs.Content.{get, fields, message};
+ghost use Rattle.pbx_meaning.specs.Content.{fields, message};
 ghost use Rattle.pbx_meaning.specs.Encoding.{type_of};
 ghost use Rattle.pbx_meaning.specs.Meaning.{meaning_of};
 ghost use Rattle.pbx_meaning.specs.Sound.{IsSound};
-ghost use Rattle.pbx_codec.specs.View.{val_of, content_of};
+ghost use Rattle.pbx_codec.specs.View.{content_of};
 ghost use Rattle.pbx_wkt.specs.Shapes.{form_of as form_of_type};
 ghost use Rattle.pbx_wkt.specs.declared.form.Form.TheVariants as forms;
 ghost use Rattle.pbx_json_meaning.specs.Canonical.{writing, any_with, with_type as with_type_of, type_and_value as type_and_value_of};
-ghost use Rattle.pbx_json_meaning.specs.Forms.{text_at as text_at_of, bytes_at as bytes_at_of};
 ghost use Rattle.pbx_json_meaning.specs.Urls.{stands_beside as stands_beside_of};
 ghost use Rattle.pbx_json_meaning.specs.declared.options.SerializeOptions.{SerializeOptions as Options};
 ghost use Rattle.pbx_json_writing.specs.Indexes.{AreIndexes};
@@ -22,7 +21,8 @@ use crate::indexes::Indexes;
 use crate::members::{add_member, put};
 use crate::refusal::Refusal;
 use crate::scalars::string_tree;
-use pbx_codec::{Contents, Held, decode};
+use pbx_any::{payload_bytes, type_url};
+use pbx_codec::{Contents, decode};
 use pbx_json_meaning::JsonKind;
 use pbx_meaning::{Kind, Schema, meaning_is_sound};
 use pbx_wire::DecodeError;
@@ -40,69 +40,6 @@ pub(crate) struct Payload {
 }
 
 // ---- the payload
-
-/// The text that is held; of a value that is none, the empty one.
-fn text_held(held: &Held) -> &str
-    ensures { result.now ≡ text_at_of (Some (val_of held.now)) }
-{
-    match held {
-        Held::Text(text) => text.as_str(),
-        Held::I32(_)
-        | Held::I64(_)
-        | Held::U32(_)
-        | Held::U64(_)
-        | Held::Bool(_)
-        | Held::Bytes(_)
-        | Held::Message(_)
-        | Held::Many(_)
-        | Held::Pairs(_) => "",
-    }
-}
-
-/// The text in a field, and the empty one where it is absent.
-fn text_at(contents: &Contents, number: u32) -> &str
-    ensures { result.now ≡ text_at_of (get number (fields (content_of contents.now))) }
-{
-    match contents.get(number) {
-        Some(held) => text_held(held),
-        None => "",
-    }
-}
-
-/// The bytes that are held; of a value that is none, no bytes.
-fn bytes_held(held: &Held) -> &[u8]
-    ensures { result.now ≡ bytes_at_of (Some (val_of held.now)) }
-{
-    match held {
-        Held::Bytes(bytes) => bytes.as_slice(),
-        Held::I32(_)
-        | Held::I64(_)
-        | Held::U32(_)
-        | Held::U64(_)
-        | Held::Bool(_)
-        | Held::Text(_)
-        | Held::Message(_)
-        | Held::Many(_)
-        | Held::Pairs(_) => &[],
-    }
-}
-
-/// The bytes in a field, and none where it is absent.
-fn bytes_at(contents: &Contents, number: u32) -> &[u8]
-    ensures { result.now ≡ bytes_at_of (get number (fields (content_of contents.now))) }
-{
-    match contents.get(number) {
-        Some(held) => bytes_held(held),
-        None => &[],
-    }
-}
-
-/// The URL of the payload's type.
-pub(crate) fn url_of(contents: &Contents) -> &str
-    ensures { result.now ≡ text_at_of (get 1 (fields (content_of contents.now))) }
-{
-    text_at(contents, 1)
-}
 
 /// What bytes mean as a message of a type.
 fn decoded(
@@ -138,8 +75,8 @@ pub(crate) fn payload_of(
     ensures refused { (options : Options) → IfErr result (Refused schema.now (writing schema.now options) (message (content_of contents.now)) kind) }
     ensures known { AreIndexes schema.now indexes.new }
 {
-    match indexes.type_of_url(alloc, schema, url_of(contents))? {
-        Some(type_at) => match decoded(alloc, schema, type_at, bytes_at(contents, 2)) {
+    match indexes.type_of_url(alloc, schema, type_url(contents))? {
+        Some(type_at) => match decoded(alloc, schema, type_at, payload_bytes(contents)) {
             Ok(contents) => Ok(Payload { type_at, contents }),
             Err(refusal) => Err(refusal),
         },

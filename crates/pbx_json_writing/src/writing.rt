@@ -18,7 +18,7 @@ ghost use Rattle.pbx_json_writing.specs.Kinds.{told_value, is_passed_form as is_
 ghost use Rattle.pbx_json_writing.specs.Lines.{field_members};
 ghost use Rattle.pbx_json_writing.specs.Refusals.{Refused};
 
-use crate::any::{payload_of, url_of, with_payload};
+use crate::any::{payload_of, with_payload};
 use crate::defaults::with_defaults;
 use crate::fields::{field_numbered, keeps_no_float, key_of_field, kind_at, message_type};
 use crate::forms::{is_object_form, is_passed_form, number_of_value, own_tree};
@@ -26,6 +26,7 @@ use crate::indexes::Indexes;
 use crate::members::{add_item, add_member};
 use crate::refusal::Refusal;
 use crate::scalars::{key_text, scalar_tree};
+use pbx_any::type_url;
 use pbx_codec::{Contents, Held, Pair};
 use pbx_json_meaning::{JsonError, JsonKind, SerializeOptions};
 use pbx_meaning::{Kind, Schema};
@@ -221,7 +222,7 @@ fn any_tree(
         Kind::Message(payload.type_at),
         room,
     );
-    with_payload(alloc, schema, url_of(contents), payload.type_at, written)
+    with_payload(alloc, schema, type_url(contents), payload.type_at, written)
 }
 
 /// A message of a type that is told by the value of a field, or by its payload.

@@ -132,7 +132,7 @@ any_tree-returns-in-Err-clause-refused t c = c.in-Err.ensures.refused c.args.opt
 pub any_tree-returns-clause-written : goal.any_tree-returns-clause-written
 any_tree-returns-clause-written t c =
     any_told c.args.schema.now c.args.options.now c.args.kind (content_of c.args.contents.now) c.requires.form c.in-Ok.payload c.in-Ok.ensures.found
-    c.url_of.result.now c.url_of.ensures c.message_tree-written.result c.with_payload.result c.message_tree-written.ensures.written c.with_payload.ensures.written
+    c.type_url.result.now c.type_url.ensures c.message_tree-written.result c.with_payload.result c.message_tree-written.ensures.written c.with_payload.ensures.written
 
 pub any_tree-returns-clause-refused : goal.any_tree-returns-clause-refused
 any_tree-returns-clause-refused t c =
