@@ -39,8 +39,8 @@ use Rattle.protox.specs.declared.error.TopError.TheVariants.{File, JsonNames, We
 abbrev pub most_files : ℕ
 most_files = 65536
 
--- The tree stands for a content that nests at most 100 levels, and whose payloads do so too; the wire bytes are its canonical encoding, and decode to it; the written tree is
--- its canonical tree, which stands for it again.
+-- The tree stands for a content that nests at most 100 levels, and whose payloads do so too; the wire bytes are its canonical encoding, and decode to
+-- it; the written tree is its canonical tree, which stands for it again.
 abbrev pub Transcodes : Shape → ℕ → Data → List ℕ → Data → Type 0
 Transcodes shape t tree wire written =
     (c : Content) × Stands shape t false tree c × (fits shape t c ≡ true) × Decodes shape t wire c × (wire ≡ encoded shape t c)
