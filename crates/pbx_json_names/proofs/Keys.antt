@@ -6,7 +6,8 @@ use Rattle.std.proofs.lemmas.Bool.Decides.{nat_tests}
 use Rattle.std.proofs.lemmas.Slice.Eq.{bytes_eq-Decides}
 use Rattle.pbx_meaning.specs.declared.shape.FieldShape.{FieldShape}
 use Rattle.pbx_json_meaning.specs.Names.{json_name_is}
-use Rattle.pbx_json_meaning.specs.Clash.{is_shared, is_type_key, is_of_extension, is_name_of_another, clashes, least_key}
+use Rattle.pbx_json_meaning.specs.Clash.{is_shared, is_of_extension, is_name_of_another, clashes, least_key}
+use Rattle.pbx_json_meaning.specs.Urls.{is_type_key}
 use Rattle.pbx_json_names.specs.Uses.{with_use, used_by, is_clash, is_clashing, least_with}
 use Rattle.pbx_json_names.specs.declared.uses.KeyUse.{KeyUse}
 use Rattle.pbx_json_names.specs.declared.uses.KeyUse.TheVariants as use_of

@@ -2,7 +2,8 @@
 use Rattle.std.specs.Prelude.{ℕ, List, [], ◌∷◌, Bool, true, false, not, ◌&&◌, ◌||◌, if◌then◌else◌, Option, Some, None}
 use Rattle.std.specs.Str.{bytes_eq}
 use Rattle.pbx_meaning.specs.declared.shape.FieldShape.{FieldShape}
-use Rattle.pbx_json_meaning.specs.Clash.{is_type_key, lesser_key}
+use Rattle.pbx_json_meaning.specs.Clash.{lesser_key}
+use Rattle.pbx_json_meaning.specs.Urls.{is_type_key}
 use Rattle.pbx_json_names.specs.declared.uses.KeyUse.{KeyUse}
 use Rattle.pbx_json_names.specs.declared.uses.KeyUse.TheVariants as use_of
 
