@@ -165,6 +165,10 @@ module _ (d e : Described DescriptorProto) (tree : Data) (c : Content) (same : e
       let F : Described DescriptorProto → Type 0 = λ x. fits (shape_of x.pool) (place_of x) c ≡ true in
       transcodes d tree c wire written decodes again clear texts stands (subst S same sound) (subst F same fit) (subst W same h)
 
+  -- a message that does not fit is too deep, of either type
+  pub too_deep_as : fits (shape_of e.pool) (place_of e) c ≡ false → IsTooDeep (shape_of d.pool) (place_of d) tree
+  too_deep_as fit = (c, stands, subst (λ x. fits (shape_of x.pool) (place_of x) c ≡ false) same fit)
+
   pub not_told_as : (error : TopError) → FittingIsWritten → fits (shape_of e.pool) (place_of e) c ≡ true
       → IsNotWritten (canonical (shape_of e.pool) (place_of e) c default_writing) error → IsNotTold d tree error
   not_told_as error written fit h =

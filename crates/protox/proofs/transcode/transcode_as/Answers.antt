@@ -1,9 +1,9 @@
-use Rattle.std.proofs.Common.{◌≡◌, ◌∙◌, sym, true}
+use Rattle.std.proofs.Common.{◌≡◌, ◌∙◌, sym, true, false}
 use Rattle.serde_json.specs.View.{view}
 use Rattle.pbx_described.specs.Shapes.{shape_of, place_of}
 use Rattle.pbx_json_meaning.specs.Fits.{fits}
 use Rattle.protox.specs.Input.{data_of}
-use Rattle.protox.proofs.Transcoding.{ok_then, err_then, transcoded_as, not_told_as}
+use Rattle.protox.proofs.Transcoding.{ok_then, err_then, transcoded_as, not_told_as, too_deep_as}
 use Rattle.protox.proofs.transcode.transcode_as.Goals as goal
 
 pub returns-in-Ok-true-clause-ok : goal.returns-in-Ok-true-clause-ok
@@ -23,3 +23,9 @@ returns-in-Ok-true-clause-err c clear =
     (λ error h. not_told_as c.args.desc m.of (data_of c.args.tree) m.content c.in-Ok.ensures.of clear c.message_of.ensures.texts c.in-Ok.ensures.read
     error c.fitting_is_written.ensures fit h)
     c.write_both.ensures.stop
+
+pub returns-in-Ok-false-clause-err : goal.returns-in-Ok-false-clause-err
+returns-in-Ok-false-clause-err c clear =
+    let m = c.in-Ok.message in
+    let fit : fits (shape_of m.of.pool) (place_of m.of) m.content ≡ false = sym c.in-Ok-false.ensures ∙ c.in-Ok-false.field-0-test in
+    too_deep_as c.args.desc m.of (data_of c.args.tree) m.content c.in-Ok.ensures.of clear c.message_of.ensures.texts c.in-Ok.ensures.read fit
