@@ -1,5 +1,5 @@
 -- The kinds that descriptors answer, and those of the shape of their pool.
-use Rattle.std.proofs.Common.{◌≡◌, ◌∙◌, ℕ, ◌<◌, ◌==◌, ◌||◌, if◌then◌else◌, length, List, [], Bool, true, false, Option, Some, None, refl, ap, sym, subst}
+use Rattle.std.proofs.Common.{◌≡◌, ◌∙◌, ℕ, ◌==◌, ◌||◌, if◌then◌else◌, List, [], Bool, true, false, Option, Some, None, refl, ap, sym, subst}
 use Rattle.std.specs.Prelude.{ℤ, pos, negsuc, Contains, is_some, option_map, option_and_then}
 use Rattle.std.specs.Str.{bytes_eq}
 use Rattle.pbx_meaning.specs.declared.shape.Kind.{Kind}

@@ -1,6 +1,6 @@
 -- The oneof of a field, told by descriptors and by the shape.
-use Rattle.std.proofs.Common.{◌≡◌, ◌∙◌, ℕ, ◌<◌, ◌==◌, ◌&&◌, List, [], map, length, Bool, true, false, Option, Some, None, refl, ap, sym, subst, arith}
-use Rattle.std.specs.Prelude.{ℤ, pos, negsuc, Contains, is_none, option_map, option_and_then, slice_get, filter}
+use Rattle.std.proofs.Common.{◌≡◌, ◌∙◌, ℕ, ◌<◌, ◌==◌, ◌&&◌, List, length, Bool, true, false, Option, Some, None, refl, ap, sym, subst, arith}
+use Rattle.std.specs.Prelude.{ℤ, pos, negsuc, Contains, is_none, option_map, option_and_then, slice_get}
 use Rattle.std.specs.List.{list_any, enumerate_from}
 use Rattle.std.proofs.lemmas.Bool.{eqb-true, ltb-true}
 use Rattle.std.proofs.lemmas.Bool.Decides.{nat_tests}

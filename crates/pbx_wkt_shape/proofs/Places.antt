@@ -1,5 +1,5 @@
 -- Messages, enums and fields of a pool where they stand.
-use Rattle.std.proofs.Common.{◌≡◌, ◌∙◌, ℕ, zero, suc, nat_lt, cond, length, List, [], ◌∷◌, map, Bool, true, false, Option, Some, None, refl, ap, sym, subst, arith}
+use Rattle.std.proofs.Common.{◌≡◌, ◌∙◌, ℕ, zero, suc, nat_lt, cond, length, List, [], ◌∷◌, map, Bool, true, Option, Some, None, ap, sym, subst, arith}
 use Rattle.std.specs.Prelude.{Contains, find, position, unwrap_or, option_and_then, slice_get}
 use Rattle.std.specs.List.{flat_map, position_or_len}
 use Rattle.std.specs.Str.{bytes_eq}

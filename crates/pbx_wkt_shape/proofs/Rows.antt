@@ -1,5 +1,5 @@
 -- Rows, told by descriptors and by the shape.
-use Rattle.std.proofs.Common.{◌≡◌, ◌∙◌, ◌⊎◌, inl, inr, ℕ, ◌+◌, ◌==◌, ◌&&◌, not, length, map, List, [], ◌∷◌, ◌++◌, Bool, true, false, Option, Some, None}
+use Rattle.std.proofs.Common.{◌≡◌, ◌∙◌, ◌⊎◌, inl, inr, ℕ, ◌+◌, ◌==◌, ◌&&◌, length, map, List, ◌++◌, Bool, true, false, Option, Some, None}
 use Rattle.std.proofs.Common.{refl, ap, sym, subst, arith, length-append}
 use Rattle.std.specs.Prelude.{ℤ, pos, negsuc, Contains, is_some}
 use Rattle.std.specs.List.{list_all}
@@ -27,7 +27,7 @@ use Rattle.pbx_wkt.specs.Known.{Row}
 use Rattle.pbx_wkt.specs.Shapes.{same_cardinality, has_sort, same_oneof, has_member_presence}
 use Rattle.pbx_wkt.specs.Shapes.{is_row as is_shape_row, is_row_there as is_shape_row_there, has_row as has_shape_row, has_rows as has_shape_rows}
 use Rattle.pbx_wkt_shape.specs.Kinds.{has_sort_if, value_told}
-use Rattle.pbx_wkt_shape.specs.Told.{has_cardinality, has_oneof, is_row, is_row_there, has_row, has_rows}
+use Rattle.pbx_wkt_shape.specs.Told.{has_oneof, is_row, is_row_there, has_row, has_rows}
 use Rattle.pbx_wkt_shape.proofs.Lists.{and_true, and_false, passes, found, all_same}
 use Rattle.pbx_wkt_shape.proofs.Oneofs.{oneof_alike}
 use Rattle.pbx_wkt_shape.proofs.Values.{value_alike, cardinality_alike}

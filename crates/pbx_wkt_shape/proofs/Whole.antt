@@ -1,12 +1,11 @@
 -- The shape of a message, told by its descriptor and by the shape of its pool.
-use Rattle.std.proofs.Common.{◌≡◌, ◌∙◌, ℕ, ◌+◌, ◌&&◌, ◌==◌, not, if◌then◌else◌, length, List, [], ◌∷◌, Bool, true, false, codes, Option, Some, None, refl, ap, sym, subst}
-use Rattle.std.specs.Prelude.{is_some}
+use Rattle.std.proofs.Common.{◌≡◌, ◌∙◌, ℕ, ◌+◌, ◌&&◌, ◌==◌, not, if◌then◌else◌, length, List, [], ◌∷◌, Bool, true, false, codes, Option, Some, None, refl, ap, sym}
+use Rattle.std.specs.Prelude.{Contains, is_some}
 use Rattle.std.specs.List.{list_all, AllByRecursion}
 use Rattle.std.specs.Str.{bytes_eq}
 use Rattle.pbx_meaning.specs.Shape.{fields_of, field_of}
 use Rattle.pbx_meaning.specs.declared.shape.Cardinality.TheVariants.{Map}
 use Rattle.pbx_meaning.specs.declared.shape.Kind.TheVariants as kind
-use Rattle.pbx_meaning.specs.declared.shape.FieldShape.{FieldShape}
 use Rattle.pbx_meaning.specs.declared.shape.Shape.{Shape}
 use Rattle.pbx_desc_records.specs.declared.field.FieldDescriptorProto.{FieldDescriptorProto}
 use Rattle.pbx_desc_records.specs.declared.file.FileDescriptorProto.{FileDescriptorProto}
@@ -18,7 +17,6 @@ use Rattle.pbx_described.specs.Shapes.{shape_of, place_of, place_of_message}
 use Rattle.pbx_shape_laws.proofs.Lists.{both_parts}
 use Rattle.pbx_message_laws.specs.Pools.{IsPooled}
 use Rattle.pbx_message_laws.proofs.Placed.{message_is_placed}
-use Rattle.pbx_link.specs.declared.kind.Kind.{Kind as Answer}
 use Rattle.pbx_link.specs.Kinds.{described_kind}
 use Rattle.pbx_wkt.specs.declared.form.Form.{Form}
 use Rattle.pbx_wkt.specs.declared.form.Form.TheVariants as forms
