@@ -1,0 +1,8 @@
+mod Lists
+mod Rules
+mod Places
+mod Oneofs
+mod Alike
+mod Values
+mod Rows
+mod Whole
