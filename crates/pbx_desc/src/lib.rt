@@ -18,7 +18,6 @@ mod set;
 mod source;
 mod unknown;
 
-pub use encoding::Message;
 pub use file::file_contents;
 pub use laws::levels_bound_depth;
 pub use pbx_desc_records::{
@@ -28,4 +27,5 @@ pub use pbx_desc_records::{
     SourceCodeInfo,
 };
 pub use pbx_desc_shape::descriptor_shape;
+pub use pbx_record_traits::Message;
 pub use set::FileSet;

@@ -12,4 +12,4 @@ mod service;
 mod source;
 mod taking;
 
-pub use decoding::DecodeMessage;
+pub use pbx_record_traits::DecodeMessage;

@@ -19,7 +19,7 @@ use Rattle.pbx_meaning.specs.declared.shape.Shape.{Shape}
 use Rattle.pbx_json_meaning.specs.Asked.{field, Target, single, list, map, target_by, has_presence, presence_by}
 use Rattle.pbx_json_meaning.specs.Canonical.{Writing, is_written_default, default_tree, default_by}
 use Rattle.pbx_json_meaning.specs.Named.{IsWellNamed}
-use Rattle.pbx_wkt.specs.Types.{enum_name}
+use Rattle.pbx_well_known.specs.Types.{enum_name}
 use Rattle.pbx_json_meaning.specs.Stands.{ok_of, is_there, said}
 use Rattle.pbx_json_laws.proofs.Fits.{IsNull}
 use Rattle.pbx_json_laws.proofs.ScalarsBack.{ScalarBack, number_back, truth_back, text_as_is, bytes_back, no_null}

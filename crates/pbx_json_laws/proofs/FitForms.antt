@@ -18,9 +18,9 @@ use Rattle.pbx_meaning.specs.declared.shape.Shape.{Shape}
 use Rattle.base64.specs.GeneralPurpose.{IsBytes}
 use Rattle.pbx_text.proofs.MaskTexts.{AreTexts}
 use Rattle.pbx_text.proofs.Ranges.{HasBits}
-use Rattle.pbx_wkt.specs.Known.{Row, any_rows, of_value, mask_rows, seconds_and_nanos}
-use Rattle.pbx_wkt.specs.Shapes.{form_of}
-use Rattle.pbx_wkt.proofs.Declared.{HasRow}
+use Rattle.pbx_well_known.specs.Known.{Row, any_rows, of_value, mask_rows, seconds_and_nanos}
+use Rattle.pbx_well_known.specs.Shapes.{form_of}
+use Rattle.pbx_well_known.proofs.Declared.{HasRow}
 use Rattle.pbx_json_meaning.specs.Asked.{single, list, map, target_by, presence_by, has_presence}
 use Rattle.pbx_json_meaning.specs.Forms.{kind_in, kind_at, shown_at, with_first, filled, made, time_of, mask_of_paths, holding, packed}
 use Rattle.pbx_json_laws.proofs.FaultFields.{failing}

@@ -21,11 +21,11 @@ use Rattle.pbx_text.specs.Timestamp.{timestamp_read}
 use Rattle.pbx_text.specs.declared.fault.TextFault.{TextFault}
 use Rattle.pbx_text.proofs.MaskTexts.{mask_texts}
 use Rattle.pbx_text.proofs.Ranges.{HasBits, duration_bits, timestamp_bits}
-use Rattle.pbx_wkt.specs.Known.{Row, struct_rows, list_rows, value_rows, seconds_and_nanos}
-use Rattle.pbx_wkt.specs.Shapes.{form_of}
-use Rattle.pbx_wkt.specs.declared.form.Form.{Form}
-use Rattle.pbx_wkt.specs.declared.form.Form.TheVariants as forms
-use Rattle.pbx_wkt.proofs.Declared.{HasRow, IsOfForm, of_form}
+use Rattle.pbx_well_known.specs.Known.{Row, struct_rows, list_rows, value_rows, seconds_and_nanos}
+use Rattle.pbx_well_known.specs.Shapes.{form_of}
+use Rattle.pbx_well_known.specs.declared.form.Form.{Form}
+use Rattle.pbx_well_known.specs.declared.form.Form.TheVariants as forms
+use Rattle.pbx_well_known.proofs.Declared.{HasRow, IsOfForm, of_form}
 use Rattle.pbx_json_meaning.specs.Asked.{single, list, map}
 use Rattle.pbx_json_meaning.specs.Forms.{is_object_form, is_object_type, kind_in, kind_at, type_at, time_of, mask_of_paths, holding, judged, text_form, a_list, a_map}
 use Rattle.pbx_json_meaning.specs.Forms.{whole, at_once, is_struct, is_list_value, struct_read, list_value_read, value_with, value_read, itself}

@@ -12,10 +12,10 @@ use Rattle.pbx_meaning.specs.Sound.{IsProper}
 use Rattle.pbx_meaning.specs.declared.shape.Kind.{Kind}
 use Rattle.pbx_meaning.specs.declared.shape.FieldShape.{FieldShape}
 use Rattle.pbx_meaning.specs.declared.shape.Shape.{Shape}
-use Rattle.pbx_wkt.specs.Shapes.{form_of}
-use Rattle.pbx_wkt.specs.declared.form.Form.{Form}
-use Rattle.pbx_wkt.specs.declared.form.Form.TheVariants as forms
-use Rattle.pbx_wkt.proofs.Forms.{any_fields}
+use Rattle.pbx_well_known.specs.Shapes.{form_of}
+use Rattle.pbx_well_known.specs.declared.form.Form.{Form}
+use Rattle.pbx_well_known.specs.declared.form.Form.TheVariants as forms
+use Rattle.pbx_well_known.proofs.Forms.{any_fields}
 use Rattle.pbx_json_meaning.specs.Asked.{Target, single, list, map, target_by}
 use Rattle.pbx_json_meaning.specs.Canonical.{Writing, writing, canonical, content_tree, any_with, payload_tree}
 use Rattle.pbx_json_meaning.specs.Clash.{name_fault}

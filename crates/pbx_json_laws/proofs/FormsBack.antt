@@ -14,11 +14,11 @@ use Rattle.pbx_meaning.specs.declared.shape.Kind.{Kind}
 use Rattle.pbx_meaning.specs.declared.shape.Kind.TheVariants as kind
 use Rattle.pbx_meaning.specs.declared.shape.FieldShape.{FieldShape}
 use Rattle.pbx_meaning.specs.declared.shape.Shape.{Shape}
-use Rattle.pbx_wkt.specs.Shapes.{form_of}
-use Rattle.pbx_wkt.specs.declared.form.Form.{Form}
-use Rattle.pbx_wkt.specs.declared.form.Form.TheVariants as forms
-use Rattle.pbx_wkt.proofs.Declared.{is_wrapped_kind}
-use Rattle.pbx_wkt.proofs.Forms.{HasTime, HasPaths, HasValue, timestamp_fields, duration_fields, mask_fields, wrapper_fields}
+use Rattle.pbx_well_known.specs.Shapes.{form_of}
+use Rattle.pbx_well_known.specs.declared.form.Form.{Form}
+use Rattle.pbx_well_known.specs.declared.form.Form.TheVariants as forms
+use Rattle.pbx_well_known.proofs.Declared.{is_wrapped_kind}
+use Rattle.pbx_well_known.proofs.Forms.{HasTime, HasPaths, HasValue, timestamp_fields, duration_fields, mask_fields, wrapper_fields}
 use Rattle.pbx_text.specs.Decimal.{or_form, or_range}
 use Rattle.pbx_text.specs.Duration.{duration_of, duration_read, duration_written, is_duration_second}
 use Rattle.pbx_text.specs.Mask.{mask_of, mask_read, mask_written}

@@ -9,9 +9,9 @@ use Rattle.pbx_meaning.specs.Sound.{IsProper, AreProper}
 use Rattle.pbx_meaning.specs.declared.shape.Kind.{Kind}
 use Rattle.pbx_meaning.specs.declared.shape.Kind.TheVariants as kind
 use Rattle.pbx_meaning.specs.declared.shape.Shape.{Shape}
-use Rattle.pbx_wkt.specs.Shapes.{form_of}
-use Rattle.pbx_wkt.specs.declared.form.Form.{Form}
-use Rattle.pbx_wkt.specs.declared.form.Form.TheVariants as forms
+use Rattle.pbx_well_known.specs.Shapes.{form_of}
+use Rattle.pbx_well_known.specs.declared.form.Form.{Form}
+use Rattle.pbx_well_known.specs.declared.form.Form.TheVariants as forms
 use Rattle.pbx_json_meaning.specs.Asked.{Asked, one}
 use Rattle.pbx_json_meaning.specs.Faults.{payload, into, KeyBreaks, FaultAt, SomeWith}
 use Rattle.pbx_json_meaning.specs.Forms.{Own, a_list, a_map, beside, under, at_once, is_struct, is_list_value, struct_read, list_value_read, kind_at, type_at, holding, value_with, itself}

@@ -10,8 +10,8 @@ use Rattle.serde_json.specs.Find.{get_member}
 use Rattle.pbx_meaning.specs.Content.{Content}
 use Rattle.pbx_meaning.specs.declared.shape.Kind.{Kind}
 use Rattle.pbx_meaning.specs.declared.shape.Shape.{Shape}
-use Rattle.pbx_wkt.specs.declared.form.Form.{Form}
-use Rattle.pbx_wkt.specs.declared.form.Form.TheVariants as forms
+use Rattle.pbx_well_known.specs.declared.form.Form.{Form}
+use Rattle.pbx_well_known.specs.declared.form.Form.TheVariants as forms
 use Rattle.pbx_json_meaning.specs.Asked.{one}
 use Rattle.pbx_json_meaning.specs.Stands.{Entry, beside_type, value_said, message_in, said, entries_said}
 use Rattle.pbx_json_meaning.specs.Trees.{AreAboveKey, AreAscendingKeys}

@@ -9,13 +9,13 @@ use Rattle.pbx_meaning.specs.declared.shape.Kind.{Kind}
 use Rattle.pbx_meaning.specs.declared.shape.Kind.TheVariants as kind
 use Rattle.pbx_meaning.specs.declared.shape.FieldShape.{FieldShape}
 use Rattle.pbx_meaning.specs.declared.shape.Shape.{Shape}
-use Rattle.pbx_wkt.specs.Known.{google, known_of, value_rows, Row}
-use Rattle.pbx_wkt.specs.Shapes.{form_of, form_by}
-use Rattle.pbx_wkt.specs.Types.{message_name}
-use Rattle.pbx_wkt.specs.declared.form.Form.{Form}
-use Rattle.pbx_wkt.specs.declared.form.Form.TheVariants as forms
-use Rattle.pbx_wkt.proofs.Declared.{HasRow, HasRows}
-use Rattle.pbx_wkt.proofs.Forms.{value_fields}
+use Rattle.pbx_well_known.specs.Known.{google, known_of, value_rows, Row}
+use Rattle.pbx_well_known.specs.Shapes.{form_of, form_by}
+use Rattle.pbx_well_known.specs.Types.{message_name}
+use Rattle.pbx_well_known.specs.declared.form.Form.{Form}
+use Rattle.pbx_well_known.specs.declared.form.Form.TheVariants as forms
+use Rattle.pbx_well_known.proofs.Declared.{HasRow, HasRows}
+use Rattle.pbx_well_known.proofs.Forms.{value_fields}
 use Rattle.pbx_json_laws.proofs.Numbers.{has_number, number_of_field, field_of-by_number}
 use Rattle.pbx_json_laws.proofs.Parts.{of_some, both}
 

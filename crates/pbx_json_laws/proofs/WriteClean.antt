@@ -16,9 +16,9 @@ use Rattle.pbx_meaning.specs.declared.shape.Kind.{Kind}
 use Rattle.pbx_meaning.specs.declared.shape.Kind.TheVariants as kind
 use Rattle.pbx_meaning.specs.declared.shape.FieldShape.{FieldShape}
 use Rattle.pbx_meaning.specs.declared.shape.Shape.{Shape}
-use Rattle.pbx_wkt.specs.Shapes.{form_of}
-use Rattle.pbx_wkt.specs.declared.form.Form.{Form}
-use Rattle.pbx_wkt.specs.declared.form.Form.TheVariants as forms
+use Rattle.pbx_well_known.specs.Shapes.{form_of}
+use Rattle.pbx_well_known.specs.declared.form.Form.{Form}
+use Rattle.pbx_well_known.specs.declared.form.Form.TheVariants as forms
 use Rattle.pbx_json_meaning.specs.Asked.{Asked, field, one}
 use Rattle.pbx_json_meaning.specs.Canonical.{Writing, Line, Tells, Told, key_of_field, is_kept_of, keeps_float, is_written_default, default_line, told_line, lines, has_key, with_member, members_of_lines, key_text}
 use Rattle.pbx_json_meaning.specs.Canonical.{object_tree, field_tree, first_field, value_tree, with_type, type_and_value, any_with, payload_in, form_tree, own_tree, kind_asked, items_of, entry_line, tells, content_tree, fields_tell, vals_tell, pairs_tell}

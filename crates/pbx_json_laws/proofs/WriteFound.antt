@@ -23,11 +23,11 @@ use Rattle.pbx_meaning.specs.declared.shape.Kind.{Kind}
 use Rattle.pbx_meaning.specs.declared.shape.Kind.TheVariants as kind
 use Rattle.pbx_meaning.specs.declared.shape.FieldShape.{FieldShape}
 use Rattle.pbx_meaning.specs.declared.shape.Shape.{Shape}
-use Rattle.pbx_wkt.specs.Shapes.{form_of}
-use Rattle.pbx_wkt.specs.declared.form.Form.{Form}
-use Rattle.pbx_wkt.specs.declared.form.Form.TheVariants as forms
-use Rattle.pbx_wkt.proofs.Declared.{is_wrapped_kind}
-use Rattle.pbx_wkt.proofs.Forms.{wrapper_fields, struct_fields, list_fields}
+use Rattle.pbx_well_known.specs.Shapes.{form_of}
+use Rattle.pbx_well_known.specs.declared.form.Form.{Form}
+use Rattle.pbx_well_known.specs.declared.form.Form.TheVariants as forms
+use Rattle.pbx_well_known.proofs.Declared.{is_wrapped_kind}
+use Rattle.pbx_well_known.proofs.Forms.{wrapper_fields, struct_fields, list_fields}
 use Rattle.pbx_json_meaning.specs.Asked.{Asked, field, one, root, presence_by}
 use Rattle.pbx_json_meaning.specs.Canonical.{Writing, writing, has_key, with_member, with_type, type_and_value, any_with, payload_in, any_tree, Line, Tells, key_of_field, is_kept_of, keeps_float, is_written_default, default_by, default_tree, default_line, told_line, lines, members_of_lines}
 use Rattle.pbx_json_meaning.specs.Canonical.{object_tree, scalar_tree, field_tree, first_field, value_tree, form_tree, own_tree, kind_asked, items_of, entry_line, tells, content_tree, fields_tell, vals_tell, pairs_tell, number_by, truth_by, text_by, bytes_by}

@@ -10,9 +10,9 @@ use Rattle.pbx_meaning.specs.Shape.{declared_of, fields_of, field_of}
 use Rattle.pbx_meaning.specs.declared.shape.Kind.{Kind}
 use Rattle.pbx_meaning.specs.declared.shape.FieldShape.{FieldShape}
 use Rattle.pbx_meaning.specs.declared.shape.Shape.{Shape}
-use Rattle.pbx_wkt.specs.Shapes.{form_of}
-use Rattle.pbx_wkt.specs.declared.form.Form.{Form}
-use Rattle.pbx_wkt.specs.declared.form.Form.TheVariants as forms
+use Rattle.pbx_well_known.specs.Shapes.{form_of}
+use Rattle.pbx_well_known.specs.declared.form.Form.{Form}
+use Rattle.pbx_well_known.specs.declared.form.Form.TheVariants as forms
 use Rattle.pbx_json_meaning.specs.Asked.{one, Target, single, list, map, target_by, has_presence}
 use Rattle.pbx_json_meaning.specs.Canonical.{Writing, Line, Told, Tells, told_line, default_line, is_written_default, lines, members_of_lines, object_tree, form_tree, any_tree}
 use Rattle.pbx_json_meaning.specs.Canonical.{keeps_float, items_of, entry_line, tells, content_tree, fields_tell, vals_tell, pairs_tell}

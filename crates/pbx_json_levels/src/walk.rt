@@ -3,7 +3,7 @@ ghost use Rattle.std.specs.List.{list_all};
 ghost use Rattle.pbx_meaning.specs.Content.{fields, vals_of, pairs_of};
 ghost use Rattle.pbx_meaning.specs.Shape.{fields_of};
 ghost use Rattle.pbx_codec.specs.View.{content_of, val_of, entry_of, pair_of, fields_in};
-ghost use Rattle.pbx_wkt.specs.Shapes.{form_of as form_of_type};
+ghost use Rattle.pbx_well_known.specs.Shapes.{form_of as form_of_type};
 ghost use Rattle.pbx_json_meaning.specs.Fits.{fits as fits_of, payload_fits, payloads_fit, payload_by, val_payloads};
 ghost use Rattle.pbx_json_meaning.specs.Fits.{fields_payloads, vals_payloads, pairs_payloads};
 ghost use Rattle.pbx_field_names.specs.Index.{AreTypesIn};
@@ -16,7 +16,7 @@ use pbx_json_payload_laws::fits_by_content;
 use pbx_meaning::{Kind, Schema};
 use pbx_number_map::NumberMap;
 use pbx_wire::{DecodeError, List, NoMemory};
-use pbx_wkt::{Form, form_of};
+use pbx_well_known::{Form, form_of};
 use std::alloc::Global;
 
 /// How many levels may stand below the top of a message whose bytes are read again.

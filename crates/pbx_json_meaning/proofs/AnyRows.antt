@@ -5,8 +5,8 @@ use Rattle.pbx_meaning.specs.Content as content
 use Rattle.pbx_meaning.specs.Content.{Content}
 use Rattle.pbx_meaning.specs.Meaning.{meaning}
 use Rattle.pbx_wire.specs.Reading.{body_at, items_at, item_at, key_at, varint_at, keyed_at, value_at}
-use Rattle.pbx_wkt.specs.Known.{known_of}
-use Rattle.pbx_wkt.specs.Shapes.{form_of, is_as_declared}
+use Rattle.pbx_well_known.specs.Known.{known_of}
+use Rattle.pbx_well_known.specs.Shapes.{form_of, is_as_declared}
 use Rattle.pbx_json_meaning.specs.Options.{default_writing}
 use Rattle.pbx_json_meaning.specs.Stands.{content_for}
 use Rattle.pbx_json_meaning.specs.Faults.{JsonFault}

@@ -30,9 +30,9 @@ use Rattle.pbx_json_meaning.specs.Scalars.{Family, integers, truths, texts, byte
 use Rattle.pbx_json_meaning.specs.Stands.{all_read, ok_of}
 use Rattle.pbx_json_meaning.specs.Forms.{as_text}
 use Rattle.pbx_text.specs.declared.fault.TextFault.{TextFault}
-use Rattle.pbx_wkt.specs.Shapes.{form_of}
-use Rattle.pbx_wkt.specs.declared.form.Form.{Form}
-use Rattle.pbx_wkt.specs.declared.form.Form.TheVariants as forms
+use Rattle.pbx_well_known.specs.Shapes.{form_of}
+use Rattle.pbx_well_known.specs.declared.form.Form.{Form}
+use Rattle.pbx_well_known.specs.declared.form.Form.TheVariants as forms
 use Rattle.pbx_json_meaning.specs.declared.kind.JsonKind.{JsonKind}
 use Rattle.pbx_json_meaning.specs.Trees.{AreAboveKey, AreAscendingKeys, IsOrdered, AreOrdered, AreOrderedMembers}
 use Rattle.pbx_json_meaning.specs.Canonical.{is_wide, integer_tree, value_of_number, name_or_number, enum_tree, number_by, truth_by, text_by, bytes_by}

@@ -16,8 +16,8 @@ use Rattle.pbx_meaning.specs.declared.shape.MessageShape.{MessageShape}
 use Rattle.pbx_meaning.specs.declared.shape.EnumShape.{EnumShape}
 use Rattle.pbx_meaning.specs.declared.shape.EnumValueShape.{EnumValueShape}
 use Rattle.pbx_meaning.specs.declared.shape.Shape.{Shape}
-use Rattle.pbx_wkt.specs.Known.{known_of}
-use Rattle.pbx_wkt.specs.Shapes.{form_of, is_as_declared}
+use Rattle.pbx_well_known.specs.Known.{known_of}
+use Rattle.pbx_well_known.specs.Shapes.{form_of, is_as_declared}
 use Rattle.pbx_text.specs.Base64.{base64_of}
 use Rattle.pbx_text.specs.Timestamp.{timestamp_of, timestamp_text}
 use Rattle.pbx_text.specs.Mask.{mask_of, mask_text}

@@ -8,7 +8,7 @@ use Rattle.pbx_meaning.specs.declared.shape.Cardinality.{Cardinality}
 use Rattle.pbx_meaning.specs.declared.shape.Cardinality.TheVariants.{Singular, Repeated, Map}
 use Rattle.pbx_meaning.specs.declared.shape.Shape.{Shape}
 use Rattle.pbx_meaning.specs.declared.shape.FieldShape.{FieldShape}
-use Rattle.pbx_wkt.specs.Types.{message_name}
+use Rattle.pbx_well_known.specs.Types.{message_name}
 use Rattle.pbx_json_meaning.specs.Scalars.{is_null_value}
 
 -- all that a field has, or one value: an element of a list, the value of an entry, or a whole message

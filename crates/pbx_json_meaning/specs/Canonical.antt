@@ -23,9 +23,9 @@ use Rattle.pbx_meaning.specs.Shape.{declared_of, field_of, is_float, enum_values
 use Rattle.pbx_meaning.specs.Encoding.{type_of}
 use Rattle.pbx_meaning.specs.Meaning.{zero_of, meaning_of}
 use Rattle.pbx_text.specs.Base64.{base64_text}
-use Rattle.pbx_wkt.specs.Shapes.{form_of}
-use Rattle.pbx_wkt.specs.declared.form.Form.{Form}
-use Rattle.pbx_wkt.specs.declared.form.Form.TheVariants as forms
+use Rattle.pbx_well_known.specs.Shapes.{form_of}
+use Rattle.pbx_well_known.specs.declared.form.Form.{Form}
+use Rattle.pbx_well_known.specs.declared.form.Form.TheVariants as forms
 use Rattle.pbx_json_meaning.specs.Scalars.{Family, integers, truths, texts, bytes_texts, enums, family, is_null_value}
 use Rattle.pbx_json_meaning.specs.Asked.{Asked, field, one, has_presence}
 use Rattle.pbx_json_meaning.specs.Urls.{type_of_url, stands_beside}

@@ -10,9 +10,9 @@ use Rattle.pbx_meaning.specs.Shape.{fields_of, field_of}
 use Rattle.pbx_meaning.specs.Encoding.{type_of}
 use Rattle.pbx_meaning.specs.Sound.{depth}
 use Rattle.pbx_meaning.specs.Meaning.{meaning_of}
-use Rattle.pbx_wkt.specs.Shapes.{form_of}
-use Rattle.pbx_wkt.specs.declared.form.Form.{Form}
-use Rattle.pbx_wkt.specs.declared.form.Form.TheVariants as forms
+use Rattle.pbx_well_known.specs.Shapes.{form_of}
+use Rattle.pbx_well_known.specs.declared.form.Form.{Form}
+use Rattle.pbx_well_known.specs.declared.form.Form.TheVariants as forms
 use Rattle.pbx_json_meaning.specs.Urls.{type_of_url}
 use Rattle.pbx_json_meaning.specs.Forms.{kind_in, text_at, bytes_at}
 

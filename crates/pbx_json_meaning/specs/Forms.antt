@@ -12,9 +12,9 @@ use Rattle.pbx_meaning.specs.declared.shape.FieldShape.{FieldShape}
 use Rattle.pbx_meaning.specs.Shape.{fields_of, declared_of, field_of}
 use Rattle.pbx_meaning.specs.Encoding.{type_of, encoded}
 use Rattle.pbx_meaning.specs.Meaning.{shown}
-use Rattle.pbx_wkt.specs.Shapes.{form_of}
-use Rattle.pbx_wkt.specs.declared.form.Form.{Form}
-use Rattle.pbx_wkt.specs.declared.form.Form.TheVariants as forms
+use Rattle.pbx_well_known.specs.Shapes.{form_of}
+use Rattle.pbx_well_known.specs.declared.form.Form.{Form}
+use Rattle.pbx_well_known.specs.declared.form.Form.TheVariants as forms
 use Rattle.pbx_text.specs.Timestamp.{timestamp_read, timestamp_written}
 use Rattle.pbx_text.specs.Duration.{duration_read, duration_written}
 use Rattle.pbx_text.specs.Mask.{mask_read, mask_written}

@@ -7,7 +7,7 @@ use Rattle.serde_json.specs.Find.{as_integer}
 use Rattle.pbx_meaning.specs.Content as content
 use Rattle.pbx_meaning.specs.Content.{Val, Key, truth_key, number_key, text_key}
 use Rattle.pbx_meaning.specs.Shape.{enum_values_of, first_number}
-use Rattle.pbx_wkt.specs.Types.{enum_name}
+use Rattle.pbx_well_known.specs.Types.{enum_name}
 use Rattle.std.specs.Ordering.{int_eq}
 use Rattle.pbx_meaning.specs.declared.shape.Kind.{Kind}
 use Rattle.pbx_meaning.specs.declared.shape.Kind.TheVariants as kind

@@ -17,9 +17,9 @@ use Rattle.pbx_meaning.specs.Encoding.{type_of}
 use Rattle.pbx_meaning.specs.Shape.{declared_of, field_of, is_float}
 use Rattle.pbx_json_meaning.specs.Asked.{Asked, field, one, root}
 use Rattle.pbx_json_meaning.specs.Scalars.{if_ok}
-use Rattle.pbx_wkt.specs.Shapes.{form_of}
-use Rattle.pbx_wkt.specs.declared.form.Form.{Form}
-use Rattle.pbx_wkt.specs.declared.form.Form.TheVariants as forms
+use Rattle.pbx_well_known.specs.Shapes.{form_of}
+use Rattle.pbx_well_known.specs.declared.form.Form.{Form}
+use Rattle.pbx_well_known.specs.declared.form.Form.TheVariants as forms
 use Rattle.pbx_json_meaning.specs.Urls.{type_of_url, stands_beside, is_value_key}
 use Rattle.pbx_json_meaning.specs.Forms.{is_object_type, kind_at, type_at, timestamp_tree, duration_tree, mask_tree, text_at, bytes_at}
 use Rattle.pbx_json_meaning.specs.Faults.{SomeWith, OkWith}

@@ -6,7 +6,7 @@ use crate::clash::first_clash;
 use pbx_json_meaning::NameFault;
 use pbx_meaning::{MessageShape, Schema};
 use pbx_wire::NoMemory;
-use pbx_wkt::type_has_shape;
+use pbx_well_known::type_has_shape;
 use std::alloc::Global;
 
 /// The fault of a message that has not the shape of its name, unless memory runs out.

@@ -11,9 +11,9 @@ use Rattle.pbx_meaning.specs.Shape.{fields_of, field_of}
 use Rattle.pbx_meaning.specs.declared.shape.FieldShape.{FieldShape}
 use Rattle.pbx_meaning.specs.declared.shape.Kind.{Kind}
 use Rattle.pbx_meaning.specs.declared.shape.Shape.{Shape}
-use Rattle.pbx_wkt.specs.Shapes.{form_of}
-use Rattle.pbx_wkt.specs.declared.form.Form.{Form}
-use Rattle.pbx_wkt.specs.declared.form.Form.TheVariants as forms
+use Rattle.pbx_well_known.specs.Shapes.{form_of}
+use Rattle.pbx_well_known.specs.declared.form.Form.{Form}
+use Rattle.pbx_well_known.specs.declared.form.Form.TheVariants as forms
 use Rattle.pbx_json_meaning.specs.Fits.{Payload, payload_with, payload_by, payloads, fields_payloads, val_payloads, vals_payloads, pairs_payloads, decoded_passes}
 use Rattle.pbx_json_meaning.specs.Fits.{decodes_within, payload_fits, payloads_fit}
 use Rattle.pbx_json_meaning.specs.Forms.{kind_in, text_at, bytes_at}

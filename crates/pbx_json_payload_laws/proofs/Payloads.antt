@@ -15,9 +15,9 @@ use Rattle.pbx_meaning.specs.declared.shape.FieldShape.{FieldShape}
 use Rattle.pbx_meaning.specs.declared.shape.Kind.{Kind}
 use Rattle.pbx_meaning.specs.declared.shape.Kind.TheVariants as kind
 use Rattle.pbx_meaning.specs.declared.shape.Shape.{Shape}
-use Rattle.pbx_wkt.specs.Shapes.{form_of}
-use Rattle.pbx_wkt.specs.declared.form.Form.{Form}
-use Rattle.pbx_wkt.specs.declared.form.Form.TheVariants as forms
+use Rattle.pbx_well_known.specs.Shapes.{form_of}
+use Rattle.pbx_well_known.specs.declared.form.Form.{Form}
+use Rattle.pbx_well_known.specs.declared.form.Form.TheVariants as forms
 use Rattle.pbx_json_meaning.specs.Asked.{Asked}
 use Rattle.pbx_json_meaning.specs.Canonical.{Writing, writing, Tells, Told, kind_asked, array_tree, entries_tree, object_tree, own_tree, form_tree, any_tree, payload_in}
 use Rattle.pbx_json_meaning.specs.Canonical.{message_tree, tells, content_tree, fields_tell, vals_tell, pairs_tell, payload_tree, tree_of_payload}

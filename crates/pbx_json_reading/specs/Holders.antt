@@ -5,8 +5,8 @@ use Rattle.pbx_meaning.specs.declared.shape.Kind.TheVariants as kind
 use Rattle.pbx_meaning.specs.declared.shape.Shape.{Shape}
 use Rattle.pbx_meaning.specs.Shape.{declared_of}
 use Rattle.pbx_codec.specs.View.{content_of}
-use Rattle.pbx_wkt.specs.declared.form.Form.{Form}
-use Rattle.pbx_wkt.specs.declared.form.Form.TheVariants as forms
+use Rattle.pbx_well_known.specs.declared.form.Form.{Form}
+use Rattle.pbx_well_known.specs.declared.form.Form.TheVariants as forms
 use Rattle.pbx_json_meaning.specs.Forms as meaning
 use Rattle.pbx_json_meaning.specs.Forms.{kind_at, holding, value_with, packed}
 use Rattle.pbx_json_reading.specs.declared.holders.Own.{Own}

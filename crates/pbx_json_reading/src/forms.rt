@@ -12,7 +12,7 @@ ghost use Rattle.pbx_json_meaning.specs.Forms.{made, time_of, mask_of_paths, hol
 ghost use Rattle.pbx_json_meaning.specs.declared.kind.JsonKind.TheVariants.{NoMemory as OutOfMemory, Timestamp as NoTimestamp};
 ghost use Rattle.pbx_json_meaning.specs.declared.kind.JsonKind.TheVariants.{Duration as NoDuration, Mask as NoMask};
 ghost use Rattle.pbx_json_meaning.specs.Scalars.{if_ok, scalar_read};
-ghost use Rattle.pbx_wkt.specs.Shapes.{form_of};
+ghost use Rattle.pbx_well_known.specs.Shapes.{form_of};
 ghost use Rattle.pbx_field_names.specs.Index.{AreNamesIn};
 ghost use Rattle.pbx_json_reading.specs.Holders.{has_any_parts, own_of};
 ghost use Rattle.pbx_json_reading.specs.Objects.{entry_at};
@@ -28,7 +28,7 @@ use pbx_json_meaning::JsonKind;
 use pbx_meaning::{Kind, Schema};
 use pbx_text::{TextFault, read_duration, read_mask, read_timestamp};
 use pbx_wire::{List, NoMemory, Texts};
-use pbx_wkt::Form;
+use pbx_well_known::Form;
 use serde_json::Value;
 use std::alloc::Global;
 

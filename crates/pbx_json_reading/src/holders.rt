@@ -16,7 +16,7 @@ use pbx_codec::{Contents, Held};
 use pbx_json_meaning::{JsonError, JsonKind};
 use pbx_meaning::{Kind, Schema};
 use pbx_wire::{NoMemory, Text};
-use pbx_wkt::{Form, form_of};
+use pbx_well_known::{Form, form_of};
 use serde_json::Value;
 use std::alloc::Global;
 

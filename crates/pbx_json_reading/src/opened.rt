@@ -2,7 +2,7 @@
 ghost use Rattle.std.specs.Prelude.{◌≡◌, true, false};
 ghost use Rattle.serde_json.specs.View.{view, items_view, members_view};
 ghost use Rattle.pbx_meaning.specs.Shape.{is_float as is_float_of};
-ghost use Rattle.pbx_wkt.specs.Types.{message_name as message_name_of};
+ghost use Rattle.pbx_well_known.specs.Types.{message_name as message_name_of};
 ghost use Rattle.pbx_json_meaning.specs.Asked.{field_target, target_by, nothing, reads_null as reads_null_of};
 ghost use Rattle.pbx_json_walk.specs.Opened.{reads_null_for, option_members, option_items, members_in};
 ghost use Rattle.pbx_json_walk.specs.Opened.{items_of_list, members_of_map, items_if_none, members_if_none, wrong_kind_of};

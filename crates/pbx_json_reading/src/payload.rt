@@ -20,7 +20,7 @@ use pbx_field_names::SchemaNames;
 use pbx_json_meaning::{JsonError, JsonKind};
 use pbx_meaning::Schema;
 use pbx_wire::{NoMemory, Text};
-use pbx_wkt::{Form, form_of};
+use pbx_well_known::{Form, form_of};
 use serde_json::{Map, Value};
 use std::alloc::Global;
 

@@ -3,7 +3,7 @@ ghost use Rattle.std.specs.Prelude.{◌≡◌, ◌⊎◌, Ok, Err, pos, negsuc, 
 ghost use Rattle.serde_json.specs.View.{view};
 ghost use Rattle.pbx_meaning.specs.Shape.{enum_values_of};
 ghost use Rattle.pbx_codec.specs.View.{val_of, key_of as key_of_key};
-ghost use Rattle.pbx_wkt.specs.Types.{enum_name as enum_name_of};
+ghost use Rattle.pbx_well_known.specs.Types.{enum_name as enum_name_of};
 ghost use Rattle.pbx_json_meaning.specs.Scalars.{integer_read, as_number, scalar_of, scalar_read, enum_read, null_value_read};
 ghost use Rattle.pbx_json_meaning.specs.Scalars.{is_null_value as is_null_value_of, key_read};
 ghost use Rattle.pbx_json_meaning.specs.declared.kind.JsonKind.TheVariants.{NoMemory as OutOfMemory};

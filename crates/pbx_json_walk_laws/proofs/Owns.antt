@@ -7,9 +7,9 @@ use Rattle.pbx_meaning.specs.Content.{Content}
 use Rattle.pbx_meaning.specs.Shape.{declared_of}
 use Rattle.pbx_meaning.specs.declared.shape.Kind.TheVariants as kind
 use Rattle.pbx_meaning.specs.declared.shape.Shape.{Shape}
-use Rattle.pbx_wkt.specs.Shapes.{form_of}
-use Rattle.pbx_wkt.specs.declared.form.Form.{Form}
-use Rattle.pbx_wkt.specs.declared.form.Form.TheVariants as forms
+use Rattle.pbx_well_known.specs.Shapes.{form_of}
+use Rattle.pbx_well_known.specs.declared.form.Form.{Form}
+use Rattle.pbx_well_known.specs.declared.form.Form.TheVariants as forms
 use Rattle.pbx_json_meaning.specs.Urls.{type_url, type_of_url, stands_beside}
 use Rattle.pbx_json_meaning.specs.Forms.{Own, a_list, a_map, beside, under, at_once, holding, kind_at, type_at, itself, value_with, packed}
 use Rattle.pbx_json_meaning.specs.Forms.{is_struct, is_list_value, struct_read, list_value_read, value_read, under_value, payload_read, typed_read, members_read, any_read, form_read, own_read}

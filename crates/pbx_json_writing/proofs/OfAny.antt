@@ -20,9 +20,9 @@ use Rattle.pbx_meaning.specs.declared.shape.Kind.{Kind}
 use Rattle.pbx_meaning.specs.declared.shape.Kind.TheVariants as kind
 use Rattle.pbx_meaning.specs.declared.shape.Shape.{Shape}
 use Rattle.pbx_codec.specs.View.{content_of}
-use Rattle.pbx_wkt.specs.Shapes.{form_of}
-use Rattle.pbx_wkt.specs.declared.form.Form.{Form}
-use Rattle.pbx_wkt.specs.declared.form.Form.TheVariants as forms
+use Rattle.pbx_well_known.specs.Shapes.{form_of}
+use Rattle.pbx_well_known.specs.declared.form.Form.{Form}
+use Rattle.pbx_well_known.specs.declared.form.Form.TheVariants as forms
 use Rattle.pbx_json_meaning.specs.Asked.{one}
 use Rattle.pbx_json_meaning.specs.Canonical.{Writing, writing, tells, any_with, payload_in, payload_tree, tree_of_payload, keeps_float, key_of_field}
 use Rattle.pbx_json_meaning.specs.Canonical.{is_written_default, has_key}

@@ -28,9 +28,9 @@ use Rattle.pbx_text.specs.Timestamp.{is_timestamp_second, timestamp_text, timest
 use Rattle.pbx_text.specs.Duration.{is_duration_second, signs_agree, duration_text, duration_written}
 use Rattle.pbx_text.specs.declared.fault.TextFault.{TextFault}
 use Rattle.pbx_text.specs.declared.fault.TextFault.TheVariants.{Range, NoMemory as OutOfMemory}
-use Rattle.pbx_wkt.specs.Shapes.{form_of}
-use Rattle.pbx_wkt.specs.declared.form.Form.{Form}
-use Rattle.pbx_wkt.specs.declared.form.Form.TheVariants as forms
+use Rattle.pbx_well_known.specs.Shapes.{form_of}
+use Rattle.pbx_well_known.specs.declared.form.Form.{Form}
+use Rattle.pbx_well_known.specs.declared.form.Form.TheVariants as forms
 use Rattle.pbx_json_meaning.specs.Asked.{one}
 use Rattle.pbx_json_meaning.specs.Canonical.{tells, scalar_tree, form_tree, fields_tell}
 use Rattle.pbx_json_meaning.specs.Faults.{SomeWith}

@@ -10,7 +10,7 @@ use Rattle.pbx_meaning.specs.declared.shape.Kind.TheVariants as kind
 use Rattle.pbx_meaning.specs.declared.shape.Shape.{Shape}
 use Rattle.pbx_meaning.specs.declared.shape.EnumShape.{EnumShape}
 use Rattle.pbx_meaning.specs.declared.shape.MessageShape.{MessageShape}
-use Rattle.pbx_wkt.specs.Types.{enum_name_at}
+use Rattle.pbx_well_known.specs.Types.{enum_name_at}
 use Rattle.pbx_json_meaning.specs.Scalars.{family}
 use Rattle.pbx_json_meaning.specs.Canonical.{number_tree, integer_tree, truth_by, text_by, bytes_by}
 use Rattle.pbx_json_meaning.specs.declared.kind.JsonKind.TheVariants as fault

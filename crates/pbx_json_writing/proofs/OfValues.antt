@@ -17,10 +17,10 @@ use Rattle.pbx_meaning.specs.declared.shape.Kind.TheVariants as kind
 use Rattle.pbx_meaning.specs.declared.shape.Shape.{Shape}
 use Rattle.pbx_meaning.specs.declared.shape.FieldShape.{FieldShape}
 use Rattle.pbx_meaning.proofs.SoundValues.{get_sound}
-use Rattle.pbx_wkt.specs.Shapes.{form_of}
-use Rattle.pbx_wkt.specs.declared.form.Form.{Form}
-use Rattle.pbx_wkt.specs.declared.form.Form.TheVariants as forms
-use Rattle.pbx_wkt.proofs.Forms.{struct_fields, list_fields}
+use Rattle.pbx_well_known.specs.Shapes.{form_of}
+use Rattle.pbx_well_known.specs.declared.form.Form.{Form}
+use Rattle.pbx_well_known.specs.declared.form.Form.TheVariants as forms
+use Rattle.pbx_well_known.proofs.Forms.{struct_fields, list_fields}
 use Rattle.pbx_json_meaning.specs.Asked.{one}
 use Rattle.pbx_json_meaning.specs.Canonical.{tells, form_tree, field_tree, told_tree, fields_tell, keeps_float, first_field}
 use Rattle.pbx_json_meaning.specs.Faults.{SomeWith}

@@ -8,13 +8,13 @@ use Rattle.pbx_meaning.specs.declared.shape.Kind.{Kind}
 use Rattle.pbx_meaning.specs.declared.shape.Kind.TheVariants as kind
 use Rattle.pbx_meaning.specs.declared.shape.Shape.{Shape}
 use Rattle.pbx_meaning.specs.declared.shape.FieldShape.{FieldShape}
-use Rattle.pbx_wkt.specs.Known.{Row, Known, google, known, known_of, struct_rows, list_rows}
-use Rattle.pbx_wkt.specs.Shapes.{form_of, form_by, is_as_declared}
-use Rattle.pbx_wkt.specs.Types.{message_name}
-use Rattle.pbx_wkt.specs.declared.form.Form.{Form}
-use Rattle.pbx_wkt.specs.declared.form.Form.TheVariants as forms
-use Rattle.pbx_wkt.proofs.Declared.{HasRow}
-use Rattle.pbx_wkt.proofs.Forms.{value_fields}
+use Rattle.pbx_well_known.specs.Known.{Row, Known, google, known, known_of, struct_rows, list_rows}
+use Rattle.pbx_well_known.specs.Shapes.{form_of, form_by, is_as_declared}
+use Rattle.pbx_well_known.specs.Types.{message_name}
+use Rattle.pbx_well_known.specs.declared.form.Form.{Form}
+use Rattle.pbx_well_known.specs.declared.form.Form.TheVariants as forms
+use Rattle.pbx_well_known.proofs.Declared.{HasRow}
+use Rattle.pbx_well_known.proofs.Forms.{value_fields}
 use Rattle.pbx_json_writing.proofs.OfFields.{field_of-by_number}
 
 -- ---- six fields of six numbers are all of six

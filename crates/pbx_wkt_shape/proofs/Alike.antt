@@ -20,9 +20,9 @@ use Rattle.pbx_link.specs.declared.kind.Kind.TheVariants as answers
 use Rattle.pbx_link.specs.Kinds.{scalar_of, kind_in}
 use Rattle.pbx_link.specs.Tables.{part_at, no_field}
 use Rattle.pbx_link.proofs.Types.{field_kind}
-use Rattle.pbx_wkt.specs.Known.{Sort, scalar, message, enum}
-use Rattle.pbx_wkt.specs.Shapes.{type_number, has_sort}
-use Rattle.pbx_wkt.proofs.Declared.{is_scalar}
+use Rattle.pbx_well_known.specs.Known.{Sort, scalar, message, enum}
+use Rattle.pbx_well_known.specs.Shapes.{type_number, has_sort}
+use Rattle.pbx_well_known.proofs.Declared.{is_scalar}
 use Rattle.pbx_wkt_shape.specs.Kinds.{kind_number, kind_has_sort}
 use Rattle.pbx_wkt_shape.proofs.Lists.{stands}
 use Rattle.pbx_wkt_shape.proofs.Places.{message_named, enum_named, enum_there, names_apart}

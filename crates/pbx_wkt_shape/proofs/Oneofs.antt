@@ -24,7 +24,7 @@ use Rattle.pbx_message_laws.proofs.Placed.{field_is_listed}
 use Rattle.pbx_link.specs.Tables.{part_at, no_oneof, index_of}
 use Rattle.pbx_link.proofs.Parts.{part_there, length_parts}
 use Rattle.pbx_link.proofs.Only.{oneof_is, members_are, part_scope, part_index}
-use Rattle.pbx_wkt.specs.Shapes.{same_oneof}
+use Rattle.pbx_well_known.specs.Shapes.{same_oneof}
 use Rattle.pbx_wkt_shape.specs.Told.{has_number, has_member, has_oneof}
 use Rattle.pbx_wkt_shape.proofs.Lists.{alike, any_filtered}
 use Rattle.pbx_wkt_shape.proofs.Places.{field_stands}

@@ -27,8 +27,8 @@ use Rattle.pbx_shape_laws.proofs.Lists.{told_of, is_told, one_item}
 use Rattle.pbx_shape_laws.proofs.PoolParts.{found_there}
 use Rattle.pbx_message_laws.specs.Pools.{IsPooled}
 use Rattle.pbx_message_laws.proofs.Listed.{mapped}
-use Rattle.pbx_wkt.specs.Types.{message_name_at, enum_name_at}
-use Rattle.pbx_wkt.specs.Shapes.{is_proto3_at}
+use Rattle.pbx_well_known.specs.Types.{message_name_at, enum_name_at}
+use Rattle.pbx_well_known.specs.Shapes.{is_proto3_at}
 use Rattle.pbx_wkt_shape.proofs.Lists.{passes}
 
 -- ---- what the shape says at a place

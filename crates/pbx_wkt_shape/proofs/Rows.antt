@@ -23,9 +23,9 @@ use Rattle.pbx_message_laws.specs.Pools.{IsPooled, IsShapeOf}
 use Rattle.pbx_message_laws.proofs.Listed.{listed_is_declared}
 use Rattle.pbx_message_laws.proofs.Members.{passes_at}
 use Rattle.pbx_message_laws.proofs.Placed.{message_is_placed, field_is_listed, listed_is_field}
-use Rattle.pbx_wkt.specs.Known.{Row}
-use Rattle.pbx_wkt.specs.Shapes.{same_cardinality, has_sort, same_oneof, has_member_presence}
-use Rattle.pbx_wkt.specs.Shapes.{is_row as is_shape_row, is_row_there as is_shape_row_there, has_row as has_shape_row, has_rows as has_shape_rows}
+use Rattle.pbx_well_known.specs.Known.{Row}
+use Rattle.pbx_well_known.specs.Shapes.{same_cardinality, has_sort, same_oneof, has_member_presence}
+use Rattle.pbx_well_known.specs.Shapes.{is_row as is_shape_row, is_row_there as is_shape_row_there, has_row as has_shape_row, has_rows as has_shape_rows}
 use Rattle.pbx_wkt_shape.specs.Kinds.{has_sort_if, value_told}
 use Rattle.pbx_wkt_shape.specs.Told.{has_oneof, is_row, is_row_there, has_row, has_rows}
 use Rattle.pbx_wkt_shape.proofs.Lists.{and_true, and_false, passes, found, all_same}

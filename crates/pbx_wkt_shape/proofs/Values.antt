@@ -19,8 +19,8 @@ use Rattle.pbx_message_laws.proofs.Typed.{referred_has_place}
 use Rattle.pbx_link.specs.declared.kind.Kind.{Kind as Answer}
 use Rattle.pbx_link.specs.declared.kind.Kind.TheVariants as answers
 use Rattle.pbx_link.specs.Kinds.{described_kind, kind_in}
-use Rattle.pbx_wkt.specs.Known.{Sort, scalar}
-use Rattle.pbx_wkt.specs.Shapes.{has_sort, same_cardinality}
+use Rattle.pbx_well_known.specs.Known.{Sort, scalar}
+use Rattle.pbx_well_known.specs.Shapes.{has_sort, same_cardinality}
 use Rattle.pbx_wkt_shape.specs.Kinds.{has_sort_if, part_told, entry_told, value_told}
 use Rattle.pbx_wkt_shape.specs.Told.{has_cardinality}
 use Rattle.pbx_wkt_shape.proofs.Lists.{some_is}

@@ -18,13 +18,13 @@ use Rattle.pbx_shape_laws.proofs.Lists.{both_parts}
 use Rattle.pbx_message_laws.specs.Pools.{IsPooled}
 use Rattle.pbx_message_laws.proofs.Placed.{message_is_placed}
 use Rattle.pbx_link.specs.Kinds.{described_kind}
-use Rattle.pbx_wkt.specs.declared.form.Form.{Form}
-use Rattle.pbx_wkt.specs.declared.form.Form.TheVariants as forms
-use Rattle.pbx_wkt.specs.Types.{message_name as shape_name}
-use Rattle.pbx_wkt.specs.Known.{Row, Known, google, message, several, known_types, known_of, struct_entry, struct_entry_name}
-use Rattle.pbx_wkt.specs.Shapes.{is_proto3_at, form_of, form_by, is_misshapen, meets_shape, is_as_declared as is_shape_declared}
-use Rattle.pbx_wkt.specs.Shapes.{has_rows as has_shape_rows, has_entry as has_shape_entry, has_struct_entry as has_shape_struct_entry, is_struct_entry as is_shape_struct_entry}
-use Rattle.pbx_wkt.proofs.WellKnown.{found}
+use Rattle.pbx_well_known.specs.declared.form.Form.{Form}
+use Rattle.pbx_well_known.specs.declared.form.Form.TheVariants as forms
+use Rattle.pbx_well_known.specs.Types.{message_name as shape_name}
+use Rattle.pbx_well_known.specs.Known.{Row, Known, google, message, several, known_types, known_of, struct_entry, struct_entry_name}
+use Rattle.pbx_well_known.specs.Shapes.{is_proto3_at, form_of, form_by, is_misshapen, meets_shape, is_as_declared as is_shape_declared}
+use Rattle.pbx_well_known.specs.Shapes.{has_rows as has_shape_rows, has_entry as has_shape_entry, has_struct_entry as has_shape_struct_entry, is_struct_entry as is_shape_struct_entry}
+use Rattle.pbx_well_known.proofs.WellKnown.{found}
 use Rattle.pbx_wkt_shape.specs.Told.{has_row, is_row_there, has_rows, is_struct_entry, has_struct_entry, has_entry, is_as_declared, has_shape, has_shape_by}
 use Rattle.pbx_wkt_shape.proofs.Lists.{and_same}
 use Rattle.pbx_wkt_shape.proofs.Places.{message_named, message_proto3, field_stands}

@@ -7,8 +7,8 @@ use Rattle.pbx_described.specs.Descriptors.{Described, fields_of_message, with_n
 use Rattle.pbx_link.specs.declared.kind.Kind.{Kind}
 use Rattle.pbx_link.specs.declared.kind.Kind.TheVariants as kind
 use Rattle.pbx_link.specs.Kinds.{described_kind}
-use Rattle.pbx_wkt.specs.Known.{Sort, scalar, message, enum}
-use Rattle.pbx_wkt.specs.Shapes.{type_number}
+use Rattle.pbx_well_known.specs.Known.{Sort, scalar, message, enum}
+use Rattle.pbx_well_known.specs.Shapes.{type_number}
 
 -- the number of the kind
 abbrev pub kind_number : Kind → ℕ

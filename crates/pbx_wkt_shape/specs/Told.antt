@@ -15,10 +15,10 @@ use Rattle.pbx_described.specs.Descriptors.{is_list, is_map, has_presence, field
 use Rattle.pbx_link.specs.declared.kind.Kind.{Kind}
 use Rattle.pbx_link.specs.declared.kind.Kind.TheVariants as kind
 use Rattle.pbx_link.specs.Kinds.{described_kind}
-use Rattle.pbx_wkt.specs.declared.form.Form.{Form}
-use Rattle.pbx_wkt.specs.declared.form.Form.TheVariants as forms
-use Rattle.pbx_wkt.specs.Known.{scalar, Row, Known, known_of, struct_entry, struct_entry_name}
-use Rattle.pbx_wkt.specs.Shapes.{has_member_presence}
+use Rattle.pbx_well_known.specs.declared.form.Form.{Form}
+use Rattle.pbx_well_known.specs.declared.form.Form.TheVariants as forms
+use Rattle.pbx_well_known.specs.Known.{scalar, Row, Known, known_of, struct_entry, struct_entry_name}
+use Rattle.pbx_well_known.specs.Shapes.{has_member_presence}
 use Rattle.pbx_wkt_shape.specs.Kinds.{has_sort_if, entry_told, value_told}
 
 -- ---- fields

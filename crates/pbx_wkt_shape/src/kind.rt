@@ -1,14 +1,14 @@
 // What one value of a field is.
 ghost use Rattle.std.specs.Prelude.{◌≡◌, Some};
 ghost use Rattle.pbx_link.specs.Kinds.{described_kind};
-ghost use Rattle.pbx_wkt.specs.Shapes.{type_number as type_number_of};
+ghost use Rattle.pbx_well_known.specs.Shapes.{type_number as type_number_of};
 ghost use Rattle.pbx_wkt_shape.specs.Kinds.{kind_number as kind_number_of, kind_has_sort, entry_told, value_told, has_sort_if};
-ghost use Rattle.pbx_wkt.specs.Known.{scalar};
-ghost use Rattle.pbx_wkt_shape.specs.Rows.{row_sort};
+ghost use Rattle.pbx_well_known.specs.Known.{scalar};
+ghost use Rattle.pbx_well_known.specs.Rows.{row_sort};
 
-use crate::table::Sort;
 use pbx_link::{FieldDescriptor, Kind};
 use pbx_meaning::Kind as Scalar;
+use pbx_well_known::Sort;
 
 /// The number of a kind of a row in `FieldDescriptorProto.Type` (google/protobuf/descriptor.proto).
 fn type_number(kind: Scalar) -> u8

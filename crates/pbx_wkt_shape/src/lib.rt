@@ -3,18 +3,17 @@
 
 ghost use Rattle.std.specs.Prelude.{◌≡◌};
 ghost use Rattle.pbx_described.specs.Shapes.{shape_of, place_of};
-ghost use Rattle.pbx_wkt.specs.Shapes.{meets_shape};
+ghost use Rattle.pbx_well_known.specs.Shapes.{meets_shape};
 
 mod kind;
 mod oneof;
 mod row;
 mod shape;
-mod table;
 
 use crate::shape::is_shaped;
 use pbx_link::MessageDescriptor;
 
-/// Whether the message has the shape of its well-known name; a message of any other name has. What a shape is, `pbx_wkt` says.
+/// Whether the message has the shape of its well-known name; a message of any other name has. What a shape is, `pbx_well_known` says.
 ///
 /// The descriptor alone is asked, so that no shape of the pool is made, and it takes no memory.
 pub fn has_shape(desc: &MessageDescriptor) -> bool

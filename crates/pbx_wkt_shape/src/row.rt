@@ -1,15 +1,14 @@
 // Whether a field is as a row of the table declares it.
 ghost use Rattle.std.specs.Prelude.{◌≡◌, map};
 ghost use Rattle.std.specs.List.{list_all};
-ghost use Rattle.pbx_wkt.specs.Shapes.{has_member_presence as has_member_presence_of};
-ghost use Rattle.pbx_wkt_shape.specs.Rows.{row_field};
+ghost use Rattle.pbx_well_known.specs.Rows.{row_field};
 ghost use Rattle.pbx_wkt_shape.specs.Told.{has_cardinality as has_cardinality_of, is_row as is_row_of, has_row as has_row_of};
 
 use crate::kind::{has_key, has_sort};
 use crate::oneof::has_oneof;
-use crate::table::FieldRow;
 use pbx_link::{FieldDescriptor, MessageDescriptor};
 use pbx_meaning::Cardinality;
+use pbx_well_known::{FieldRow, has_member_presence};
 
 /// Whether the field has as many values, of a map under keys of the kind.
 fn has_cardinality(field: &FieldDescriptor, cardinality: Cardinality) -> bool
@@ -19,16 +18,6 @@ fn has_cardinality(field: &FieldDescriptor, cardinality: Cardinality) -> bool
         Cardinality::Singular => !field.is_map() && !field.is_list(),
         Cardinality::Repeated => field.is_list(),
         Cardinality::Map(key) => field.is_map() && has_key(field, key),
-    }
-}
-
-/// Whether the field has presence, where the row is a member of a oneof.
-fn has_member_presence(oneof: Option<u32>, presence: bool) -> bool
-    ensures { result ≡ has_member_presence_of oneof presence }
-{
-    match oneof {
-        None => true,
-        Some(_) => presence,
     }
 }
 

@@ -1,17 +1,14 @@
 // Whether a message has the shape of its name.
-ghost use Rattle.std.specs.Prelude.{◌≡◌, ◌+◌, ◌<◌, ◌==◌, length, map, find, option_map, MatchOption};
-ghost use Rattle.std.specs.Str.{bytes_eq};
+ghost use Rattle.std.specs.Prelude.{◌≡◌, ◌+◌, ◌<◌, ◌==◌, length, map, MatchOption};
 ghost use Rattle.pbx_definitions.specs.Says.{is_proto3 as is_proto3_of};
 ghost use Rattle.pbx_described.specs.Descriptors.{fields_of_message, extensions_of_message, with_number};
-ghost use Rattle.pbx_wkt.specs.Known.{known_of as known_type};
-ghost use Rattle.pbx_wkt_shape.specs.Rows.{row_field, row_type};
+ghost use Rattle.pbx_well_known.specs.Rows.{row_field, row_type};
 ghost use Rattle.pbx_wkt_shape.specs.Told.{has_rows as has_rows_of, has_struct_entry as has_struct_entry_of, has_entry as has_entry_of};
 ghost use Rattle.pbx_wkt_shape.specs.Told.{is_as_declared as is_as_declared_of, has_shape as has_shape_of};
 
 use crate::row::has_each;
-use crate::table::{FieldRow, STRUCT_ENTRY, STRUCT_ENTRY_NAME, TYPES, TypeRow};
 use pbx_link::{Kind, MessageDescriptor, Syntax};
-use pbx_wkt::Form;
+use pbx_well_known::{FieldRow, Form, STRUCT_ENTRY_NAME, TypeRow, known_of, struct_entry};
 
 /// Whether the message stands in a file of proto3.
 fn is_proto3(desc: &MessageDescriptor) -> bool
@@ -78,7 +75,7 @@ fn has_struct_entry(desc: &MessageDescriptor) -> bool
     }
     match field.kind() {
         Kind::Message(entry) => {
-            entry.full_name() == STRUCT_ENTRY_NAME && has_rows(&entry, &STRUCT_ENTRY)
+            entry.full_name() == STRUCT_ENTRY_NAME && has_rows(&entry, struct_entry())
         }
         _ => false,
     }
@@ -100,30 +97,6 @@ fn is_as_declared(desc: &MessageDescriptor, row: &TypeRow) -> bool
     ensures { result ≡ is_as_declared_of desc.now (row_type row.now) }
 {
     is_proto3(desc) && has_rows(desc, row.2) && has_entry(desc, row.1)
-}
-
-/// The first of the types that has the name.
-fn named(types: &'static [TypeRow], full_name: &str) -> Option<&'static TypeRow>
-    ensures { option_map (λ row. row_type row.now) result ≡ find (λ known. bytes_eq known.name full_name.now) (map row_type types.now) }
-{
-    for row in types {
-        if row.0 == full_name {
-            return Some(row);
-        }
-    }
-    None
-}
-
-/// The type of a full name, if it is one of the seventeen.
-fn known_of(full_name: &str) -> Option<&'static TypeRow>
-    ensures { option_map (λ row. row_type row.now) result ≡ known_type full_name.now }
-{
-    // Most types are of another package, which one look tells.
-    if full_name.starts_with("google.protobuf.") {
-        named(&TYPES, full_name)
-    } else {
-        None
-    }
 }
 
 /// Whether the message has the shape of its name, as its descriptor tells it.

@@ -1,7 +1,7 @@
 use Rattle.std.proofs.Common.{List, sym, ◌∙◌, ap}
 use Rattle.pbx_meaning.specs.declared.shape.EnumShape.{EnumShape}
 use Rattle.pbx_meaning.specs.declared.shape.Shape.{Shape}
-use Rattle.pbx_wkt.specs.Types.{enum_name_at}
+use Rattle.pbx_well_known.specs.Types.{enum_name_at}
 use Rattle.pbx_json_reading.proofs.Names.{enum_here, enum_past}
 use Rattle.pbx_json_reading.proofs.scalar.enum_name.Goals as goal
 

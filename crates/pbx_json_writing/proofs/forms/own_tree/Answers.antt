@@ -1,7 +1,7 @@
 use Rattle.std.proofs.Common.{refl, sym, ap, ◌∙◌}
 use Rattle.pbx_meaning.specs.Content.{fields, message}
 use Rattle.pbx_codec.specs.View.{content_of}
-use Rattle.pbx_wkt.specs.declared.form.Form.TheVariants as forms
+use Rattle.pbx_well_known.specs.declared.form.Form.TheVariants as forms
 use Rattle.pbx_json_meaning.specs.Forms.{kind_at, timestamp_tree, duration_tree, mask_tree}
 use Rattle.pbx_json_meaning.specs.declared.kind.JsonKind.TheVariants as fault
 use Rattle.pbx_json_meaning.specs.Canonical.{writing}

@@ -1,6 +1,6 @@
 use Rattle.std.proofs.Common.{◌≡◌, drop, map}
 use Rattle.std.specs.List.{list_all}
-use Rattle.pbx_wkt_shape.specs.Rows.{row_field}
+use Rattle.pbx_well_known.specs.Rows.{row_field}
 use Rattle.pbx_wkt_shape.specs.Told.{has_row}
 use Rattle.pbx_wkt_shape.proofs.row.has_each.Given as goal
 
