@@ -5,3 +5,4 @@ pub mod Causes
 pub mod Memory
 pub mod Metadata
 pub mod Include
+pub mod Google

@@ -3,6 +3,7 @@
 
 mod error;
 mod file;
+mod google;
 mod include;
 mod lines;
 mod memory;
@@ -11,6 +12,7 @@ mod resolver;
 
 pub use error::{Error, ErrorKind};
 pub use file::{File, looked_up_once};
+pub use google::GoogleFileResolver;
 pub use include::IncludeFileResolver;
 pub use memory::MemoryResolver;
 pub use metadata::FileMetadata;
