@@ -12,16 +12,14 @@ mod message;
 mod own;
 mod putting;
 mod reading;
-mod reflect;
 mod setting;
 mod tree;
 mod typed;
 mod value;
 
-pub use error::{ReflectError, SetFieldError};
+pub use error::SetFieldError;
 pub use message::DynamicMessage;
 pub use pbx_codec::MapKey;
 pub use pbx_key_map::KeyMap;
 pub use pbx_wire::Rec as UnknownField;
-pub use reflect::ReflectMessage;
 pub use value::{Value, ValueMap};

@@ -3,12 +3,12 @@ ghost use Rattle.pbx_meaning.specs.Encoding.{encoded};
 ghost use Rattle.pbx_desc_records.specs.declared.file.FileDescriptorProto.{FileDescriptorProto};
 ghost use Rattle.pbx_desc_records.specs.declared.message.DescriptorProto.{DescriptorProto};
 ghost use Rattle.pbx_described.specs.Descriptors.{Described};
-ghost use Rattle.pbx_message.specs.Reflect.{IsReflected, IsNotReflected};
+ghost use Rattle.pbx_reflection.specs.Reflect.{IsReflected, IsNotReflected};
 
 use crate::error::ReflectError;
-use crate::message::DynamicMessage;
-use pbx_desc::Message;
 use pbx_link::{DescriptorPool, MessageDescriptor};
+use pbx_message::DynamicMessage;
+use pbx_record_traits::Message;
 use pbx_wire::DecodeError;
 use std::alloc::Global;
 
@@ -21,7 +21,8 @@ pub trait ReflectMessage: Message {
     fn descriptor(&self, pool: &DescriptorPool) -> Option<MessageDescriptor>
         ensures { result ≡ reflected self.now pool.now };
 
-    /// The dynamic message that the value's bytes mean.
+    /// The dynamic message that the value's bytes mean as one of that type. `NotFound` comes exactly where there is no such
+    /// type, and `Decode` where the bytes mean nothing as one of it.
     fn transcode_to_dynamic(
         &self,
         alloc: Global,
@@ -30,7 +31,16 @@ pub trait ReflectMessage: Message {
         ensures ok { IfOk result (IsReflected (reflected self.now pool.now)
             (encoded (Self.shape self.now) (Self.type_at self.now) (Self.content self.now))) }
         ensures err { IfErr result (IsNotReflected (reflected self.now pool.now)
-            (encoded (Self.shape self.now) (Self.type_at self.now) (Self.content self.now))) };
+            (encoded (Self.shape self.now) (Self.type_at self.now) (Self.content self.now))) }
+    {
+        let Some(desc) = self.descriptor(pool) else {
+            return Err(ReflectError::NotFound);
+        };
+        match self.encode_to_vec(alloc) {
+            Ok(bytes) => reflect_bytes(alloc, desc, bytes.as_slice()),
+            Err(_refused) => Err(ReflectError::NoMemory),
+        }
+    }
 }
 
 /// The message of the type that the bytes mean.
@@ -46,25 +56,5 @@ fn reflect_bytes(
         Ok(message) => Ok(message),
         Err(DecodeError::NoMemory) => Err(ReflectError::NoMemory),
         Err(fault) => Err(ReflectError::Decode(fault)),
-    }
-}
-
-/// Its own type, whatever the pool.
-impl ReflectMessage for DynamicMessage {
-    ghost reflected = { λ m pool. Some m.of };
-
-    fn descriptor(&self, _pool: &DescriptorPool) -> Option<MessageDescriptor> {
-        Some(DynamicMessage::descriptor(self))
-    }
-
-    fn transcode_to_dynamic(
-        &self,
-        alloc: Global,
-        _pool: &DescriptorPool,
-    ) -> Result<DynamicMessage, ReflectError> {
-        match self.encode_to_vec(alloc) {
-            Ok(bytes) => reflect_bytes(alloc, DynamicMessage::descriptor(self), bytes.as_slice()),
-            Err(_refused) => Err(ReflectError::NoMemory),
-        }
     }
 }

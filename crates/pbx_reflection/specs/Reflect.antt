@@ -6,8 +6,8 @@ use Rattle.pbx_meaning.specs.Meaning.{meaning_of}
 use Rattle.pbx_desc_records.specs.declared.message.DescriptorProto.{DescriptorProto}
 use Rattle.pbx_described.specs.Descriptors.{Described}
 use Rattle.pbx_described.specs.Shapes.{shape_of, place_of}
-use Rattle.pbx_message.specs.declared.error.ReflectError.{ReflectError}
-use Rattle.pbx_message.specs.declared.error.ReflectError.TheVariants as errors
+use Rattle.pbx_reflection.specs.declared.error.ReflectError.{ReflectError}
+use Rattle.pbx_reflection.specs.declared.error.ReflectError.TheVariants as errors
 use Rattle.pbx_message.specs.Message.{Dynamic}
 
 -- the message type is there, and the message is what the bytes mean as one of it
