@@ -8,6 +8,7 @@ use pbx_json::{
 };
 use pbx_link::{DescriptorPool, MessageDescriptor};
 use pbx_message::DynamicMessage;
+use pbx_wkt_shape::has_shape;
 use serde_json::Value;
 use std::alloc::Global;
 use test_rows::Row;
@@ -103,6 +104,16 @@ pub(crate) fn levels(alloc: Global, pool: &DescriptorPool, row: &Row) -> Result<
 pub(crate) fn fits(alloc: Global, pool: &DescriptorPool, row: &Row) -> Result<String, Stop> {
     let message = decoded(alloc, pool, row, row.text(2))?;
     fits_word(alloc, &message)
+}
+
+/// Whether the type that the row names has the shape of its well-known name.
+pub(crate) fn shape(alloc: Global, pool: &DescriptorPool, row: &Row) -> Result<String, Stop> {
+    let word = if has_shape(&type_of(pool, row)?) {
+        "has its shape"
+    } else {
+        "has another shape"
+    };
+    Ok(String::from_str(alloc, word)?)
 }
 
 /// The first message with a key that has two meanings, and the key, or the first that has not the shape of its well-known name.

@@ -5,7 +5,8 @@
 //! the canonical text; `write` has letters for options (`s` integers of 64 bits as numbers, `e` enums as numbers, `p` fields under their own names,
 //! `d` defaults too) and the bytes of a message, and asks for its text; `levels` has a JSON text and `fits` the bytes of a message, and both ask
 //! whether the message and its payloads nest few levels, and the payloads decode.
-//! `deep` has a number, and asks the same of a tree of so many levels. `names` has the set alone, and asks for the first key that has two meanings.
+//! `deep` has a number, and asks the same of a tree of so many levels. `shape` asks whether the type has the shape of its well-known name.
+//! `names` has the set alone, and asks for the first key that has two meanings.
 //!
 //! What is wanted is made by checks/json-rows.
 #![tactic(auto)]
@@ -15,7 +16,7 @@ mod deep;
 mod faults;
 mod stop;
 
-use asks::{fits, levels, names, read, type_of, written};
+use asks::{fits, levels, names, read, shape, type_of, written};
 use deep::deep;
 use pbx_link::DescriptorPool;
 use std::alloc::{AllocError, Global};
@@ -40,6 +41,7 @@ fn answer(alloc: Global, row: &Row) -> Result<String, Stop> {
         "levels" => levels(alloc, &pool, row),
         "fits" => fits(alloc, &pool, row),
         "deep" => deep(alloc, type_of(&pool, row)?, row.number(2)),
+        "shape" => shape(alloc, &pool, row),
         "names" => names(alloc, &pool),
         _ => Err(Stop::NoSuchWord),
     }
