@@ -109,10 +109,12 @@ list_fields =
     ∷ []
 
 -- the field of a wrapper
+abbrev pub wrapper_field : Kind → FieldShape
+wrapper_field k = field_shape 1 (codes "value") (codes "value") k One
+
+-- the fields of a wrapper
 abbrev pub wrapped : Kind → List FieldShape
-wrapped k =
-    field_shape 1 (codes "value") (codes "value") k One
-    ∷ []
+wrapped k = wrapper_field k ∷ []
 
 abbrev pub message_shape : List ℕ → List FieldShape → MessageShape
 message_shape name fields = record { full_name = name; fields = fields; keeps_order = false; proto3 = true }
