@@ -3,21 +3,25 @@
 //! The records themselves stand in `pbx_desc_records`, and are named here too.
 #![tactic(auto)]
 
+mod boxed;
 mod contents;
 mod encoding;
 mod enumeration;
 mod field;
 mod file;
+mod integers;
 mod laws;
 mod levels;
 mod message;
 mod options;
 mod parts;
+mod scalars;
 mod service;
 mod set;
 mod source;
 mod unknown;
 
+pub use encoding::Message;
 pub use file::file_contents;
 pub use laws::levels_bound_depth;
 pub use pbx_desc_records::{
@@ -27,5 +31,4 @@ pub use pbx_desc_records::{
     SourceCodeInfo,
 };
 pub use pbx_desc_shape::descriptor_shape;
-pub use pbx_record_traits::Message;
 pub use set::FileSet;

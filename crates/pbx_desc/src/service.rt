@@ -2,11 +2,10 @@ ghost use Rattle.pbx_desc_shape.specs.Shape.{descriptor_shape};
 ghost use Rattle.pbx_desc.specs.Content.{service_content, method_content};
 
 use crate::contents::{FieldList, HasContents};
-use crate::encoding::record_bytes;
+use crate::encoding::{Message, record_bytes};
 use pbx_codec::Contents;
 use pbx_desc_records::{MethodDescriptorProto, ServiceDescriptorProto};
 use pbx_desc_shape::place;
-use pbx_record_traits::Message;
 use pbx_wire::NoMemory;
 use std::alloc::Global;
 

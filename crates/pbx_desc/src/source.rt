@@ -4,13 +4,12 @@ ghost use Rattle.pbx_desc.specs.Building.{IsWritten};
 ghost use Rattle.pbx_desc.specs.Content.{source_code_info_content, location_content};
 
 use crate::contents::{FieldList, HasContents};
-use crate::encoding::record_bytes;
+use crate::encoding::{Message, record_bytes};
 use crate::parts::{put_fields, put_records};
 use pbx_codec::Contents;
 use pbx_desc_records::{Location, SourceCodeInfo};
 use pbx_desc_shape::{descriptor_shape, place};
 use pbx_meaning::{Schema, encoding_decodes};
-use pbx_record_traits::Message;
 use pbx_wire::NoMemory;
 use std::alloc::Global;
 

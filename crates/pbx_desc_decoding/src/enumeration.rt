@@ -3,14 +3,13 @@ ghost use Rattle.pbx_meaning.specs.Faults.{IsFaultOf};
 ghost use Rattle.pbx_desc_shape.specs.Shape.{descriptor_shape};
 ghost use Rattle.pbx_desc.specs.Content.{enum_content, enum_reserved_range_content, enum_value_content};
 
-use crate::decoding::record_from_bytes;
+use crate::decoding::{DecodeMessage, record_from_bytes};
 use crate::taking::{
     FromContents, kept_records, take_number, take_options, take_records, take_text, take_texts,
 };
 use pbx_codec::Contents;
 use pbx_desc_records::{EnumDescriptorProto, EnumReservedRange, EnumValueDescriptorProto};
 use pbx_desc_shape::place;
-use pbx_record_traits::DecodeMessage;
 use pbx_wire::{DecodeError, NoMemory};
 use std::alloc::Global;
 

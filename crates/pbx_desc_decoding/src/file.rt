@@ -7,7 +7,7 @@ ghost use Rattle.pbx_desc.specs.Content.{file_set_content, file_values, file_con
 ghost use Rattle.pbx_desc.specs.Sets.{set_meaning_of, IsSetFault};
 ghost use Rattle.pbx_desc_decoding.specs.Taking.{AreTaken};
 
-use crate::decoding::record_from_bytes;
+use crate::decoding::{DecodeMessage, record_from_bytes};
 use crate::taking::{
     FromContents, kept_records, take_numbers, take_options, take_record, take_records, take_text,
     take_texts,
@@ -16,7 +16,6 @@ use pbx_codec::{Contents, decode_parts};
 use pbx_desc_records::{FileDescriptorProto, FileDescriptorSet};
 use pbx_desc_shape::{descriptor_shape, place};
 use pbx_meaning::meaning_is_sound;
-use pbx_record_traits::DecodeMessage;
 use pbx_wire::{DecodeError, NoMemory};
 use std::alloc::Global;
 

@@ -6,10 +6,12 @@ mod elements;
 mod enumeration;
 mod field;
 mod file;
+mod integers;
 mod message;
 mod options;
+mod scalars;
 mod service;
 mod source;
 mod taking;
 
-pub use pbx_record_traits::DecodeMessage;
+pub use decoding::DecodeMessage;

@@ -11,7 +11,7 @@ ghost use Rattle.pbx_desc.specs.Sound.{AreOf};
 ghost use Rattle.pbx_desc_decoding.specs.Taking.{AreTaken};
 ghost use Rattle.pbx_desc_decoding.specs.Messages.{beside, own_values};
 
-use crate::decoding::record_from_bytes;
+use crate::decoding::{DecodeMessage, record_from_bytes};
 use crate::elements::message_of;
 use crate::taking::{
     FromContents, kept_records, take_number, take_options, take_records, take_text, take_texts,
@@ -23,7 +23,6 @@ use pbx_desc_records::{
     OneofDescriptorProto, Options, ReservedRange,
 };
 use pbx_desc_shape::place;
-use pbx_record_traits::DecodeMessage;
 use pbx_wire::{DecodeError, List, NoMemory, Recs, Text, Texts};
 use std::alloc::Global;
 

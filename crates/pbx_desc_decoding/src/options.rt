@@ -7,12 +7,11 @@ ghost use Rattle.pbx_codec.specs.View.{content_of};
 ghost use Rattle.pbx_desc_shape.specs.Shape.{descriptor_shape};
 ghost use Rattle.pbx_desc.specs.Content.{options_content};
 
-use crate::decoding::record_from_bytes;
+use crate::decoding::{DecodeMessage, record_from_bytes};
 use crate::taking::{FromContents, kept_records};
 use pbx_codec::Contents;
 use pbx_desc_records::Options;
 use pbx_desc_shape::place;
-use pbx_record_traits::DecodeMessage;
 use pbx_wire::{DecodeError, NoMemory};
 use std::alloc::Global;
 

@@ -3,14 +3,13 @@ ghost use Rattle.pbx_meaning.specs.Faults.{IsFaultOf};
 ghost use Rattle.pbx_desc_shape.specs.Shape.{descriptor_shape};
 ghost use Rattle.pbx_desc.specs.Content.{method_content, service_content};
 
-use crate::decoding::record_from_bytes;
+use crate::decoding::{DecodeMessage, record_from_bytes};
 use crate::taking::{
     FromContents, kept_records, take_options, take_records, take_text, take_truth,
 };
 use pbx_codec::Contents;
 use pbx_desc_records::{MethodDescriptorProto, ServiceDescriptorProto};
 use pbx_desc_shape::place;
-use pbx_record_traits::DecodeMessage;
 use pbx_wire::{DecodeError, NoMemory};
 use std::alloc::Global;
 

@@ -5,7 +5,7 @@ use pbx_wire::DecodeError;
 pub enum ReflectError {
     /// The pool has no message of the type's name.
     NotFound,
-    /// The value's bytes mean nothing as the pool's message of that name.
+    /// The value's bytes mean nothing as a message of its type.
     Decode(DecodeError),
     /// Memory ran out.
     NoMemory,

@@ -1,5 +1,5 @@
 // What has a message type by what it holds.
-ghost use Rattle.std.specs.Prelude.{Some};
+ghost use Rattle.std.specs.Prelude.{Some, box_value};
 
 use crate::reflect::ReflectMessage;
 use pbx_link::{DescriptorPool, MessageDescriptor};
@@ -16,9 +16,9 @@ impl ReflectMessage for DynamicMessage {
 
 /// The type of the value in the box.
 impl<M: ReflectMessage> ReflectMessage for Box<M> {
-    ghost reflected = { λ m pool. M.reflected m pool };
+    ghost reflected = { λ m pool. M.reflected (box_value m) pool };
 
     fn descriptor(&self, pool: &DescriptorPool) -> Option<MessageDescriptor> {
-        M::descriptor(self, pool)
+        (**self).descriptor(pool)
     }
 }

@@ -13,7 +13,7 @@ use std::alloc::Global;
 use std::marker::Model;
 
 /// The files of a pool by their names, as they are linked there. Given the pool of the built-in files, it opens
-/// `google/protobuf/any.proto` and the others that `protoc` carries with it. It resolves no path.
+/// `google/protobuf/any.proto` and the others of that folder. It resolves no path.
 #[derive(Drop)]
 pub struct GoogleFileResolver {
     pool: DescriptorPool,

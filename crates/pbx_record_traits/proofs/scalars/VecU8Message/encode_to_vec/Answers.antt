@@ -1,7 +1,0 @@
-use Rattle.pbx_meaning.specs.declared.shape.Kind.TheVariants as kind
-use Rattle.pbx_record_traits.proofs.Held.{of_bytes}
-use Rattle.pbx_record_traits.proofs.Wrappers.{bytes_type}
-use Rattle.pbx_record_traits.proofs.scalars.VecU8Message.encode_to_vec.Goals as goal
-
-pub wrapper_bytes-requires : goal.wrapper_bytes-requires
-wrapper_bytes-requires c = (kind.Bytes, bytes_type, of_bytes c.in_ok-octets.octets)
