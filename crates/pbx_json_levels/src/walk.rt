@@ -15,8 +15,8 @@ use pbx_field_names::TypeNames;
 use pbx_json_payload_laws::fits_by_content;
 use pbx_meaning::{Kind, Schema};
 use pbx_number_map::NumberMap;
-use pbx_wire::{DecodeError, List, NoMemory};
 use pbx_well_known::{Form, form_of};
+use pbx_wire::{DecodeError, List, NoMemory};
 use std::alloc::Global;
 
 /// How many levels may stand below the top of a message whose bytes are read again.

@@ -5,8 +5,8 @@ ghost use Rattle.pbx_json_meaning.specs.declared.names_fault.NameFault.TheVarian
 use crate::clash::first_clash;
 use pbx_json_meaning::NameFault;
 use pbx_meaning::{MessageShape, Schema};
-use pbx_wire::NoMemory;
 use pbx_well_known::type_has_shape;
+use pbx_wire::NoMemory;
 use std::alloc::Global;
 
 /// The fault of a message that has not the shape of its name, unless memory runs out.

@@ -27,8 +27,8 @@ use pbx_field_names::SchemaNames;
 use pbx_json_meaning::JsonKind;
 use pbx_meaning::{Kind, Schema};
 use pbx_text::{TextFault, read_duration, read_mask, read_timestamp};
-use pbx_wire::{List, NoMemory, Texts};
 use pbx_well_known::Form;
+use pbx_wire::{List, NoMemory, Texts};
 use serde_json::Value;
 use std::alloc::Global;
 

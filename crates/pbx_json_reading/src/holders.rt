@@ -15,8 +15,8 @@ use crate::forms::{holding, kind_at};
 use pbx_codec::{Contents, Held};
 use pbx_json_meaning::{JsonError, JsonKind};
 use pbx_meaning::{Kind, Schema};
-use pbx_wire::{NoMemory, Text};
 use pbx_well_known::{Form, form_of};
+use pbx_wire::{NoMemory, Text};
 use serde_json::Value;
 use std::alloc::Global;
 

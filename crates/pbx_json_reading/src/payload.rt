@@ -19,8 +19,8 @@ use pbx_codec::{Contents, Held, encode};
 use pbx_field_names::SchemaNames;
 use pbx_json_meaning::{JsonError, JsonKind};
 use pbx_meaning::Schema;
-use pbx_wire::{NoMemory, Text};
 use pbx_well_known::{Form, form_of};
+use pbx_wire::{NoMemory, Text};
 use serde_json::{Map, Value};
 use std::alloc::Global;
 

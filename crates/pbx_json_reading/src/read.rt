@@ -33,8 +33,8 @@ use pbx_field_names::SchemaNames;
 use pbx_json_meaning::{DeserializeOptions, JsonError, JsonKind};
 use pbx_json_walk_laws::{fault_is_first, message_is_told};
 use pbx_meaning::{Cardinality, FieldShape, Kind, Schema};
-use pbx_wire::List;
 use pbx_well_known::form_of;
+use pbx_wire::List;
 use serde_json::Value;
 use std::alloc::Global;
 

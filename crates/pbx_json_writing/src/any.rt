@@ -25,8 +25,8 @@ use pbx_any::{payload_bytes, type_url};
 use pbx_codec::{Contents, decode};
 use pbx_json_meaning::JsonKind;
 use pbx_meaning::{Kind, Schema, meaning_is_sound};
-use pbx_wire::DecodeError;
 use pbx_well_known::{Form, form_of};
+use pbx_wire::DecodeError;
 use serde_json::{Map, Value};
 use std::alloc::Global;
 

@@ -28,8 +28,8 @@ use pbx_codec::{Contents, Held};
 use pbx_json_meaning::{JsonKind, SerializeOptions};
 use pbx_meaning::{Kind, Schema};
 use pbx_text::{TextFault, write_duration, write_mask, write_timestamp};
-use pbx_wire::{List, NoMemory, Text, Texts};
 use pbx_well_known::Form;
+use pbx_wire::{List, NoMemory, Text, Texts};
 use serde_json::Value;
 use std::alloc::Global;
 

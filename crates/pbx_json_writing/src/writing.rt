@@ -30,8 +30,8 @@ use pbx_any::type_url;
 use pbx_codec::{Contents, Held, Pair};
 use pbx_json_meaning::{JsonError, JsonKind, SerializeOptions};
 use pbx_meaning::{Kind, Schema};
-use pbx_wire::List;
 use pbx_well_known::{Form, form_of};
+use pbx_wire::List;
 use serde_json::{Map, Value};
 use std::alloc::Global;
 
