@@ -1,4 +1,1 @@
-pub mod Holders
 pub mod Objects
-pub mod Scalars
-pub mod States

@@ -1,10 +1,9 @@
--- What a tree is as an object of fields, and what is put into the content of a message that is none.
-use Rattle.std.specs.Prelude.{ℕ, List, [], ◌∷◌, Bool, if◌then◌else◌, Option, Some, None, Ok}
+-- What a tree is as an object of fields.
+use Rattle.std.specs.Prelude.{ℕ, List, Bool, if◌then◌else◌, Ok}
 use Rattle.serde_json.specs.Data.{Data}
 use Rattle.pbx_meaning.specs.Content.{Content}
 use Rattle.pbx_meaning.specs.declared.shape.FieldShape.{FieldShape}
 use Rattle.pbx_meaning.specs.declared.shape.Kind.{Kind}
-use Rattle.pbx_codec.specs.declared.contents.Held.{Held}
 use Rattle.pbx_json_meaning.specs.Names.{field_named}
 use Rattle.pbx_json_meaning.specs.Urls.{is_type_key}
 use Rattle.pbx_json_meaning.specs.declared.place.Step.TheVariants.{Key as to_key}
@@ -26,8 +25,3 @@ beside_turn skips fs key answers s = if is_type_key key then Ok s else at_step (
 -- the payload of a kind under `value`
 abbrev pub payload_object : Bool → Kind → Data → List Part → Answer Content
 payload_object skips k d ps = and_then (or_here (members_in d)) (payload_answer skips k ps)
-
--- the value at its number, if there is one
-abbrev pub entry_at : ℕ → Option Held → List (ℕ × Held)
-entry_at n None = []
-entry_at n (Some h) = (n, h) ∷ []

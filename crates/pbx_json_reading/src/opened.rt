@@ -1,13 +1,12 @@
 // What is read of a tree, before what is inside it is read.
 ghost use Rattle.std.specs.Prelude.{◌≡◌, true, false};
 ghost use Rattle.serde_json.specs.View.{view, items_view, members_view};
-ghost use Rattle.pbx_meaning.specs.Shape.{is_float as is_float_of};
 ghost use Rattle.pbx_well_known.specs.Types.{message_name as message_name_of};
 ghost use Rattle.pbx_json_meaning.specs.Asked.{field_target, target_by, nothing, reads_null as reads_null_of};
 ghost use Rattle.pbx_json_walk.specs.Opened.{reads_null_for, option_members, option_items, members_in};
 ghost use Rattle.pbx_json_walk.specs.Opened.{items_of_list, members_of_map, items_if_none, members_if_none, wrong_kind_of};
 
-use crate::scalar::is_null_value;
+use pbx_json_kinds::{is_float, is_null_value};
 use pbx_json_meaning::JsonKind;
 use pbx_meaning::{Cardinality, FieldShape, Kind, Schema};
 use serde_json::{Map, Value};
@@ -22,13 +21,6 @@ fn message_name(schema: &Schema, place: usize) -> &str
     } else {
         ""
     }
-}
-
-/// Whether the kind is a float.
-pub(crate) fn is_float(kind: Kind) -> bool
-    ensures { result ≡ is_float_of kind }
-{
-    matches!(kind, Kind::Double | Kind::Float)
 }
 
 /// Whether null is a value of the kind.

@@ -13,24 +13,25 @@ ghost use Rattle.pbx_field_names.specs.Index.{AreNamesIn};
 ghost use Rattle.pbx_json_walk.specs.Walk.{IsFaultOf, answer_map, answers, at_step, key_judged, message_found, payload_turn};
 ghost use Rattle.pbx_json_walk.specs.Walk.{turn, message_answer, own_answer, value_answer, list_answer, map_answer, target_answer};
 ghost use Rattle.pbx_json_walk.specs.Walk.{parts_in, elements_in, entry_key, entry_turn, item_turn};
-ghost use Rattle.pbx_json_reading.specs.States.{state_of, entries_of};
+ghost use Rattle.pbx_json_reading_objects.specs.States.{state_of, entries_of};
 ghost use Rattle.pbx_json_reading.specs.Objects.{object_answer, beside_object, beside_turn, payload_object};
-ghost use Rattle.pbx_json_reading.specs.Holders.{own_of};
-ghost use Rattle.pbx_json_reading.specs.declared.holders.Own.TheVariants.{Elements, Members, Beside, Under};
+ghost use Rattle.pbx_json_reading_forms.specs.Holders.{own_of};
+ghost use Rattle.pbx_json_reading_forms.specs.declared.holders.Own.TheVariants.{Elements, Members, Beside, Under};
 
-use crate::defaults::shown;
-use crate::entries::MapEntries;
-use crate::fault::{at_key, at_tree, below_index, below_key};
-use crate::forms::{is_object_form, kind_at, read_own, skips_keys};
-use crate::holders::{Holder, Own, Packing, hold};
 use crate::opened::{is_left_out, list_items, map_members, object_members};
-use crate::payload::{is_type_key, is_value_key, pack, payload_found};
-use crate::scalar::{read_key, read_scalar};
-use crate::state::ObjectState;
-use crate::steps::{add_entry, add_value, map_held, note_at};
 use pbx_codec::{Contents, Held, MapKey};
 use pbx_field_names::SchemaNames;
+use pbx_json_kinds::{is_object_form, kind_at};
 use pbx_json_meaning::{DeserializeOptions, JsonError, JsonKind};
+use pbx_json_reading_forms::{
+    Holder, Own, Packing, hold, is_type_key, is_value_key, pack, payload_found, read_own, shown,
+    skips_keys,
+};
+use pbx_json_reading_objects::{
+    MapEntries, ObjectState, add_entry, add_value, at_key, at_tree, below_index, below_key,
+    map_held, note_at,
+};
+use pbx_json_reading_scalars::{read_key, read_scalar};
 use pbx_json_walk_laws::{fault_is_first, message_is_told};
 use pbx_meaning::{Cardinality, FieldShape, Kind, Schema};
 use pbx_well_known::form_of;

@@ -5,7 +5,7 @@ use Rattle.pbx_meaning.specs.declared.shape.Kind.TheVariants.{Message}
 use Rattle.pbx_codec.specs.View.{content_of}
 use Rattle.pbx_json_walk.specs.Walk.{walk, start, parts, answer_map, content_found, walk_entries, no_entries, map_value, answers, and_then}
 use Rattle.pbx_json_walk.specs.Walk.{Part, beside_type, walk_payload, payload_found}
-use Rattle.pbx_json_reading.specs.States.{state_of, entries_of}
+use Rattle.pbx_json_reading_objects.specs.States.{state_of, entries_of}
 use Rattle.pbx_json_reading.proofs.Members.{object_walk, map_walk, beside_walk, beside_first, payload_walk, fault_from, on_if_ok, on_if_err}
 use Rattle.pbx_json_reading.proofs.read.+tree.Goals as goal
 

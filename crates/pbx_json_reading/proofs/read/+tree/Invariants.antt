@@ -5,7 +5,7 @@ use Rattle.pbx_meaning.specs.declared.shape.Kind.TheVariants.{Message}
 use Rattle.pbx_codec.specs.View.{val_of, content_of}
 use Rattle.pbx_field_names.specs.Index.{AreNamesIn}
 use Rattle.pbx_json_walk.specs.Walk.{walk, start, parts, walk_items, items_answers, walk_entries, no_entries, beside_type, walk_payload}
-use Rattle.pbx_json_reading.specs.States.{state_of, entries_of}
+use Rattle.pbx_json_reading_objects.specs.States.{state_of, entries_of}
 use Rattle.pbx_json_reading.proofs.read.+tree.Given as goal
 
 abbrev pub decreases-read_message : goal.decreases-read_message

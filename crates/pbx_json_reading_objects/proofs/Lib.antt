@@ -1,0 +1,4 @@
+pub mod Found
+pub mod Keys
+pub mod Moved
+pub mod Pairs
