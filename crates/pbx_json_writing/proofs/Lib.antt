@@ -1,16 +1,1 @@
-pub mod OfEnums
-pub mod OfMembers
-pub mod Collected
-pub mod Views
-pub mod Refusing
-pub mod Arrays
-pub mod Keys
-pub mod Entries
-pub mod OfFields
-pub mod OfDefaults
-pub mod OfKept
-pub mod OfScalars
-pub mod OfForms
-pub mod ValueRows
-pub mod OfValues
 pub mod OfAny

@@ -36,17 +36,17 @@ use Rattle.pbx_json_meaning.specs.declared.options.SerializeOptions.{SerializeOp
 use Rattle.pbx_json_meaning.specs.declared.place.Step.{Step}
 use Rattle.pbx_json_meaning.specs.declared.place.Step.TheVariants.{Key, Index}
 use Rattle.pbx_json_payload_laws.proofs.Payloads.{payloads_by_content}
-use Rattle.pbx_json_writing.specs.Lines.{with_lines, collected, field_lines, default_lines}
+use Rattle.pbx_json_writing_forms.specs.Lines.{with_lines, collected, field_lines, default_lines}
 use Rattle.pbx_json_writing.specs.Payloads.{IsPayloadOf}
-use Rattle.pbx_json_writing.specs.Refusals.{Refused, IsPayloadRefused, IsTypeRefused, IsAnyRefused}
+use Rattle.pbx_json_writing_scalars.specs.Refusals.{Refused, IsPayloadRefused, IsTypeRefused, IsAnyRefused}
 use Rattle.pbx_json_writing.specs.declared.any.Payload.{Payload}
-use Rattle.pbx_json_writing.specs.declared.refusal.Refusal.{Refusal}
-use Rattle.pbx_json_writing.specs.declared.refusal.Refusal.TheVariants as refused
-use Rattle.pbx_json_writing.proofs.Collected.{with_lines-append, with_lines_none, keys_of_lines}
-use Rattle.pbx_json_writing.proofs.OfDefaults.{keys_of_defaults}
-use Rattle.pbx_json_writing.proofs.OfFields.{all_lines, lines_are, fields_there}
-use Rattle.pbx_json_writing.proofs.OfForms.{own_told, own_parts}
-use Rattle.pbx_json_writing.proofs.Refusing.{Stops, refused_key, refused_lifted}
+use Rattle.pbx_json_writing_scalars.specs.declared.refusal.Refusal.{Refusal}
+use Rattle.pbx_json_writing_scalars.specs.declared.refusal.Refusal.TheVariants as refused
+use Rattle.pbx_json_writing_forms.proofs.Collected.{with_lines-append, with_lines_none, keys_of_lines}
+use Rattle.pbx_json_writing_forms.proofs.OfDefaults.{keys_of_defaults}
+use Rattle.pbx_json_writing_forms.proofs.OfFields.{all_lines, lines_are, fields_there}
+use Rattle.pbx_json_writing_forms.proofs.OfForms.{own_told, own_parts}
+use Rattle.pbx_json_writing_scalars.proofs.Refusing.{Stops, refused_key, refused_lifted}
 
 -- ---- counting keys
 

@@ -1,6 +1,1 @@
-pub mod Indexes
-pub mod Kinds
-pub mod Lines
 pub mod Payloads
-pub mod Refusals
-pub mod Writings

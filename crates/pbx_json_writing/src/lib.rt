@@ -4,14 +4,6 @@
 #![tactic(auto)]
 
 mod any;
-mod defaults;
-mod enums;
-mod fields;
-mod forms;
-mod indexes;
-mod members;
-mod refusal;
-mod scalars;
 mod writing;
 
 pub use writing::write_content;

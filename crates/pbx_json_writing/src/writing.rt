@@ -13,22 +13,21 @@ ghost use Rattle.pbx_json_meaning.specs.Faults.{SomeWith};
 ghost use Rattle.pbx_json_meaning.specs.Canonical.{writing, tells, canonical};
 ghost use Rattle.pbx_json_meaning.specs.WriteFaults.{WriteFault};
 ghost use Rattle.pbx_json_meaning.specs.declared.kind.JsonKind.TheVariants as fault;
-ghost use Rattle.pbx_json_writing.specs.Indexes.{AreIndexes};
-ghost use Rattle.pbx_json_writing.specs.Kinds.{told_value, is_passed_form as is_passed_form_of};
-ghost use Rattle.pbx_json_writing.specs.Lines.{field_members};
-ghost use Rattle.pbx_json_writing.specs.Refusals.{Refused};
+ghost use Rattle.pbx_json_writing_scalars.specs.Indexes.{AreIndexes};
+ghost use Rattle.pbx_json_writing_scalars.specs.Kinds.{told_value, is_passed_form as is_passed_form_of};
+ghost use Rattle.pbx_json_writing_forms.specs.Lines.{field_members};
+ghost use Rattle.pbx_json_writing_scalars.specs.Refusals.{Refused};
 
 use crate::any::{payload_of, with_payload};
-use crate::defaults::with_defaults;
-use crate::fields::{field_numbered, keeps_no_float, key_of_field, kind_at, message_type};
-use crate::forms::{is_object_form, is_passed_form, number_of_value, own_tree};
-use crate::indexes::Indexes;
-use crate::members::{add_item, add_member};
-use crate::refusal::Refusal;
-use crate::scalars::{key_text, scalar_tree};
 use pbx_any::type_url;
 use pbx_codec::{Contents, Held, Pair};
+use pbx_json_kinds::{is_object_form, kind_at};
 use pbx_json_meaning::{JsonError, JsonKind, SerializeOptions};
+use pbx_json_writing_forms::{
+    add_item, add_member, field_numbered, is_passed_form, keeps_no_float, key_of_field,
+    message_type, number_of_value, own_tree, with_defaults,
+};
+use pbx_json_writing_scalars::{Indexes, Refusal, key_text, scalar_tree};
 use pbx_meaning::{Kind, Schema};
 use pbx_well_known::{Form, form_of};
 use pbx_wire::List;

@@ -1,0 +1,12 @@
+pub mod Arrays
+pub mod Collected
+pub mod Entries
+pub mod Keys
+pub mod OfDefaults
+pub mod OfFields
+pub mod OfForms
+pub mod OfKept
+pub mod OfMembers
+pub mod OfValues
+pub mod ValueRows
+pub mod Views

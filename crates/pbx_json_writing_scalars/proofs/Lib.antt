@@ -1,0 +1,3 @@
+pub mod OfEnums
+pub mod OfScalars
+pub mod Refusing

@@ -1,0 +1,4 @@
+pub mod Indexes
+pub mod Kinds
+pub mod Refusals
+pub mod Writings
