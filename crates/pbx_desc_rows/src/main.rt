@@ -2,11 +2,13 @@
 //!
 //! A row asks by the name of a record, and its third field is the bytes in hexadecimal digits. The answer is what is written for the record,
 //! in such digits, or the rule that the bytes break with the offset of the record that breaks it. `unknown` asks for the records of
-//! a `DescriptorProto` that are none of its fields, and `options` for those of its options.
+//! a `DescriptorProto` that are none of its fields, and `options` for those of its options. The name of a type of single values, as `i32`, asks
+//! the same of its wrapper.
 #![tactic(auto)]
 
 mod stop;
 
+use bytes::Bytes;
 use pbx_desc_decoding::DecodeMessage;
 use pbx_desc_records::{
     DescriptorProto, EnumDescriptorProto, EnumReservedRange, EnumValueDescriptorProto,
@@ -97,6 +99,22 @@ fn answer(alloc: Global, row: &Row) -> Result<String, Stop> {
         "Options" => again::<Options>(alloc, bytes),
         "unknown" => unknown(alloc, bytes),
         "options" => options(alloc, bytes),
+        word => single(alloc, word, bytes),
+    }
+}
+
+/// The same of a single value, by the name of its type.
+fn single(alloc: Global, word: &str, bytes: &[u8]) -> Result<String, Stop> {
+    match word {
+        "()" => again::<()>(alloc, bytes),
+        "bool" => again::<bool>(alloc, bytes),
+        "i32" => again::<i32>(alloc, bytes),
+        "i64" => again::<i64>(alloc, bytes),
+        "u32" => again::<u32>(alloc, bytes),
+        "u64" => again::<u64>(alloc, bytes),
+        "String" => again::<String>(alloc, bytes),
+        "Vec<u8>" => again::<Vec<u8>>(alloc, bytes),
+        "Bytes" => again::<Bytes>(alloc, bytes),
         _ => Err(Stop::NoSuchWord),
     }
 }
