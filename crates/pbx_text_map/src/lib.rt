@@ -1,0 +1,6 @@
+//! Values under texts, in the order of the texts.
+#![tactic(auto)]
+
+mod map;
+
+pub use map::TextMap;
