@@ -1,0 +1,5 @@
+pub mod Opened
+pub mod Looked
+pub mod Rules
+pub mod Linked
+pub mod Kept
