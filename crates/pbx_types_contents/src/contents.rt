@@ -4,17 +4,17 @@ ghost use Rattle.pbx_wire.specs.Text.{are_fit};
 ghost use Rattle.pbx_meaning.specs.declared.shape.Kind.{Kind};
 ghost use Rattle.pbx_meaning.specs.declared.shape.Kind.TheVariants as kind;
 ghost use Rattle.pbx_meaning.specs.Content.{Content, content, no_fields, number as number_val, text as text_val, octets as octets_val};
-ghost use Rattle.pbx_meaning.specs.Content.{many, vals_of};
-ghost use Rattle.pbx_meaning.specs.Sound.{AreElements};
-ghost use Rattle.pbx_codec.specs.View.{content_of, val_of};
-ghost use Rattle.pbx_meaning.specs.declared.shape.Cardinality.TheVariants.{Singular, Repeated};
+ghost use Rattle.pbx_meaning.specs.Content.{many, vals_of, keyed, pairs_of};
+ghost use Rattle.pbx_meaning.specs.Sound.{AreElements, ArePairs};
+ghost use Rattle.pbx_codec.specs.View.{content_of, val_of, pair_of};
+ghost use Rattle.pbx_meaning.specs.declared.shape.Cardinality.TheVariants.{Singular, Repeated, Map};
 ghost use Rattle.pbx_types_shape.specs.Shape.{types_shape};
 ghost use Rattle.pbx_types_contents.specs.Building.{Puts, Holds};
 ghost use Rattle.pbx_types_contents.specs.Unknown.{is_writable_beside};
 
 use crate::unknown::writable;
 use bytes::Bytes;
-use pbx_codec::{Contents, Held};
+use pbx_codec::{Contents, Held, Pair};
 use pbx_number_map::NumberMap;
 use pbx_wire::{List, NoMemory, Recs, Text, Texts};
 use std::alloc::Global;
@@ -141,6 +141,17 @@ pub fn put_list(contents: &mut Contents, number: u32, values: List<Held>) -> Res
         return Ok(());
     }
     contents.put(number, Held::Many(values))
+}
+
+/// Puts the pairs of a map in, unless there are none.
+pub fn put_pairs(contents: &mut Contents, number: u32, pairs: List<Pair>) -> Result<(), NoMemory>
+    ensures { OnOk result ((key k : Kind) → ArePairs types_shape key k (pairs_of (map pair_of pairs))
+        → Puts (Map key) false k number (Some (keyed (pairs_of (map pair_of pairs)))) (content_of contents.old) (content_of contents.new)) }
+{
+    if pairs.is_empty() {
+        return Ok(());
+    }
+    contents.put(number, Held::Pairs(pairs))
 }
 
 /// The texts as values.

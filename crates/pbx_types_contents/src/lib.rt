@@ -9,7 +9,8 @@ mod taking;
 mod unknown;
 
 pub use contents::{
-    HasContents, kept_contents, put_int32, put_int64, put_list, put_octets, put_text, text_values,
+    HasContents, kept_contents, put_int32, put_int64, put_list, put_octets, put_pairs, put_text,
+    text_values,
 };
 pub use decoding::record_from_bytes;
 pub use elements::{message_of, text_list};

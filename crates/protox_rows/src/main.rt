@@ -10,8 +10,11 @@
 //! - `set`: names of files, input, a type's name, and the files. The answer is the set of the files in hexadecimal digits.
 //! - `deep`: a type's name, and files, each by its name and how many messages stand in one another there. The answer is `ok`, or what is
 //!   refused.
+//! - `built-in`: names of built-in files, input and a type's name. The answer is the wire bytes in hexadecimal digits and the canonical text, or
+//!   what is refused.
 #![tactic(auto)]
 
+mod built_in;
 mod deep;
 mod objects;
 mod runs;
@@ -28,6 +31,7 @@ fn answer(alloc: Global, row: &Row) -> Result<String, NoMemory> {
         "records" => runs::records(alloc, row),
         "set" => sets::set(alloc, row),
         "deep" => deep::deep(alloc, row),
+        "built-in" => built_in::built_in(alloc, row),
         _ => Ok(String::from_str(alloc, "no such question")?),
     }
 }

@@ -1,0 +1,4 @@
+pub mod Trees
+pub mod Members
+pub mod Pairs
+pub mod Putting

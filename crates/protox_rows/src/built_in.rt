@@ -1,0 +1,43 @@
+//! What is transcoded over the built-in files alone.
+
+use crate::objects::words;
+use hex::encode;
+use pbx_wire::NoMemory;
+use pbx_wkt::make_wkt_descriptor_pool;
+use protox::{TopError, Transcoded, compile_and_transcode};
+use protox_file::GoogleFileResolver;
+use serde_json::Value;
+use std::alloc::Global;
+use test_rows::Row;
+
+const INPUT: usize = 1;
+
+const TYPE: usize = 2;
+
+/// The wire bytes in hexadecimal digits and the canonical text, or the line of what is refused.
+fn told(alloc: Global, came: &Result<Transcoded, TopError>) -> Result<String, NoMemory> {
+    match came {
+        Ok(done) => {
+            let digits = encode(alloc, done.wire.as_slice())?;
+            let text = done.tree.to_string(alloc)?;
+            Ok(format!(in alloc; "{digits} {text}")?)
+        }
+        Err(error) => Ok(String::from_str(alloc, error.line(alloc)?.as_str())?),
+    }
+}
+
+/// The same of a tree.
+fn with(alloc: Global, row: &Row, tree: &Value) -> Result<String, NoMemory> {
+    let paths = words(alloc, row)?;
+    let files = GoogleFileResolver::new(make_wkt_descriptor_pool(alloc)?);
+    let attempt = compile_and_transcode(alloc, files, &paths, row.text(TYPE), tree);
+    told(alloc, &attempt.result)
+}
+
+/// What comes of the input as a message of the type of built-in files.
+pub(crate) fn built_in(alloc: Global, row: &Row) -> Result<String, NoMemory> {
+    match Value::from_slice(alloc, row.bytes(INPUT)) {
+        Ok(tree) => with(alloc, row, &tree),
+        Err(_) => Ok(String::from_str(alloc, "no JSON")?),
+    }
+}
