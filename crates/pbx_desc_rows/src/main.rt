@@ -3,7 +3,7 @@
 //! A row asks by the name of a record, and its third field is the bytes in hexadecimal digits. The answer is what is written for the record,
 //! in such digits, or the rule that the bytes break with the offset of the record that breaks it. `unknown` asks for the records of
 //! a `DescriptorProto` that are none of its fields, and `options` for those of its options. The name of a type of single values, as `i32`, asks
-//! the same of its wrapper.
+//! the same of its wrapper, and that of a well-known type, as `Struct`, of its record.
 #![tactic(auto)]
 
 mod stop;
@@ -16,6 +16,7 @@ use pbx_desc_records::{
     MethodDescriptorProto, OneofDescriptorProto, Options, ReservedRange, ServiceDescriptorProto,
     SourceCodeInfo,
 };
+use pbx_types::{Any, Duration, Empty, FieldMask, ListValue, Struct, Timestamp, Value};
 use pbx_wire::{DecodeError, Recs, recs_text};
 use std::alloc::{AllocError, Global};
 use std::io;
@@ -115,6 +116,21 @@ fn single(alloc: Global, word: &str, bytes: &[u8]) -> Result<String, Stop> {
         "String" => again::<String>(alloc, bytes),
         "Vec<u8>" => again::<Vec<u8>>(alloc, bytes),
         "Bytes" => again::<Bytes>(alloc, bytes),
+        _ => well_known(alloc, word, bytes),
+    }
+}
+
+/// The same of a record of a well-known type.
+fn well_known(alloc: Global, word: &str, bytes: &[u8]) -> Result<String, Stop> {
+    match word {
+        "Any" => again::<Any>(alloc, bytes),
+        "Duration" => again::<Duration>(alloc, bytes),
+        "Empty" => again::<Empty>(alloc, bytes),
+        "FieldMask" => again::<FieldMask>(alloc, bytes),
+        "Struct" => again::<Struct>(alloc, bytes),
+        "Value" => again::<Value>(alloc, bytes),
+        "ListValue" => again::<ListValue>(alloc, bytes),
+        "Timestamp" => again::<Timestamp>(alloc, bytes),
         _ => Err(Stop::NoSuchWord),
     }
 }

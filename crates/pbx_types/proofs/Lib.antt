@@ -2,3 +2,4 @@ pub mod Trees
 pub mod Members
 pub mod Pairs
 pub mod Putting
+pub mod Reading

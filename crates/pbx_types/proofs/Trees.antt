@@ -25,10 +25,10 @@ list_content_at l = fold_out-ListValue Content Content Content list_step struct_
 pub struct_content_at : (s : Struct) → struct_content s ≡ struct_step (opened_struct s)
 struct_content_at s = fold_out-Struct Content Content Content list_step struct_step value_step s
 
-abbrev mapped : Value-F ListValue Struct Value → Value-F Content Content Content
+abbrev pub mapped : Value-F ListValue Struct Value → Value-F Content Content Content
 mapped = map-Value ListValue Struct Value Content Content Content list_content struct_content value_content
 
-mapped_is : (z : Option ℤ) (t : Option (List ℕ)) (b : Option Bool) (s : Option Struct) (l : Option ListValue) (rs : List Rec)
+pub mapped_is : (z : Option ℤ) (t : Option (List ℕ)) (b : Option Bool) (s : Option Struct) (l : Option ListValue) (rs : List Rec)
     → mapped (record { null_value = z; string_value = t; bool_value = b; struct_value = s; list_value = l; unknown = rs })
     ≡ record { null_value = z; string_value = t; bool_value = b; struct_value = option_map struct_content s; list_value = option_map list_content l; unknown = rs }
 mapped_is z t b None None rs = refl

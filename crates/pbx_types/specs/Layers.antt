@@ -3,6 +3,8 @@ use Rattle.std.specs.Prelude.{◌≡◌, ℕ, List, true, map, Option, option_ma
 use Rattle.std.specs.Str.{is_utf8}
 use Rattle.pbx_meaning.specs.Content.{Content, fields, no_fields, with_fields, Key, Val, text_key, message}
 use Rattle.pbx_meaning.specs.Sound.{has_one_member}
+use Rattle.pbx_codec.specs.declared.contents.Held.{Held}
+use Rattle.pbx_codec.specs.View.{val_of}
 use Rattle.pbx_types_shape.specs.Shape.{value_fields}
 use Rattle.pbx_types_contents.specs.Content.{fields_from}
 use Rattle.pbx_types_contents.specs.Sound.{AreValues}
@@ -46,6 +48,10 @@ value_message v = message (value_content v)
 -- a Value as the value of a map
 abbrev pub value_pair : List ℕ × Value → Key × Val
 value_pair f = (text_key f.0, message (value_content f.1))
+
+-- what a tree holds under a name, as the value of a map
+abbrev pub held_pair : List ℕ × Held → Key × Val
+held_pair f = (text_key f.0, val_of f.1)
 
 -- the pair is that of the name, which is a text, and the value
 pub record IsNamed (name : List ℕ) (v : Val) (p : Key × Val) : Type 0 where

@@ -11,7 +11,7 @@ ghost use Rattle.pbx_types.specs.Layers.{value_values, value_message, value_pair
 
 use crate::tree::{ListValue, Struct, Value};
 use pbx_codec::{Contents, Held, MapKey, Pair};
-use pbx_record_traits::Message;
+use pbx_desc::Message;
 use pbx_text_map::TextMap;
 use pbx_types_contents::{HasContents, kept_contents, put_list, put_pairs, record_bytes};
 use pbx_types_shape::place;
