@@ -1,5 +1,3 @@
-use Rattle.std.proofs.Common.{◌≤◌, ℕ, Bool, inl, inr, arith}
-use Rattle.protox_io.specs.Count.{Rose}
 use Rattle.protox.specs.Stops.{Caused}
 use Rattle.protox.specs.declared.stop.Object.TheVariants.{Input, File, Path, Output}
 use Rattle.protox.specs.declared.stop.Stop.{Stop}
@@ -10,14 +8,10 @@ pub caused_in : (a b c d e f : Type 0) (stop : Stop) → (a → d) → (b → e)
 caused_in a b c d e f Words g h k x = absurd x
 caused_in a b c d e f (Refused refusal) g h k x = tt
 caused_in a b c d e f (Broken Input) g h k x = h x
-caused_in a b c d e f (Broken (File fault)) g h k x = g x
+caused_in a b c d e f (Broken (File line)) g h k x = (g x.0, x.1)
 caused_in a b c d e f (Broken Path) g h k x = g x
 caused_in a b c d e f (Broken Output) g h k x = k x
 caused_in a b c d e f NoMemory g h k x = tt
 
 pub never : (a b c : Type 0) (stop : Stop) → Caused ⊥ ⊥ ⊥ stop → Caused a b c stop
 never a b c stop x = caused_in ⊥ ⊥ ⊥ a b c stop (λ z. absurd z) (λ z. absurd z) (λ z. absurd z) x
-
-pub rose_later : (a b c : ℕ) (s : Bool) → a ≤ b → Rose b c s → Rose a c s
-rose_later a b c s h (inl rose) = inl (omega arith)
-rose_later a b c s h (inr spent) = inr spent

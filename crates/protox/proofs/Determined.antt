@@ -1,8 +1,7 @@
 -- What an input is transcoded to is determined, and it is refused for no reason.
-use Rattle.std.proofs.Common.{◌≡◌, ◌≤◌, ◌∙◌, ◌++◌, ◌∷◌, [], inl, inr, ◌⊎◌, ℕ, List, length, true, false, Bool, if◌then◌else◌, Option, Some, None, ap, sym, subst, refl, arith}
+use Rattle.std.proofs.Common.{◌≡◌, ◌≤◌, ◌∙◌, ◌++◌, ◌∷◌, [], inl, inr, ℕ, List, length, true, false, Bool, if◌then◌else◌, Option, Some, None, ap, sym, subst, refl, arith}
 use Rattle.serde_json.specs.Data.{Data}
 use Rattle.serde_json.specs.Written.{compact_text}
-use Rattle.pbx_meaning.specs.Content.{Content}
 use Rattle.pbx_meaning.specs.Encoding.{encoded}
 use Rattle.pbx_meaning.specs.declared.shape.Shape.{Shape}
 use Rattle.pbx_desc_records.specs.declared.file.FileDescriptorProto.{FileDescriptorProto}
@@ -11,24 +10,21 @@ use Rattle.pbx_described.specs.Descriptors.{Described, message_of_name}
 use Rattle.pbx_json_meaning.specs.Canonical.{canonical}
 use Rattle.pbx_json_meaning.specs.Clash.{name_fault}
 use Rattle.pbx_json_meaning.specs.Options.{default_writing}
-use Rattle.pbx_json_meaning.specs.Stands.{Stands}
 use Rattle.pbx_json_meaning.specs.declared.names_fault.NameFault.{NameFault}
 use Rattle.pbx_json_meaning.specs.declared.names_fault.NameFault.TheVariants as names
 use Rattle.pbx_json_meaning.specs.Fits.{fits}
 use Rattle.pbx_described.specs.Shapes.{shape_of, place_of}
 use Rattle.pbx_parse.specs.declared.error.ParseError.TheVariants as parse
-use Rattle.protox_paths.specs.Paths.{resolved}
-use Rattle.protox_io.specs.Disk.{Held}
-use Rattle.protox_io.specs.Paths.{Component}
+use Rattle.protox_io.specs.Disk.{Volume}
 use Rattle.protox_file.specs.Told.{Told, Lookup, ByLookups}
-use Rattle.protox_file.specs.declared.error.ErrorKind.{ErrorKind}
-use Rattle.protox_file.specs.declared.error.ErrorKind.TheVariants as kinds
+use Rattle.protox_error.specs.declared.error.ErrorKind.{ErrorKind}
+use Rattle.protox_error.specs.declared.error.ErrorKind.TheVariants as kinds
 use Rattle.protox_compile.specs.Walk.{Done, NotRead, records}
 use Rattle.protox_compile.specs.Opening.{Opened, Accepted, NotIncluded, Refused, IsDecided, opening, closure, after_opening, grown, root_of}
 use Rattle.protox_compile.specs.Refusals.{RefusesWith}
 use Rattle.protox_compile.specs.Closures.{StopsAt}
 use Rattle.protox_compile.specs.Laws.{ClosesOnce}
-use Rattle.protox.specs.Class.{limit, folder, told_on, json_of, Done as Ended, Refusing, Judges}
+use Rattle.protox.specs.Class.{limit, library_on, json_of, Done as Ended, Refusing, Judges}
 use Rattle.protox.specs.Top.{AreWithinLevels, ForFiles, ForType, HaveClearNames, IsRefused, IsTooDeep, IsTranscoded, IsUndecodable, IsUnread, Refuses, Transcodes, is_fault, is_refusal, most_files}
 use Rattle.protox.specs.Words.{Args}
 use Rattle.protox.specs.declared.error.TopError.{TopError}
@@ -212,15 +208,15 @@ refuses_not once told resolves paths name tree set wire written error k h r = at
     at top.TooDeep k r = not_refused name tree (records h.2.0) set wire written top.TooDeep k h.2.2 (here (λ files. IsRefused name tree files top.TooDeep) r)
     at top.NoMemory k r = absurd (cc)
 
-pub done_alone : ClosesOnce → (args : Args) (disk : List Component → Held) (input wire text : List ℕ) (refusal : Refusal) → Judges args disk input (Ended wire text) → Judges args disk input (Refusing refusal) → ⊥
+pub done_alone : ClosesOnce → (args : Args) (disk : Volume) (input wire text : List ℕ) (refusal : Refusal) → Judges args disk input (Ended wire text) → Judges args disk input (Refusing refusal) → ⊥
 done_alone once args disk input wire text TooLong h r = let short : length input ≤ limit = h.0 in omega (arith, short, r)
 done_alone once args disk input wire text NotJson h r = let e : None ≡ Some h.1.0 = sym r.1 ∙ h.1.1 in cc
 done_alone once args disk input wire text (Top line) h r =
     let same : r.1.0 ≡ h.1.0 = same_tree input r.1.0 h.1.0 r.1.1 h.1.1 in
     let given = h.1.2 in
     let refused = r.1.2 in
-    let Q : Data → Type 0 = λ d. Refuses (told_on disk) (resolved folder) (args.file ∷ []) args.type_name d refused.0 in
-    refuses_not once (told_on disk) (resolved folder) (args.file ∷ []) args.type_name h.1.0 given.0 wire given.1 refused.0 refused.1 given.2 (subst Q same refused.2)
+    let Q : Data → Type 0 = λ d. Refuses (library_on disk).files (library_on disk).resolves (args.file ∷ []) args.type_name d refused.0 in
+    refuses_not once (library_on disk).files (library_on disk).resolves (args.file ∷ []) args.type_name h.1.0 given.0 wire given.1 refused.0 refused.1 given.2 (subst Q same refused.2)
 
 -- ---- what is transcoded is determined
 
@@ -245,11 +241,11 @@ files_once once told resolves paths name tree set wire written later_set later_w
     transcoded_once name tree (records h.2.0) set wire written later_set later_wire later_written h.2.2
     (among once told resolves paths (λ files. IsTranscoded name tree files set wire written) (λ files. IsTranscoded name tree files later_set later_wire later_written) h k)
 
-pub done_once : ClosesOnce → (args : Args) (disk : List Component → Held) (input wire text later_wire later_text : List ℕ) → Judges args disk input (Ended wire text) → Judges args disk input (Ended later_wire later_text) → (wire ≡ later_wire) × (text ≡ later_text)
+pub done_once : ClosesOnce → (args : Args) (disk : Volume) (input wire text later_wire later_text : List ℕ) → Judges args disk input (Ended wire text) → Judges args disk input (Ended later_wire later_text) → (wire ≡ later_wire) × (text ≡ later_text)
 done_once once args disk input wire text later_wire later_text h k =
     let same : k.1.0 ≡ h.1.0 = same_tree input k.1.0 h.1.0 k.1.1 h.1.1 in
     let a = h.1.2 in
     let b = k.1.2 in
-    let P : Data → Type 0 = λ d. ForFiles (told_on disk) (resolved folder) (args.file ∷ []) (λ fs. IsTranscoded args.type_name d fs b.0 later_wire b.1) in
-    let both = files_once once (told_on disk) (resolved folder) (args.file ∷ []) args.type_name h.1.0 a.0 wire a.1 b.0 later_wire b.1 a.2 (subst P same b.2) in
+    let P : Data → Type 0 = λ d. ForFiles (library_on disk).files (library_on disk).resolves (args.file ∷ []) (λ fs. IsTranscoded args.type_name d fs b.0 later_wire b.1) in
+    let both = files_once once (library_on disk).files (library_on disk).resolves (args.file ∷ []) args.type_name h.1.0 a.0 wire a.1 b.0 later_wire b.1 a.2 (subst P same b.2) in
     (both.1, a.3 ∙ ap compact_text both.2 ∙ sym b.3)

@@ -1,12 +1,12 @@
 -- From the parts of a run to the clauses of the whole.
 use Rattle.std.proofs.Common.{◌≡◌, ◌≤◌, ◌++◌, ◌∷◌, [], subst, sym, ap, ℕ, Bool, List, inl, inr, ◌⊎◌, Result, Ok, Err, IfErr, Option, Some, None, IsTrue, refl, arith, lit≤}
-use Rattle.protox_io.specs.Disk.{Held}
-use Rattle.protox_io.specs.Paths.{Component, disk_key}
-use Rattle.protox_io.specs.Sink.{Appends}
+use Rattle.protox_io.specs.Disk.{Volume, SameBut, IsOpen}
+use Rattle.protox_io.specs.Paths.{disk_key}
+use Rattle.protox_io.specs.Sink.{Appends, Says}
 use Rattle.protox.specs.Words.{Args}
 use Rattle.protox.specs.Class.{Done, Refusing, Judges}
-use Rattle.protox.specs.Outcome.{Obeys, SameBut, error_line}
-use Rattle.protox.specs.Stops.{Caused, RoseOf, Reached, PlanStops, Untouched, Carrying, Carries, CarryStops, Works, WorkStops, Comes, EndsFor, Leftover, Says, status_of, line_of, object_line}
+use Rattle.protox.specs.Outcome.{Obeys, error_line}
+use Rattle.protox.specs.Stops.{Caused, RoseOf, Reached, PlanStops, Untouched, Carrying, Carries, CarryStops, Works, WorkStops, Comes, EndsFor, Leftover, status_of, line_of, object_line}
 use Rattle.protox.specs.declared.stop.Object.{Object}
 use Rattle.protox.specs.declared.stop.Object.TheVariants.{Input, File, Path, Output}
 use Rattle.protox.specs.declared.stop.Stop.{Stop}
@@ -15,13 +15,13 @@ use Rattle.protox.specs.declared.stop.Stop.TheVariants.{Words, Refused, Broken, 
 pub says_as : (tells : Bool) (refused : Type 0) (old new a b : List ℕ) → a ≡ b → Says tells refused old new a → Says tells refused old new b
 says_as tells refused old new a b e h = let P : List ℕ → Type 0 = λ l. Says tells refused old new l in subst P e h
 
-carrying_in : (path wire text : List ℕ) (disk before later : List Component → Held) (out : List ℕ) (rose risen refused : Type 0) → before ≡ disk → (risen → rose) → Carrying path wire text before later out risen refused → Carrying path wire text disk later out rose refused
+carrying_in : (path wire text : List ℕ) (disk before later : Volume) (out : List ℕ) (rose risen refused : Type 0) → before ≡ disk → (risen → rose) → Carrying path wire text before later out risen refused → Carrying path wire text disk later out rose refused
 carrying_in path wire text disk before later out rose risen refused e k h = record {
-  others = (let P : (List Component → Held) → Type 0 = λ d. SameBut (disk_key path) d later in subst P e h.others);
-  state = elim h.state [ inl p ↦ inl (k p.0, p.1) | inr q ↦ inr q ];
+  others = (let P : Volume → Type 0 = λ d. SameBut (disk_key path) d later in subst P e h.others);
+  state = elim h.state [ inl p ↦ inl (k p.0, (let Q : Volume → Type 0 = λ d. IsOpen (disk_key path) d later in subst Q e p.1), p.2) | inr q ↦ inr q ];
 }
 
-carry_stops : (args : Args) (disk before later : List Component → Held) (input wire text out : List ℕ) (rose risen refused : Type 0) (stop : Stop) → Judges args disk input (Done wire text) → before ≡ disk → (risen → rose) → CarryStops args.path wire text before later out risen refused stop → WorkStops args disk input later out rose refused stop
+carry_stops : (args : Args) (disk before later : Volume) (input wire text out : List ℕ) (rose risen refused : Type 0) (stop : Stop) → Judges args disk input (Done wire text) → before ≡ disk → (risen → rose) → CarryStops args.path wire text before later out risen refused stop → WorkStops args disk input later out rose refused stop
 carry_stops args disk before later input wire text out rose risen refused Words ends e k h = absurd h
 carry_stops args disk before later input wire text out rose risen refused (Refused r) ends e k h = absurd h
 carry_stops args disk before later input wire text out rose risen refused (Broken Input) ends e k h = absurd h
@@ -30,11 +30,11 @@ carry_stops args disk before later input wire text out rose risen refused (Broke
 carry_stops args disk before later input wire text out rose risen refused (Broken Output) ends e k h = record { wire = wire; text = text; ends = ends; carrying = carrying_in _ _ _ _ _ _ _ _ _ _ e k h }
 carry_stops args disk before later input wire text out rose risen refused NoMemory ends e k h = inr (record { wire = wire; text = text; ends = ends; carrying = carrying_in _ _ _ _ _ _ _ (Unit {0}) _ _ e (λ u. u) h })
 
-pub carry_works : {T : Type 0} (args : Args) (disk before later : List Component → Held) (input wire text : List ℕ) (rose risen refused : Type 0) (old new : List ℕ) (r : Result T Stop) → Judges args disk input (Done wire text) → before ≡ disk → (risen → rose) → Appends old new (Carries args.path wire text before later risen refused r) → Appends old new (Works args disk input later rose refused r)
+pub carry_works : {T : Type 0} (args : Args) (disk before later : Volume) (input wire text : List ℕ) (rose risen refused : Type 0) (old new : List ℕ) (r : Result T Stop) → Judges args disk input (Done wire text) → before ≡ disk → (risen → rose) → Appends old new (Carries args.path wire text before later risen refused r) → Appends old new (Works args disk input later rose refused r)
 carry_works args disk before later input wire text rose risen refused old new (Ok x) ends e k h = record {
   added = h.added;
   is = h.is;
-  so = record { wire = wire; text = text; ends = ends; carried = record { set = h.so.set; others = (let P : (List Component → Held) → Type 0 = λ d. SameBut (disk_key args.path) d later in subst P e h.so.others); printed = h.so.printed } };
+  so = record { wire = wire; text = text; ends = ends; carried = record { set = h.so.set; others = (let P : Volume → Type 0 = λ d. SameBut (disk_key args.path) d later in subst P e h.so.others); printed = h.so.printed } };
 }
 carry_works args disk before later input wire text rose risen refused old new (Err stop) ends e k h = record {
   added = h.added;
@@ -42,7 +42,7 @@ carry_works args disk before later input wire text rose risen refused old new (E
   so = carry_stops args disk before later input wire text h.added rose risen refused stop ends e k h.so;
 }
 
-reached : (T : Type 0) (disk later : List Component → Held) (input : List ℕ) (rose refused : Type 0) (args : Option Args) (object : Object) (out : List ℕ) → Comes {T = T} args disk input later rose refused (Err (Broken object)) out → Reached args disk input object
+reached : (T : Type 0) (disk later : Volume) (input : List ℕ) (rose refused : Type 0) (args : Option Args) (object : Object) (out : List ℕ) → Comes {T = T} args disk input later rose refused (Err (Broken object)) out → Reached args disk input object
 reached T disk later input rose refused None object out h = absurd h
 reached T disk later input rose refused (Some args) Input out h = tt
 reached T disk later input rose refused (Some args) (File text) out h = h.0
@@ -87,7 +87,7 @@ ran_faulty None disk input out (Err (Broken object)) status e ends faulty = absu
 ran_faulty None disk input out (Err NoMemory) status e ends faulty = inr e
 ran_faulty (Some args) disk input out r status e ends faulty = absurd (cc)
 
-module _ {T : Type 0} (words : List (List ℕ)) (disk later : List Component → Held) (input : List ℕ) (rose refused : Type 0) where
+module _ {T : Type 0} (words : List (List ℕ)) (disk later : Volume) (input : List ℕ) (rose refused : Type 0) where
   obeys : (args : Option Args) (r : Result T Stop) (out : List ℕ) → status_of r ≤ 2 → Comes args disk input later rose refused r out → Obeys args disk input (status_of r) out later (line_of words r)
   obeys None (Ok x) out small h = absurd h
   obeys None (Err Words) out small h = (refl, h.silent, h.same, refl)
@@ -151,12 +151,12 @@ module _ {T : Type 0} (words : List (List ℕ)) (disk later : List Component →
   ran_quiet args (Err Words) old new said saying status dr ir kr muted tells e cause h says t nd ni nk nm = inr (calm args (Err Words) old new said saying status muted tells e (rw e (lit≤ tt)) h says t nm)
   ran_quiet args (Err (Refused r)) old new said saying status dr ir kr muted tells e cause h says t nd ni nk nm = inr (calm args (Err (Refused r)) old new said saying status muted tells e (rw e (lit≤ tt)) h says t nm)
   ran_quiet args (Err (Broken Input)) old new said saying status dr ir kr muted tells e cause h says t nd ni nk nm = absurd (ni (by_object T args dr ir kr Input cause))
-  ran_quiet args (Err (Broken (File fault))) old new said saying status dr ir kr muted tells e cause h says t nd ni nk nm = absurd (nd (by_object T args dr ir kr (File fault) cause))
+  ran_quiet args (Err (Broken (File fault))) old new said saying status dr ir kr muted tells e cause h says t nd ni nk nm = absurd (nd (by_object T args dr ir kr (File fault) cause).0)
   ran_quiet args (Err (Broken Path)) old new said saying status dr ir kr muted tells e cause h says t nd ni nk nm = absurd (nd (by_object T args dr ir kr Path cause))
   ran_quiet args (Err (Broken Output)) old new said saying status dr ir kr muted tells e cause h says t nd ni nk nm = absurd (nk (by_object T args dr ir kr Output cause))
   ran_quiet args (Err NoMemory) old new said saying status dr ir kr muted tells e cause h says t nd ni nk nm = inl e
 
-pub ran_fault : {T : Type 0} (words : List (List ℕ)) (disk later : List Component → Held) (input : List ℕ) (rose refused : Type 0) (args : Option Args) (r : Result T Stop) (old new said saying : List ℕ) (status : ℕ) (disk_rose input_rose out_rose D S K : Type 0)
+pub ran_fault : {T : Type 0} (words : List (List ℕ)) (disk later : Volume) (input : List ℕ) (rose refused : Type 0) (args : Option Args) (r : Result T Stop) (old new said saying : List ℕ) (status : ℕ) (disk_rose input_rose out_rose D S K : Type 0)
     (tells : Bool) (muted : Type 0) → status ≡ status_of r → EndsFor args disk_rose input_rose out_rose r
     → (D → S → K → Appends old new (Comes args disk input later rose refused r)) → Says tells muted said saying (line_of words r) → status ≡ 3
     → (object : Object) × RoseOf disk_rose input_rose out_rose object × (D → S → K → Reached args disk input object) × Says tells muted said saying (error_line (object_line words object))
@@ -169,10 +169,10 @@ ran_fault words disk later input rose refused args (Err NoMemory) old new said s
 
 -- ---- stops before any write
 
-untouched : (disk later : List Component → Held) → later ≡ disk → Untouched disk later []
-untouched disk later e = record { same = (λ key. ap (λ d. d key) e); silent = refl }
+untouched : (disk later : Volume) → later ≡ disk → Untouched disk later []
+untouched disk later e = record { same = e; silent = refl }
 
-plan_stops : (args : Args) (disk later : List Component → Held) (input : List ℕ) (rose refused : Type 0) (stop : Stop) → later ≡ disk → PlanStops args disk input stop → WorkStops args disk input later [] rose refused stop
+plan_stops : (args : Args) (disk later : Volume) (input : List ℕ) (rose refused : Type 0) (stop : Stop) → later ≡ disk → PlanStops args disk input stop → WorkStops args disk input later [] rose refused stop
 plan_stops args disk later input rose refused Words e h = absurd h
 plan_stops args disk later input rose refused (Refused r) e h = (h, untouched disk later e)
 plan_stops args disk later input rose refused (Broken Input) e h = untouched disk later e
@@ -185,24 +185,24 @@ nothing_more : (xs : List ℕ) → xs ≡ xs ++ []
 nothing_more [] = refl
 nothing_more (x ∷ xs) = ap (λ ys. x ∷ ys) (nothing_more xs)
 
-pub plan_works : (T : Type 0) (args : Args) (disk later : List Component → Held) (input : List ℕ) (rose refused : Type 0) (old : List ℕ) (stop : Stop) → later ≡ disk → PlanStops args disk input stop
+pub plan_works : (T : Type 0) (args : Args) (disk later : Volume) (input : List ℕ) (rose refused : Type 0) (old : List ℕ) (stop : Stop) → later ≡ disk → PlanStops args disk input stop
     → Appends old old (Works {T = T} args disk input later rose refused (Err stop))
 plan_works T args disk later input rose refused old stop e h = record { added = []; is = nothing_more old; so = plan_stops args disk later input rose refused stop e h }
 
 -- without words, and where memory runs out for them
-word_stops : (T : Type 0) (args : Option Args) (disk : List Component → Held) (input : List ℕ) (rose refused : Type 0) → Comes {T = T} args disk input disk rose refused (Err NoMemory) []
+word_stops : (T : Type 0) (args : Option Args) (disk : Volume) (input : List ℕ) (rose refused : Type 0) → Comes {T = T} args disk input disk rose refused (Err NoMemory) []
 word_stops T None disk input rose refused = untouched disk disk refl
 word_stops T (Some args) disk input rose refused = inl (untouched disk disk refl)
 
-pub words_memory : (T : Type 0) (args : Option Args) (disk : List Component → Held) (input : List ℕ) (rose refused : Type 0) (old : List ℕ) → Appends old old (Comes {T = T} args disk input disk rose refused (Err NoMemory))
+pub words_memory : (T : Type 0) (args : Option Args) (disk : Volume) (input : List ℕ) (rose refused : Type 0) (old : List ℕ) → Appends old old (Comes {T = T} args disk input disk rose refused (Err NoMemory))
 words_memory T args disk input rose refused old = record { added = []; is = nothing_more old; so = word_stops T args disk input rose refused }
 
-pub no_words : (T : Type 0) (args : Option Args) (disk : List Component → Held) (input : List ℕ) (rose refused : Type 0) (old : List ℕ) → args ≡ None → Appends old old (Comes {T = T} args disk input disk rose refused (Err Words))
+pub no_words : (T : Type 0) (args : Option Args) (disk : Volume) (input : List ℕ) (rose refused : Type 0) (old : List ℕ) → args ≡ None → Appends old old (Comes {T = T} args disk input disk rose refused (Err Words))
 no_words T args disk input rose refused old e =
     let so : Comes {T = T} None disk input disk rose refused (Err Words) [] = untouched disk disk refl in
     record { added = []; is = nothing_more old; so = (let P : Option Args → Type 0 = λ a. Comes {T = T} a disk input disk rose refused (Err Words) [] in subst P (sym e) so) }
 
-pub some_words : {T : Type 0} (args : Option Args) (a : Args) (disk later : List Component → Held) (input : List ℕ) (rose refused : Type 0) (old new : List ℕ) (r : Result T Stop) → args ≡ Some a
+pub some_words : {T : Type 0} (args : Option Args) (a : Args) (disk later : Volume) (input : List ℕ) (rose refused : Type 0) (old new : List ℕ) (r : Result T Stop) → args ≡ Some a
     → Appends old new (Works a disk input later rose refused r) → Appends old new (Comes args disk input later rose refused r)
 some_words {T = T} args a disk later input rose refused old new r e h =
     record { added = h.added; is = h.is; so = (let P : Option Args → Type 0 = λ x. Comes {T = T} x disk input later rose refused r h.added in subst P (sym e) h.so) }

@@ -1,5 +1,5 @@
 -- The set of files, and the first file that nests too many levels.
-use Rattle.std.proofs.Common.{◌≡◌, ◌∙◌, ◌⊎◌, inl, inr, ℕ, List, map, Bool, Option, Some, None, option_map, find, position, slice_get, refl, ap, sym, subst}
+use Rattle.std.proofs.Common.{◌≡◌, ◌∙◌, ◌⊎◌, inl, inr, ℕ, List, map, Option, Some, None, option_map, find, position, slice_get, refl, ap, sym, subst}
 use Rattle.std.proofs.lemmas.Option.{slice_get-map}
 use Rattle.pbx_meaning.specs.Content.{Val}
 use Rattle.pbx_meaning.specs.Encoding.{encoded}
@@ -14,7 +14,7 @@ use Rattle.protox.specs.Parts.{IsNoSet}
 use Rattle.protox.specs.Top.{IsSet}
 use Rattle.protox.specs.declared.error.TopError.{TopError}
 use Rattle.protox.specs.declared.error.TopError.TheVariants as top
-use Rattle.protox_file.specs.declared.error.ErrorKind.TheVariants as kinds
+use Rattle.protox_error.specs.declared.error.ErrorKind.TheVariants as kinds
 use Rattle.protox.proofs.Found.{found_at, no_place}
 
 pub same : {X : Type 0} (o : Option X) → option_map (λ x. x) o ≡ o

@@ -1,5 +1,5 @@
 -- What a tree is transcoded to.
-use Rattle.std.proofs.Common.{◌≡◌, ◌≤◌, ◌<◌, ◌^◌, ◌∙◌, ◌⊎◌, inl, inr, ℕ, List, length, [], Bool, true, false, ◌&&◌, nat_le, Result, Ok, Err, IfOk, IfErr, Option, Some, None, ap, refl, sym, subst, leb-true}
+use Rattle.std.proofs.Common.{◌≡◌, ◌≤◌, ◌<◌, ◌^◌, ◌∙◌, ◌⊎◌, inl, inr, ℕ, List, length, [], Bool, true, false, ◌&&◌, nat_le, Result, Ok, Err, IfOk, IfErr, Some, None, refl, sym, subst, leb-true}
 use Rattle.std.specs.Str.{bytes_eq}
 use Rattle.serde_json.specs.Data.{Data}
 use Rattle.pbx_meaning.specs.Content.{Content}
@@ -28,7 +28,7 @@ use Rattle.pbx_json_meaning.specs.Fits.{fits, payloads_fit}
 use Rattle.pbx_message.specs.Trees as read_specs
 use Rattle.protox.specs.Parts.{IsClear, IsNamed, IsNoSet, IsNotClear, IsNotNamed, IsNotTold, IsNotWritten, IsWritten}
 use Rattle.protox.proofs.Found.{has_place, found_at}
-use Rattle.protox.specs.Top.{AreWithinLevels, ForType, HaveClearNames, IsRefused, IsTooDeep, IsTranscoded, IsSet, IsUnread, Transcodes, of_json}
+use Rattle.protox.specs.Top.{AreWithinLevels, ForType, HaveClearNames, IsRefused, IsTooDeep, IsUnread, Transcodes, of_json}
 use Rattle.protox.specs.declared.error.TopError.{TopError}
 use Rattle.protox.specs.declared.error.TopError.TheVariants.{File, JsonNames, WellKnownShape, TypeNotFound, Json, TooDeep, NoMemory}
 

@@ -5,10 +5,10 @@ use Rattle.std.specs.Str.{is_utf8}
 use Rattle.serde_json.specs.Data.{Data}
 use Rattle.serde_json.specs.Read.{read as read_text}
 use Rattle.serde_json.specs.Written.{compact_text}
-use Rattle.protox_io.specs.Disk.{Held}
-use Rattle.protox_io.specs.Paths.{Component}
-use Rattle.protox_paths.specs.Paths.{resolved}
-use Rattle.protox_file.specs.Told.{Told, told_below}
+use Rattle.pbx_wkt_files.specs.Files.{wkt_files}
+use Rattle.protox_io.specs.Disk.{Volume}
+use Rattle.protox_file.specs.Library.{Library}
+use Rattle.protox_resolvers.specs.Standard.{standard}
 use Rattle.protox.specs.Top.{ForFiles, IsTranscoded, Refuses, is_refusal, top_line}
 use Rattle.protox.specs.Words.{Args}
 use Rattle.protox.specs.declared.error.TopError.{TopError}
@@ -19,13 +19,13 @@ use Rattle.protox.specs.declared.stop.Refusal.TheVariants.{TooLong, NotJson, Top
 abbrev pub limit : ℕ
 limit = 1073741824
 
--- the folder that files are read from
-abbrev pub folder : List ℕ
-folder = codes "."
+-- the folders that files are read from
+abbrev pub folders : List (List ℕ)
+folders = codes "." ∷ []
 
--- what the folder tells of each name, on a disk that has this at each key
-abbrev pub told_on : (List Component → Held) → List ℕ → Told
-told_on disk = told_below disk folder
+-- the files of a run over the disk: those of the folders, and behind them the built-in ones
+abbrev pub library_on : Volume → Library
+library_on disk = standard wkt_files disk folders
 
 -- the tree of a JSON text in UTF-8 (RFC 8259), nested at most 127 deep
 abbrev pub json_of : List ℕ → Option Data
@@ -36,15 +36,15 @@ abbrev pub ForTree : List ℕ → (Data → Type 0) → Type 0
 ForTree input P = (length input ≤ limit) × ((tree : Data) × (json_of input ≡ Some tree) × P tree)
 
 -- the wire bytes and the text that a tree is transcoded to, as a message of the type of that name in the file and all that it imports
-abbrev pub Gives : List ℕ → List ℕ → (List Component → Held) → Data → List ℕ → List ℕ → Type 0
+abbrev pub Gives : List ℕ → List ℕ → Volume → Data → List ℕ → List ℕ → Type 0
 Gives type_name file disk tree wire text =
     (set : List ℕ) × (written : Data)
-    × ForFiles (told_on disk) (resolved folder) (file ∷ []) (λ files. IsTranscoded type_name tree files set wire written) × (text ≡ compact_text written)
+    × ForFiles (library_on disk).files (library_on disk).resolves (file ∷ []) (λ files. IsTranscoded type_name tree files set wire written) × (text ≡ compact_text written)
 
 -- the line of a refusal of the file, the type's name or the tree
-abbrev pub RefusedWith : List ℕ → List ℕ → (List Component → Held) → Data → List ℕ → Type 0
+abbrev pub RefusedWith : List ℕ → List ℕ → Volume → Data → List ℕ → Type 0
 RefusedWith type_name file disk tree line =
-    (error : TopError) × (is_refusal error ≡ true) × Refuses (told_on disk) (resolved folder) (file ∷ []) type_name tree error
+    (error : TopError) × (is_refusal error ≡ true) × Refuses (library_on disk).files (library_on disk).resolves (file ∷ []) type_name tree error
     × (line ≡ concat (top_line error))
 
 -- what a run comes to: these wire bytes and this text, or this refusal
@@ -52,8 +52,8 @@ pub data Ending : Type 0 where
   Done : List ℕ → List ℕ → Ending
   Refusing : Refusal → Ending
 
--- in the order of refusals, on a disk that has this at each key
-abbrev pub Judges : Args → (List Component → Held) → List ℕ → Ending → Type 0
+-- in the order of refusals
+abbrev pub Judges : Args → Volume → List ℕ → Ending → Type 0
 Judges args disk input (Refusing TooLong) = limit < length input
 Judges args disk input (Refusing NotJson) = (length input ≤ limit) × (json_of input ≡ None)
 Judges args disk input (Refusing (Top line)) = ForTree input (λ tree. RefusedWith args.type_name args.file disk tree line)

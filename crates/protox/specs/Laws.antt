@@ -1,8 +1,7 @@
 -- What holds of what runs come to.
 use Rattle.std.specs.Prelude.{◌≡◌, ℕ, List, Option, true}
 use Rattle.serde_json.specs.Data.{Data}
-use Rattle.protox_io.specs.Disk.{Held}
-use Rattle.protox_io.specs.Paths.{Component}
+use Rattle.protox_io.specs.Disk.{Volume}
 use Rattle.protox_file.specs.Told.{Told}
 use Rattle.protox.specs.Words.{Args}
 use Rattle.protox.specs.Class.{Done, Refusing, Judges}
@@ -13,13 +12,13 @@ use Rattle.protox.specs.declared.stop.Refusal.{Refusal}
 -- Where the input is transcoded, it is refused for no reason.
 abbrev pub DoneAlone : Type 0
 DoneAlone =
-    (args : Args) (disk : List Component → Held) (input wire text : List ℕ) (refusal : Refusal)
+    (args : Args) (disk : Volume) (input wire text : List ℕ) (refusal : Refusal)
     → Judges args disk input (Done wire text) → Judges args disk input (Refusing refusal) → ⊥
 
 -- The wire bytes and the text are determined.
 abbrev pub DoneOnce : Type 0
 DoneOnce =
-    (args : Args) (disk : List Component → Held) (input wire text later_wire later_text : List ℕ)
+    (args : Args) (disk : Volume) (input wire text later_wire later_text : List ℕ)
     → Judges args disk input (Done wire text) → Judges args disk input (Done later_wire later_text)
     → (wire ≡ later_wire) × (text ≡ later_text)
 

@@ -15,13 +15,12 @@ use Rattle.pbx_json_meaning.specs.Clash.{name_fault}
 use Rattle.pbx_json_meaning.specs.Named.{IsWellNamed}
 use Rattle.pbx_json_meaning.specs.Options.{default_writing}
 use Rattle.pbx_json_meaning.specs.declared.names_fault.NameFault.TheVariants as names
-use Rattle.protox_io.specs.Disk.{Held}
-use Rattle.protox_io.specs.Paths.{Component}
-use Rattle.protox_file.specs.Lines.{long_line_of}
+use Rattle.protox_io.specs.Disk.{Volume}
+use Rattle.protox_error.specs.Lines.{long_line_of}
 use Rattle.pbx_message.specs.Message.{Dynamic, text_in}
 use Rattle.protox.specs.Top.{ForType, Transcodes, IsUnread, IsTooDeep, IsUndecodable, is_fault, is_refusal, top_line}
 use Rattle.protox.specs.Class.{limit, json_of, RefusedWith}
-use Rattle.protox.specs.Stops.{IsFaultLine}
+use Rattle.protox.specs.Stops.{IsToldFaultLine}
 use Rattle.protox.specs.declared.error.TopError.{TopError}
 use Rattle.protox.specs.declared.error.TopError.TheVariants as top
 use Rattle.protox.specs.declared.stop.Refusal.TheVariants.{TooLong, NotJson, Top}
@@ -104,21 +103,21 @@ IsInputStop input (Broken Output) = ⊥
 IsInputStop input NoMemory = Unit {0}
 
 -- the file, the type's name or the tree ended the run
-abbrev pub IsFileStop : List ℕ → List ℕ → (List Component → Held) → Data → Stop → Type 0
+abbrev pub IsFileStop : List ℕ → List ℕ → Volume → Data → Stop → Type 0
 IsFileStop type_name file disk tree Words = ⊥
 IsFileStop type_name file disk tree (Refused TooLong) = ⊥
 IsFileStop type_name file disk tree (Refused NotJson) = ⊥
 IsFileStop type_name file disk tree (Refused (Top line)) = RefusedWith type_name file disk tree line
 IsFileStop type_name file disk tree (Broken Input) = ⊥
-IsFileStop type_name file disk tree (Broken (File line)) = IsFaultLine line
+IsFileStop type_name file disk tree (Broken (File line)) = IsToldFaultLine file disk line
 IsFileStop type_name file disk tree (Broken Path) = ⊥
 IsFileStop type_name file disk tree (Broken Output) = ⊥
 IsFileStop type_name file disk tree NoMemory = Unit {0}
 
--- a fault of reading a file, with its line
-abbrev pub IsFaultOf : TopError → List ℕ → Type 0
-IsFaultOf (top.File error) line = (is_fault error ≡ true) × (line ≡ concat (long_line_of error))
-IsFaultOf error line = ⊥
+-- a fault of reading a file, or want of memory, with its line
+abbrev pub TellsFault : TopError → List ℕ → Type 0
+TellsFault (top.File error) line = (is_fault error ≡ true) × (line ≡ concat (long_line_of error))
+TellsFault error line = ⊥
 
 -- the stop of an error, or want of memory
 abbrev pub IsStopOf : TopError → Stop → Type 0
@@ -127,7 +126,7 @@ IsStopOf error (Refused TooLong) = ⊥
 IsStopOf error (Refused NotJson) = ⊥
 IsStopOf error (Refused (Top line)) = (is_refusal error ≡ true) × (line ≡ concat (top_line error))
 IsStopOf error (Broken Input) = ⊥
-IsStopOf error (Broken (File line)) = IsFaultOf error line
+IsStopOf error (Broken (File line)) = TellsFault error line
 IsStopOf error (Broken Path) = ⊥
 IsStopOf error (Broken Output) = ⊥
 IsStopOf error NoMemory = Unit {0}

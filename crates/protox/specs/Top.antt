@@ -24,10 +24,10 @@ use Rattle.pbx_json_meaning.specs.declared.kind.JsonKind.TheVariants as json
 use Rattle.pbx_json_meaning.specs.declared.names_fault.NameFault.{NameFault}
 use Rattle.pbx_json_meaning.specs.declared.names_fault.NameFault.TheVariants as names
 use Rattle.pbx_json_meaning.specs.Fits.{fits}
-use Rattle.protox_file.specs.Lines.{long_line_of}
+use Rattle.protox_error.specs.Lines.{long_line_of}
 use Rattle.protox_file.specs.Told.{Told, ByLookups}
-use Rattle.protox_file.specs.declared.error.ErrorKind.{ErrorKind}
-use Rattle.protox_file.specs.declared.error.ErrorKind.TheVariants as kinds
+use Rattle.protox_error.specs.declared.error.ErrorKind.{ErrorKind}
+use Rattle.protox_error.specs.declared.error.ErrorKind.TheVariants as kinds
 use Rattle.protox_compile.specs.Walk.{Done, records}
 use Rattle.protox_compile.specs.Opening.{Accepted, closure}
 use Rattle.protox_compile.specs.Closures.{StopsAt}
@@ -121,26 +121,20 @@ is_fault (kinds.Custom text is_io) = true
 is_fault kinds.NoMemory = true
 is_fault kind = false
 
--- the resolver could not open a file, or gave an error of its own; want of memory is none of these
-abbrev pub is_resolver_fault : ErrorKind → Bool
-is_resolver_fault (kinds.OpenFile name path fault) = true
-is_resolver_fault (kinds.Custom text is_io) = true
-is_resolver_fault kind = false
-
 -- a refusal of the input: neither a fault of the resolver nor want of memory
 abbrev pub is_refusal : TopError → Bool
 is_refusal (File error) = (if is_fault error then false else true)
 is_refusal NoMemory = false
 is_refusal error = true
 
--- a fault has this cause, and some errors never come
-abbrev pub IsCaused : Type 0 → TopError → Type 0
-IsCaused rose (File (kinds.OpenFile name path fault)) = rose
-IsCaused rose (File (kinds.Custom text is_io)) = rose
-IsCaused rose (File kinds.NoMemory) = ⊥
-IsCaused rose (File error) = Unit {0}
-IsCaused rose (Json error) = ¬ (error.kind ≡ json.NoMemory)
-IsCaused rose error = Unit {0}
+-- a fault has its cause, and some errors never come
+abbrev pub IsCaused : (ErrorKind → Type 0) → TopError → Type 0
+IsCaused fault (File (kinds.OpenFile name path words)) = fault (kinds.OpenFile name path words)
+IsCaused fault (File (kinds.Custom text is_io)) = fault (kinds.Custom text is_io)
+IsCaused fault (File kinds.NoMemory) = ⊥
+IsCaused fault (File error) = Unit {0}
+IsCaused fault (Json error) = ¬ (error.kind ≡ json.NoMemory)
+IsCaused fault error = Unit {0}
 
 -- the line of an error, as the pieces that stand in it one after another
 abbrev pub top_line : TopError → List (List ℕ)

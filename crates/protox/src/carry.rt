@@ -1,10 +1,9 @@
 ghost use Rattle.std.specs.Prelude.{◌≡◌, ◌≤◌, ◌++◌, ◌∷◌, [], ◌⊎◌, OnOk, IfErr, IsTrue, List, ℕ, codes, string_bytes};
-ghost use Rattle.protox_io.specs.Count.{Rose};
-ghost use Rattle.protox_io.specs.Disk.{Held, Stored};
+ghost use Rattle.protox_io.specs.Count.{Rose, Later};
+ghost use Rattle.protox_io.specs.Disk.{Writes};
 ghost use Rattle.protox_io.specs.Paths.{disk_key};
-ghost use Rattle.protox_io.specs.Sink.{Appends, Prints, RefusesFor};
-ghost use Rattle.protox.specs.Outcome.{SameBut};
-ghost use Rattle.protox.specs.Stops.{Carries, Caused, IsWireStop, IsPrintStop, SinkRefuses};
+ghost use Rattle.protox_io.specs.Sink.{Appends, Prints, SinkRefuses};
+ghost use Rattle.protox.specs.Stops.{Carries, Caused, IsWireStop, IsPrintStop};
 
 use crate::plan::Ready;
 use crate::stop::{Object, Stop};
@@ -12,11 +11,10 @@ use protox_io::{Disk, DiskError, Sink, SinkError, write_pieces};
 use std::alloc::Global;
 
 fn write_wire<D: Disk>(alloc: Global, path: &str, disk: &mut D, wire: &[u8]) -> Result<(), Stop>
-    ensures set { IsTrue (D.tells disk.old) → OnOk result (D.holds disk.new (disk_key path.now) ≡ Stored wire.now) }
-    ensures others { IsTrue (D.tells disk.old) → SameBut (disk_key path.now) (D.holds disk.old) (D.holds disk.new) }
+    ensures told { IsTrue (D.volume disk.old).tells → Writes (disk_key path.now) wire.now (D.volume disk.old) (D.volume disk.new) result }
     ensures stop { IfErr result IsWireStop }
-    ensures cause { IfErr result (Caused (Rose (D.faults disk.old) (D.faults disk.new) (D.at_end disk.new)) ⊥ ⊥) }
-    ensures later { D.faults disk.old ≤ D.faults disk.new }
+    ensures cause { IfErr result (Caused (Rose (D.count disk.old) (D.count disk.new)) ⊥ ⊥) }
+    ensures later { Later (D.count disk.old) (D.count disk.new) }
 {
     match disk.write_file(alloc, path, wire) {
         Ok(()) => Ok(()),
@@ -26,10 +24,10 @@ fn write_wire<D: Disk>(alloc: Global, path: &str, disk: &mut D, wire: &[u8]) -> 
 }
 
 fn print<K: Sink>(out: &mut K, text: &[u8]) -> Result<(), Stop>
-    ensures told { IsTrue (K.tells out.old) → Appends (K.held out.old) (K.held out.new) (Prints (text.now ++ codes "\n") result) }
+    ensures told { IsTrue (K.output out.old).tells → Appends (K.output out.old).held (K.output out.new).held (Prints (text.now ++ codes "\n") result) }
     ensures stop { IfErr result IsPrintStop }
-    ensures cause { IfErr result (Caused ⊥ ⊥ (Rose (K.faults out.old) (K.faults out.new) (K.at_end out.new))) }
-    ensures refused { IfErr result (λ _. SinkRefuses (Rose (K.faults out.old) (K.faults out.new) (K.at_end out.new)) (K.short out.new)) }
+    ensures cause { IfErr result (Caused ⊥ ⊥ (Rose (K.count out.old) (K.count out.new))) }
+    ensures refused { IfErr result (λ _. SinkRefuses (Rose (K.count out.old) (K.count out.new)) (K.output out.new).short) }
 {
     match write_pieces(out, &[text, b"\n"]) {
         Ok(()) => Ok(()),
@@ -46,15 +44,15 @@ pub(crate) fn carry<D: Disk, K: Sink>(
     out: &mut K,
     done: &Ready,
 ) -> Result<(), Stop>
-    ensures told { IsTrue (D.tells disk.old) → IsTrue (K.tells out.old) →
-        Appends (K.held out.old) (K.held out.new)
-        (Carries path.now done.now.wire (string_bytes done.now.text) (D.holds disk.old) (D.holds disk.new)
-        (Rose (D.faults disk.old) (D.faults disk.new) (D.at_end disk.new))
-        (SinkRefuses (Rose (K.faults out.old) (K.faults out.new) (K.at_end out.new)) (K.short out.new)) result) }
+    ensures told { IsTrue (D.volume disk.old).tells → IsTrue (K.output out.old).tells →
+        Appends (K.output out.old).held (K.output out.new).held
+        (Carries path.now done.now.wire (string_bytes done.now.text) (D.volume disk.old) (D.volume disk.new)
+        (Rose (D.count disk.old) (D.count disk.new))
+        (SinkRefuses (Rose (K.count out.old) (K.count out.new)) (K.output out.new).short) result) }
     ensures cause { IfErr result
-        (Caused (Rose (D.faults disk.old) (D.faults disk.new) (D.at_end disk.new)) ⊥
-        (Rose (K.faults out.old) (K.faults out.new) (K.at_end out.new))) }
-    ensures later { D.faults disk.old ≤ D.faults disk.new }
+        (Caused (Rose (D.count disk.old) (D.count disk.new)) ⊥
+        (Rose (K.count out.old) (K.count out.new))) }
+    ensures later { Later (D.count disk.old) (D.count disk.new) }
 {
     match write_wire(alloc, path, disk, done.wire.as_slice()) {
         Ok(()) => print(out, done.text.as_bytes()),

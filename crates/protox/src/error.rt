@@ -56,7 +56,7 @@ fn json_names_line(alloc: Global, message: &Text, key: &Text) -> Result<Text, No
 }
 
 impl TopError {
-    /// What is wrong and where, in one line. `NoMemory` comes for want of memory alone.
+    /// What is wrong and where, in one line where no name in it has a line feed. `NoMemory` comes for want of memory alone.
     pub fn line(&self, alloc: Global) -> Result<Text, NoMemory>
         ensures { IfOk result (λ line. line ≡ concat (top_line self.now)) }
     {

@@ -1,8 +1,8 @@
 ghost use Rattle.std.specs.Prelude.{◌≡◌, ◌≤◌, ◌∷◌, [], IfOk, IfErr, OnOk, IsTrue, length, string_bytes, Some, false};
-ghost use Rattle.protox_io.specs.Count.{Rose};
+ghost use Rattle.protox_io.specs.Count.{Rose, Later};
 ghost use Rattle.serde_json.specs.View.{view};
 ghost use Rattle.serde_json.specs.Written.{has_float, compact_text};
-ghost use Rattle.protox.specs.Class.{limit, Judges, Done, json_of, Gives};
+ghost use Rattle.protox.specs.Class.{limit, folders, Judges, Done, json_of, Gives};
 ghost use Rattle.protox.specs.Parts.{IsJsonStop, IsInputStop, IsFileStop, IsStopOf};
 ghost use Rattle.protox.specs.Stops.{PlanStops, Caused};
 
@@ -12,8 +12,8 @@ use crate::stop::{Object, Refusal, Stop};
 use crate::transcode::{Attempt, Transcoded, transcode_files};
 use pbx_json_meaning::canonical_is_plain;
 use pbx_wire::{Blob, NoMemory, Text, Texts};
-use protox_file::IncludeFileResolver;
 use protox_io::{Disk, ReadFault, Source, read_to_end};
+use protox_resolvers::StandardResolver;
 use serde_json::Value;
 use std::alloc::Global;
 
@@ -34,11 +34,11 @@ pub(crate) struct Planned<D> {
 }
 
 fn read_input<S: Source>(alloc: Global, input: &mut S) -> Result<Blob, Stop>
-    ensures read { IsTrue (S.tells input.old) → IfOk result (λ bytes. bytes ≡ S.left input.old) }
-    ensures end { IsTrue (S.tells input.old) → OnOk result (S.left input.new ≡ []) }
+    ensures read { IsTrue (S.input input.old).tells → IfOk result (λ bytes. bytes ≡ (S.input input.old).left) }
+    ensures end { IsTrue (S.input input.old).tells → OnOk result ((S.input input.new).left ≡ []) }
     ensures short { IfOk result (λ bytes. length bytes ≤ limit) }
-    ensures stop { IsTrue (S.tells input.old) → IfErr result (IsInputStop (S.left input.old)) }
-    ensures cause { IfErr result (Caused ⊥ (Rose (S.faults input.old) (S.faults input.new) (S.at_end input.new)) ⊥) }
+    ensures stop { IsTrue (S.input input.old).tells → IfErr result (IsInputStop (S.input input.old).left) }
+    ensures cause { IfErr result (Caused ⊥ (Rose (S.count input.old) (S.count input.new)) ⊥) }
 {
     match read_to_end(alloc, input, LIMIT) {
         Ok(bytes) => Ok(bytes),
@@ -67,10 +67,10 @@ fn read_json(alloc: Global, input: &[u8]) -> Result<Value, Stop>
 
 /// The tree of the input.
 fn read_tree<S: Source>(alloc: Global, input: &mut S) -> Result<Value, Stop>
-    ensures ok { IsTrue (S.tells input.old) → IfOk result (λ tree. (length (S.left input.old) ≤ limit) × (json_of (S.left input.old) ≡ Some (view tree))) }
-    ensures end { IsTrue (S.tells input.old) → OnOk result (S.left input.new ≡ []) }
-    ensures stop { IsTrue (S.tells input.old) → IfErr result (IsInputStop (S.left input.old)) }
-    ensures cause { IfErr result (Caused ⊥ (Rose (S.faults input.old) (S.faults input.new) (S.at_end input.new)) ⊥) }
+    ensures ok { IsTrue (S.input input.old).tells → IfOk result (λ tree. (length (S.input input.old).left ≤ limit) × (json_of (S.input input.old).left ≡ Some (view tree))) }
+    ensures end { IsTrue (S.input input.old).tells → OnOk result ((S.input input.new).left ≡ []) }
+    ensures stop { IsTrue (S.input input.old).tells → IfErr result (IsInputStop (S.input input.old).left) }
+    ensures cause { IfErr result (Caused ⊥ (Rose (S.count input.old) (S.count input.new)) ⊥) }
 {
     let bytes = match read_input(alloc, input) {
         Ok(bytes) => bytes,
@@ -113,37 +113,50 @@ fn print_tree(alloc: Global, done: Transcoded) -> Result<Ready, Stop>
     }
 }
 
-fn paths_of(alloc: Global, file: &str) -> Result<Texts, NoMemory>
-    ensures { IfOk result (λ paths. paths ≡ file.now ∷ []) }
+/// A list of one text.
+fn one_text(alloc: Global, text: &str) -> Result<Texts, NoMemory>
+    ensures { IfOk result (λ texts. texts ≡ text.now ∷ []) }
 {
-    let mut paths = Texts::new(alloc);
-    paths.add(Text::from_str(alloc, file)?)?;
-    Ok(paths)
+    let mut texts = Texts::new(alloc);
+    texts.add(Text::from_str(alloc, text)?)?;
+    Ok(texts)
+}
+
+/// The files of the folder `.`, and the built-in ones. Hands the disk back for want of memory.
+fn resolver_of<D: Disk>(alloc: Global, disk: D) -> Result<StandardResolver<D>, D>
+    ensures ok { IfOk result (λ it. it ≡ record { folders = folders; disk = disk }) }
+    ensures err { IfErr result (λ back. back ≡ disk) }
+{
+    match one_text(alloc, ".") {
+        Ok(folders) => StandardResolver::new(alloc, disk, &folders),
+        Err(NoMemory) => Err(disk),
+    }
 }
 
 /// Compiles the file in the folder `.` with all that it imports, and transcodes the tree as a message of the type.
 fn compile<D: Disk>(alloc: Global, type_name: &str, file: &str, disk: D, tree: Value) -> Planned<D>
-    ensures done { IsTrue (D.tells disk) →
-        IfOk result.result (λ ready. Gives type_name.now file.now (D.holds disk) (view tree) ready.wire (string_bytes ready.text)) }
-    ensures stop { IsTrue (D.tells disk) → IfErr result.result (IsFileStop type_name.now file.now (D.holds disk) (view tree)) }
-    ensures cause { IfErr result.result (Caused (Rose (D.faults disk) (D.faults result.disk) (D.at_end result.disk)) ⊥ ⊥) }
-    ensures later { D.faults disk ≤ D.faults result.disk }
-    ensures keeps_tells { D.tells result.disk ≡ D.tells disk }
-    ensures keeps_holds { IsTrue (D.tells disk) → D.holds result.disk ≡ D.holds disk }
+    ensures done { IsTrue (D.volume disk).tells →
+        IfOk result.result (λ ready. Gives type_name.now file.now (D.volume disk) (view tree) ready.wire (string_bytes ready.text)) }
+    ensures stop { IsTrue (D.volume disk).tells → IfErr result.result (IsFileStop type_name.now file.now (D.volume disk) (view tree)) }
+    ensures cause { IfErr result.result (Caused (Rose (D.count disk) (D.count result.disk)) ⊥ ⊥) }
+    ensures later { Later (D.count disk) (D.count result.disk) }
+    ensures keeps { D.volume result.disk ≡ D.volume disk }
 {
-    let Ok(paths) = paths_of(alloc, file) else {
+    let Ok(paths) = one_text(alloc, file) else {
         return Planned {
             disk,
             result: Err(Stop::NoMemory),
         };
     };
-    let Ok(folder) = Text::from_str(alloc, ".") else {
-        return Planned {
-            disk,
-            result: Err(Stop::NoMemory),
-        };
+    let files = match resolver_of(alloc, disk) {
+        Ok(files) => files,
+        Err(disk) => {
+            return Planned {
+                disk,
+                result: Err(Stop::NoMemory),
+            };
+        }
     };
-    let files = IncludeFileResolver::new(folder, disk);
     let tree = InputTree::Owned(tree);
     let Attempt { resolver, result } = transcode_files(alloc, files, &paths, type_name, tree);
     let disk = resolver.into_disk();
@@ -172,18 +185,17 @@ pub(crate) fn plan<D: Disk, S: Source>(
     disk: D,
     input: &mut S,
 ) -> Planned<D>
-    ensures done { IsTrue (D.tells disk) → IsTrue (S.tells input.old) →
-        IfOk result.result (λ done. Judges (record { type_name = type_name.now; path = path.now; file = file.now }) (D.holds disk) (S.left input.old)
+    ensures done { IsTrue (D.volume disk).tells → IsTrue (S.input input.old).tells →
+        IfOk result.result (λ done. Judges (record { type_name = type_name.now; path = path.now; file = file.now }) (D.volume disk) (S.input input.old).left
         (Done done.wire (string_bytes done.text))) }
-    ensures stop { IsTrue (D.tells disk) → IsTrue (S.tells input.old) →
-        IfErr result.result (PlanStops (record { type_name = type_name.now; path = path.now; file = file.now }) (D.holds disk) (S.left input.old)) }
-    ensures end { IsTrue (S.tells input.old) → OnOk result.result (S.left input.new ≡ []) }
+    ensures stop { IsTrue (D.volume disk).tells → IsTrue (S.input input.old).tells →
+        IfErr result.result (PlanStops (record { type_name = type_name.now; path = path.now; file = file.now }) (D.volume disk) (S.input input.old).left) }
+    ensures end { IsTrue (S.input input.old).tells → OnOk result.result ((S.input input.new).left ≡ []) }
     ensures cause { IfErr result.result
-        (Caused (Rose (D.faults disk) (D.faults result.disk) (D.at_end result.disk))
-        (Rose (S.faults input.old) (S.faults input.new) (S.at_end input.new)) ⊥) }
-    ensures later { D.faults disk ≤ D.faults result.disk }
-    ensures keeps_tells { D.tells result.disk ≡ D.tells disk }
-    ensures keeps_holds { IsTrue (D.tells disk) → D.holds result.disk ≡ D.holds disk }
+        (Caused (Rose (D.count disk) (D.count result.disk))
+        (Rose (S.count input.old) (S.count input.new)) ⊥) }
+    ensures later { Later (D.count disk) (D.count result.disk) }
+    ensures keeps { D.volume result.disk ≡ D.volume disk }
 {
     match read_tree(alloc, input) {
         Ok(tree) => compile(alloc, type_name, file, disk, tree),

@@ -1,9 +1,9 @@
 ghost use Rattle.std.specs.Prelude.{◌≡◌, ◌≤◌, [], ◌⊎◌, OnOk, IfErr, IsTrue, None, List, ℕ};
 ghost use Rattle.protox_io.specs.Count.{Rose};
-ghost use Rattle.protox_io.specs.Sink.{Appends};
+ghost use Rattle.protox_io.specs.Sink.{Appends, Says, SinkRefuses};
 ghost use Rattle.protox.specs.Outcome.{Outcome, error_line};
 ghost use Rattle.protox.specs.Words.{args_of};
-ghost use Rattle.protox.specs.Stops.{Works, Comes, Caused, EndsFor, SinkRefuses, Says, RoseOf, Reached, Leftover, object_line, memory_line};
+ghost use Rattle.protox.specs.Stops.{Works, Comes, Caused, EndsFor, RoseOf, Reached, Leftover, object_line, memory_line};
 ghost use Rattle.protox.specs.declared.stop.Object.{Object as AnObject};
 
 use crate::carry::carry;
@@ -38,15 +38,15 @@ fn work<D: Disk, S: Source, K: Sink>(
     input: &mut S,
     out: &mut K,
 ) -> Worked<D>
-    ensures told { IsTrue (D.tells disk) → IsTrue (S.tells input.old) → IsTrue (K.tells out.old) →
-        Appends (K.held out.old) (K.held out.new)
-        (Works (record { type_name = type_name.now; path = path.now; file = file.now }) (D.holds disk) (S.left input.old) (D.holds result.disk)
-        (Rose (D.faults disk) (D.faults result.disk) (D.at_end result.disk))
-        (SinkRefuses (Rose (K.faults out.old) (K.faults out.new) (K.at_end out.new)) (K.short out.new)) result.ended) }
+    ensures told { IsTrue (D.volume disk).tells → IsTrue (S.input input.old).tells → IsTrue (K.output out.old).tells →
+        Appends (K.output out.old).held (K.output out.new).held
+        (Works (record { type_name = type_name.now; path = path.now; file = file.now }) (D.volume disk) (S.input input.old).left (D.volume result.disk)
+        (Rose (D.count disk) (D.count result.disk))
+        (SinkRefuses (Rose (K.count out.old) (K.count out.new)) (K.output out.new).short) result.ended) }
     ensures cause { IfErr result.ended
-        (Caused (Rose (D.faults disk) (D.faults result.disk) (D.at_end result.disk))
-        (Rose (S.faults input.old) (S.faults input.new) (S.at_end input.new)) (Rose (K.faults out.old) (K.faults out.new) (K.at_end out.new))) }
-    ensures end { IsTrue (S.tells input.old) → OnOk result.ended (S.left input.new ≡ []) }
+        (Caused (Rose (D.count disk) (D.count result.disk))
+        (Rose (S.count input.old) (S.count input.new)) (Rose (K.count out.old) (K.count out.new))) }
+    ensures end { IsTrue (S.input input.old).tells → OnOk result.ended ((S.input input.new).left ≡ []) }
 {
     let Planned { disk, result } = plan(alloc, type_name, path, file, disk, input);
     match result {
@@ -69,15 +69,15 @@ fn obey<D: Disk, S: Source, K: Sink>(
     input: &mut S,
     out: &mut K,
 ) -> Worked<D>
-    ensures told { IsTrue (D.tells disk) → IsTrue (S.tells input.old) → IsTrue (K.tells out.old) →
-        Appends (K.held out.old) (K.held out.new)
-        (Comes (args_of words.now) (D.holds disk) (S.left input.old) (D.holds result.disk)
-        (Rose (D.faults disk) (D.faults result.disk) (D.at_end result.disk))
-        (SinkRefuses (Rose (K.faults out.old) (K.faults out.new) (K.at_end out.new)) (K.short out.new)) result.ended) }
-    ensures cause { EndsFor (args_of words.now) (Rose (D.faults disk) (D.faults result.disk) (D.at_end result.disk))
-        (Rose (S.faults input.old) (S.faults input.new) (S.at_end input.new)) (Rose (K.faults out.old) (K.faults out.new) (K.at_end out.new))
+    ensures told { IsTrue (D.volume disk).tells → IsTrue (S.input input.old).tells → IsTrue (K.output out.old).tells →
+        Appends (K.output out.old).held (K.output out.new).held
+        (Comes (args_of words.now) (D.volume disk) (S.input input.old).left (D.volume result.disk)
+        (Rose (D.count disk) (D.count result.disk))
+        (SinkRefuses (Rose (K.count out.old) (K.count out.new)) (K.output out.new).short) result.ended) }
+    ensures cause { EndsFor (args_of words.now) (Rose (D.count disk) (D.count result.disk))
+        (Rose (S.count input.old) (S.count input.new)) (Rose (K.count out.old) (K.count out.new))
         result.ended }
-    ensures end { IsTrue (S.tells input.old) → OnOk result.ended (S.left input.new ≡ []) }
+    ensures end { IsTrue (S.input input.old).tells → OnOk result.ended ((S.input input.new).left ≡ []) }
 {
     match read_args(alloc, words) {
         Ok(Some((type_name, path, file))) => work(alloc, type_name, path, file, disk, input, out),
@@ -109,44 +109,44 @@ pub fn run<D: Disk, S: Source, K: Sink, E: Sink>(
     ensures faulty { args_of words.now ≡ None → (result.status ≡ 2) ⊎ (result.status ≡ 4) }
 
     // A status of 0 to 2 is that of an outcome, whatever counts rose.
-    ensures outcome { IsTrue (D.tells disk) → IsTrue (S.tells input.old) → IsTrue (K.tells out.old) → result.status ≤ 2 →
+    ensures outcome { IsTrue (D.volume disk).tells → IsTrue (S.input input.old).tells → IsTrue (K.output out.old).tells → result.status ≤ 2 →
         (line : List ℕ)
-        × Appends (K.held out.old) (K.held out.new)
-        (λ printed. Outcome words.now (D.holds disk) (S.left input.old) result.status printed (D.holds result.disk) line)
-        × Says (E.tells err.old) (SinkRefuses (Rose (E.faults err.old) (E.faults err.new) (E.at_end err.new)) (E.short err.new)) (E.held err.old)
-        (E.held err.new) line }
+        × Appends (K.output out.old).held (K.output out.new).held
+        (λ printed. Outcome words.now (D.volume disk) (S.input input.old).left result.status printed (D.volume result.disk) line)
+        × Says (E.output err.old).tells (SinkRefuses (Rose (E.count err.old) (E.count err.new)) (E.output err.new).short) (E.output err.old).held
+        (E.output err.new).held line }
 
     // Over what tells, with no count that rose and memory enough for err, it is an outcome or want of memory.
-    ensures quiet { IsTrue (D.tells disk) → IsTrue (S.tells input.old) → IsTrue (K.tells out.old) → IsTrue (E.tells err.old) →
-        ¬ (Rose (D.faults disk) (D.faults result.disk) (D.at_end result.disk)) →
-        ¬ (Rose (S.faults input.old) (S.faults input.new) (S.at_end input.new)) →
-        ¬ (Rose (K.faults out.old) (K.faults out.new) (K.at_end out.new)) →
-        ¬ (SinkRefuses (Rose (E.faults err.old) (E.faults err.new) (E.at_end err.new)) (E.short err.new)) →
-        (result.status ≡ 4) ⊎ (Appends (K.held out.old) (K.held out.new)
-        (λ printed. Appends (E.held err.old) (E.held err.new)
-        (λ line. Outcome words.now (D.holds disk) (S.left input.old) result.status printed (D.holds result.disk) line))) }
+    ensures quiet { IsTrue (D.volume disk).tells → IsTrue (S.input input.old).tells → IsTrue (K.output out.old).tells → IsTrue (E.output err.old).tells →
+        ¬ (Rose (D.count disk) (D.count result.disk)) →
+        ¬ (Rose (S.count input.old) (S.count input.new)) →
+        ¬ (Rose (K.count out.old) (K.count out.new)) →
+        ¬ (SinkRefuses (Rose (E.count err.old) (E.count err.new)) (E.output err.new).short) →
+        (result.status ≡ 4) ⊎ (Appends (K.output out.old).held (K.output out.new).held
+        (λ printed. Appends (E.output err.old).held (E.output err.new).held
+        (λ line. Outcome words.now (D.volume disk) (S.input input.old).left result.status printed (D.volume result.disk) line))) }
 
     // Status 3 names an object whose count rose.
     ensures fault { result.status ≡ 3 →
         (object : AnObject)
-        × RoseOf (Rose (D.faults disk) (D.faults result.disk) (D.at_end result.disk))
-        (Rose (S.faults input.old) (S.faults input.new) (S.at_end input.new)) (Rose (K.faults out.old) (K.faults out.new) (K.at_end out.new))
+        × RoseOf (Rose (D.count disk) (D.count result.disk))
+        (Rose (S.count input.old) (S.count input.new)) (Rose (K.count out.old) (K.count out.new))
         object
-        × (IsTrue (D.tells disk) → IsTrue (S.tells input.old) → IsTrue (K.tells out.old) → Reached (args_of words.now) (D.holds disk) (S.left input.old) object)
-        × Says (E.tells err.old) (SinkRefuses (Rose (E.faults err.old) (E.faults err.new) (E.at_end err.new)) (E.short err.new)) (E.held err.old)
-        (E.held err.new) (error_line (object_line words.now object)) }
+        × (IsTrue (D.volume disk).tells → IsTrue (S.input input.old).tells → IsTrue (K.output out.old).tells → Reached (args_of words.now) (D.volume disk) (S.input input.old).left object)
+        × Says (E.output err.old).tells (SinkRefuses (Rose (E.count err.old) (E.count err.new)) (E.output err.new).short) (E.output err.old).held
+        (E.output err.new).held (error_line (object_line words.now object)) }
 
     ensures memory { result.status ≡ 4 →
-        Says (E.tells err.old) (SinkRefuses (Rose (E.faults err.old) (E.faults err.new) (E.at_end err.new)) (E.short err.new)) (E.held err.old)
-        (E.held err.new) (error_line memory_line) }
+        Says (E.output err.old).tells (SinkRefuses (Rose (E.count err.old) (E.count err.new)) (E.output err.new).short) (E.output err.old).held
+        (E.output err.new).held (error_line memory_line) }
 
     // What a status of 3 or 4 leaves.
-    ensures stopped { IsTrue (D.tells disk) → IsTrue (S.tells input.old) → IsTrue (K.tells out.old) → 3 ≤ result.status →
-        Appends (K.held out.old) (K.held out.new) (λ printed. Leftover (args_of words.now) (D.holds disk) (S.left input.old) (D.holds result.disk) printed
-        (Rose (D.faults disk) (D.faults result.disk) (D.at_end result.disk) ⊎ (result.status ≡ 4))
-        (SinkRefuses (Rose (K.faults out.old) (K.faults out.new) (K.at_end out.new)) (K.short out.new))) }
+    ensures stopped { IsTrue (D.volume disk).tells → IsTrue (S.input input.old).tells → IsTrue (K.output out.old).tells → 3 ≤ result.status →
+        Appends (K.output out.old).held (K.output out.new).held (λ printed. Leftover (args_of words.now) (D.volume disk) (S.input input.old).left (D.volume result.disk) printed
+        (Rose (D.count disk) (D.count result.disk) ⊎ (result.status ≡ 4))
+        (SinkRefuses (Rose (K.count out.old) (K.count out.new)) (K.output out.new).short)) }
 
-    ensures end { IsTrue (S.tells input.old) → result.status ≡ 0 → S.left input.new ≡ [] }
+    ensures end { IsTrue (S.input input.old).tells → result.status ≡ 0 → (S.input input.new).left ≡ [] }
 {
     let worked = obey(alloc, words, disk, input, out);
     let status = report(err, words, &worked.ended);

@@ -9,10 +9,10 @@ ghost use Rattle.pbx_pool_laws.specs.Pool.{ArePooled};
 ghost use Rattle.pbx_described.specs.Descriptors.{message_of_name};
 ghost use Rattle.pbx_described.specs.Shapes.{shape_of, place_of};
 ghost use Rattle.pbx_message.specs.Trees.{IsRead};
-ghost use Rattle.protox_io.specs.Count.{Rose};
+ghost use Rattle.protox_io.specs.Count.{Later};
+ghost use Rattle.protox_file.specs.Causes.{FaultCause};
 ghost use Rattle.protox_compile.specs.Walk.{Done, records};
 ghost use Rattle.protox_compile.specs.Compiled.{IsOrdered};
-ghost use Rattle.protox_compile.specs.State.{Keeps};
 ghost use Rattle.protox.specs.Input.{data_of};
 ghost use Rattle.protox.specs.Parts.{IsClear, IsNotClear, IsNotTold, IsNamed, IsNotNamed, IsNotWritten, IsWire, IsWritten};
 ghost use Rattle.protox.specs.Top.{ForFiles, HaveClearNames, IsTranscoded, IsRefused, Refuses, IsCaused, Transcodes};
@@ -130,7 +130,7 @@ fn transcode_as(
     }
 }
 
-/// Refuses a pool of which a message's JSON has a key with two meanings.
+/// Refuses a pool of which a message's JSON has a key with two meanings, or a message of a well-known name has not its shape.
 fn check_clear(alloc: Global, pool: &DescriptorPool) -> Result<(), TopError>
     ensures ok { OnOk result (IsClear (shape_of pool.now)) }
     ensures err { IfErr result (IsNotClear pool.now) }
@@ -199,17 +199,17 @@ pub(crate) fn transcode_files<R: FileResolver>(
     tree: InputTree<'_>,
 ) -> Attempt<R>
     // Over a resolver that tells, the files are the closure of the paths.
-    ensures ok { IsTrue (R.tells resolver) → IfOk result.result (λ done. ForFiles (R.files resolver) (R.resolves resolver) paths.now
+    ensures ok { IsTrue (R.library resolver).tells → IfOk result.result (λ done. ForFiles (R.library resolver).files (R.library resolver).resolves paths.now
         (λ files. IsTranscoded type_name.now (data_of tree.entry) files done.set done.wire (view done.tree))) }
-    ensures err { IsTrue (R.tells resolver) → IfErr result.result (Refuses (R.files resolver) (R.resolves resolver) paths.now type_name.now (data_of tree.entry)) }
-    ensures cause { IfErr result.result (IsCaused (Rose (R.faults resolver) (R.faults result.resolver) (R.at_end result.resolver))) }
+    ensures err { IsTrue (R.library resolver).tells → IfErr result.result (Refuses (R.library resolver).files (R.library resolver).resolves paths.now type_name.now (data_of tree.entry)) }
+    ensures cause { IfErr result.result (IsCaused (FaultCause (R.library resolver) (R.count resolver) (R.count result.resolver))) }
 
     // Over every resolver, the files stand in order, each once and behind its imports, and each is linked among those before it.
     ensures ordered { IfOk result.result
         (λ done. (files : List Done) × IsOrdered [] files × ArePooled [] (records files)
         × IsTranscoded type_name.now (data_of tree.entry) (records files) done.set done.wire (view done.tree)) }
-    ensures later { R.faults resolver ≤ R.faults result.resolver }
-    ensures keeps { Keeps R.tells R.files R.resolves R.disk resolver result.resolver }
+    ensures later { Later (R.count resolver) (R.count result.resolver) }
+    ensures keeps { R.library result.resolver ≡ R.library resolver }
 {
     let mut compiler = match Compiler::with_file_resolver(alloc, resolver) {
         Ok(compiler) => compiler,
@@ -243,8 +243,9 @@ pub(crate) fn transcode_files<R: FileResolver>(
 /// neither is a message that nests so deep, or has a payload that does. The resolver is handed back.
 ///
 /// The names of the paths are as those of `Compiler::open_file`. The tree is read last: refused are, in this order, a
-/// file, a key with two meanings in the JSON of any message of the files, the type's name, a tree that stands for no
-/// message of the type, and a message that nests too deep, itself or in a payload.
+/// file, a key with two meanings in the JSON of any message of the files, a message of a well-known name without its
+/// shape, the type's name, a tree that stands for no message of the type, and a message that nests too deep, itself or in
+/// a payload.
 pub fn compile_and_transcode<R: FileResolver>(
     alloc: Global,
     resolver: R,
@@ -253,17 +254,17 @@ pub fn compile_and_transcode<R: FileResolver>(
     tree: &Value,
 ) -> Attempt<R>
     // Over a resolver that tells, the files are the closure of the paths.
-    ensures ok { IsTrue (R.tells resolver) → IfOk result.result (λ done. ForFiles (R.files resolver) (R.resolves resolver) paths.now
+    ensures ok { IsTrue (R.library resolver).tells → IfOk result.result (λ done. ForFiles (R.library resolver).files (R.library resolver).resolves paths.now
         (λ files. IsTranscoded type_name.now (view tree.now) files done.set done.wire (view done.tree))) }
-    ensures err { IsTrue (R.tells resolver) → IfErr result.result (Refuses (R.files resolver) (R.resolves resolver) paths.now type_name.now (view tree.now)) }
-    ensures cause { IfErr result.result (IsCaused (Rose (R.faults resolver) (R.faults result.resolver) (R.at_end result.resolver))) }
+    ensures err { IsTrue (R.library resolver).tells → IfErr result.result (Refuses (R.library resolver).files (R.library resolver).resolves paths.now type_name.now (view tree.now)) }
+    ensures cause { IfErr result.result (IsCaused (FaultCause (R.library resolver) (R.count resolver) (R.count result.resolver))) }
 
     // Over every resolver, the files stand in order, each once and behind its imports, and each is linked among those before it.
     ensures ordered { IfOk result.result
         (λ done. (files : List Done) × IsOrdered [] files × ArePooled [] (records files)
         × IsTranscoded type_name.now (view tree.now) (records files) done.set done.wire (view done.tree)) }
-    ensures later { R.faults resolver ≤ R.faults result.resolver }
-    ensures keeps { Keeps R.tells R.files R.resolves R.disk resolver result.resolver }
+    ensures later { Later (R.count resolver) (R.count result.resolver) }
+    ensures keeps { R.library result.resolver ≡ R.library resolver }
 {
     transcode_files(alloc, resolver, paths, type_name, InputTree::Borrowed(tree))
 }

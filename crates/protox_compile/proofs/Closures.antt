@@ -3,7 +3,7 @@ use Rattle.std.proofs.Common.{◌≡◌, ◌+◌, ◌<◌, ◌∷◌, ◌++◌, 
 use Rattle.std.proofs.Math.Seq.{take-suc, split_at}
 use Rattle.std.specs.Prelude.{Option}
 use Rattle.protox_file.specs.Told.{Told, Lookup, ByLookups}
-use Rattle.protox_file.specs.declared.error.ErrorKind.{ErrorKind}
+use Rattle.protox_error.specs.declared.error.ErrorKind.{ErrorKind}
 use Rattle.protox_compile.specs.Walk.{Done}
 use Rattle.protox_compile.specs.Opening.{Opened, Accepted, NotIncluded, Refused, opening, closure, after_opening}
 use Rattle.protox_compile.specs.Refusals.{RefusesOpening, Grows}

@@ -1,13 +1,13 @@
 -- What opening a name looks up.
-use Rattle.std.proofs.Common.{◌≡◌, inl, inr, ℕ, List, true, false, refl, sym, subst}
+use Rattle.std.proofs.Common.{◌≡◌, inl, inr, ℕ, List, Bool, true, false, refl, sym, subst}
 use Rattle.std.specs.Prelude.{Option, Some}
 use Rattle.std.specs.Str.{bytes_eq}
 use Rattle.pbx_parse.specs.declared.error.ParseError.TheVariants as parse
 use Rattle.protox_paths.specs.Paths.{path_equal}
 use Rattle.protox_file.specs.Told.{Entry, Told, NoFile, IsFile, TextFault, Unread, IsFound}
 use Rattle.protox_file.specs.Causes.{IsToldRefusal, HasCause}
-use Rattle.protox_file.specs.declared.error.ErrorKind.{ErrorKind}
-use Rattle.protox_file.specs.declared.error.ErrorKind.TheVariants.{Parse, Check, OpenFile, FileTooLarge, FileInvalidUtf8, FileNotFound, ImportNotFound, CircularImport, FileNotIncluded, FileShadowed, DuplicateImport, Custom, NameMismatch, FileLimit, Undecodable, NoMemory}
+use Rattle.protox_error.specs.declared.error.ErrorKind.{ErrorKind}
+use Rattle.protox_error.specs.declared.error.ErrorKind.TheVariants.{Parse, Check, OpenFile, FileTooLarge, FileInvalidUtf8, FileNotFound, ImportNotFound, CircularImport, FileNotIncluded, FileShadowed, DuplicateImport, Custom, NameMismatch, FileLimit, Undecodable, NoMemory}
 use Rattle.protox_compile.specs.Walk.{Open, declared_name}
 use Rattle.protox_compile.specs.Refusals.{OrNoMemory, IsOpenOf, StopsOpening}
 use Rattle.protox_compile.specs.Resume.{ByLookup}
@@ -40,21 +40,21 @@ module _ (name : List ℕ) (told : Told) where
         stops_or error (FileShadowed name path shadow) h (IsFile entry, found, (refl, record { entry = entry; lookup_is = refl; declared = declared; asked_is = asked_is; path_is = path_is; other = other }))
 
     -- no file was found
-    pub stops_refused : (rose : Type 0) (error : ErrorKind) → IsToldRefusal name told error → HasCause name rose error → ByLookup name told (λ lookup. StopsOpening lookup name asked error)
-    stops_refused rose (Parse (parse.Syntax file line column expected found)) t h = (TextFault 1, t, (cc, refl))
-    stops_refused rose (Parse parse.NoMemory) t h = absurd (cc)
-    stops_refused rose (Check why) t h = absurd h
-    stops_refused rose (OpenFile n path fault) t h = (Unread, tt, h.0)
-    stops_refused rose (FileTooLarge n) t h = (TextFault 4, t, (h, refl))
-    stops_refused rose (FileInvalidUtf8 n) t h = (TextFault 5, t, (h, refl))
-    stops_refused rose (FileNotFound n) t h = (NoFile, t, (h, refl))
-    stops_refused rose (ImportNotFound file index place n) t h = absurd h
-    stops_refused rose (CircularImport n cycle) t h = absurd h
-    stops_refused rose (FileNotIncluded path) t h = absurd h
-    stops_refused rose (FileShadowed n path shadow) t h = absurd h
-    stops_refused rose (DuplicateImport file index place n) t h = absurd h
-    stops_refused rose (Custom text is_io) t h = (Unread, tt, tt)
-    stops_refused rose (NameMismatch n declared) t h = absurd h
-    stops_refused rose (FileLimit most) t h = absurd h
-    stops_refused rose (Undecodable file) t h = absurd h
-    stops_refused rose NoMemory t h = (Unread, tt, tt)
+    pub stops_refused : (may_fail : List ℕ → ErrorKind → Bool) (rose : Type 0) (error : ErrorKind) → IsToldRefusal name told error → HasCause may_fail name rose error → ByLookup name told (λ lookup. StopsOpening lookup name asked error)
+    stops_refused may_fail rose (Parse (parse.Syntax file line column expected found)) t h = (TextFault 1, t, (cc, refl))
+    stops_refused may_fail rose (Parse parse.NoMemory) t h = absurd (cc)
+    stops_refused may_fail rose (Check why) t h = absurd h
+    stops_refused may_fail rose (OpenFile n path fault) t h = (Unread, tt, h.0)
+    stops_refused may_fail rose (FileTooLarge n) t h = (TextFault 4, t, (h, refl))
+    stops_refused may_fail rose (FileInvalidUtf8 n) t h = (TextFault 5, t, (h, refl))
+    stops_refused may_fail rose (FileNotFound n) t h = (NoFile, t, (h, refl))
+    stops_refused may_fail rose (ImportNotFound file index place n) t h = absurd h
+    stops_refused may_fail rose (CircularImport n cycle) t h = absurd h
+    stops_refused may_fail rose (FileNotIncluded path) t h = absurd h
+    stops_refused may_fail rose (FileShadowed n path shadow) t h = absurd h
+    stops_refused may_fail rose (DuplicateImport file index place n) t h = absurd h
+    stops_refused may_fail rose (Custom text is_io) t h = (Unread, tt, tt)
+    stops_refused may_fail rose (NameMismatch n declared) t h = absurd h
+    stops_refused may_fail rose (FileLimit most) t h = absurd h
+    stops_refused may_fail rose (Undecodable file) t h = absurd h
+    stops_refused may_fail rose NoMemory t h = (Unread, tt, tt)

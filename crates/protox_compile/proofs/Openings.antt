@@ -1,15 +1,18 @@
 -- How an opening is refused.
-use Rattle.std.proofs.Common.{◌≡◌, ◌<◌, ◌≤◌, ◌∷◌, ◌++◌, ◌∙◌, arith, inl, inr, [], ℕ, suc, List, Bool, true, false, refl, sym, ap, subst, length, take, drop, get_or, drop-cons}
+use Rattle.std.proofs.Common.{◌≡◌, ◌<◌, ◌∷◌, ◌++◌, ◌∙◌, arith, inl, inr, [], ℕ, suc, List, Bool, true, false, refl, sym, ap, subst, length, take, drop, get_or, drop-cons}
 use Rattle.std.proofs.Math.ListN.{set}
 use Rattle.std.proofs.lemmas.List.{set_split, append-nil, length-append}
 use Rattle.std.specs.Prelude.{if◌then◌else◌, Option, Some, None, Result, Ok, Err, IfErr, OnOk, OnErr}
 use Rattle.std.specs.Str.{bytes_eq}
 use Rattle.pbx_parse.specs.declared.error.ParseError.TheVariants as parse
 use Rattle.protox_file.specs.Told.{Told, Lookup, ByLookups}
-use Rattle.protox_file.specs.declared.error.ErrorKind.{ErrorKind}
-use Rattle.protox_file.specs.declared.error.ErrorKind.TheVariants.{Parse, Check, OpenFile, FileTooLarge, FileInvalidUtf8, FileNotFound, ImportNotFound, CircularImport, FileNotIncluded, FileShadowed, DuplicateImport, Custom, NameMismatch, FileLimit, Undecodable, NoMemory}
+use Rattle.protox_error.specs.declared.error.ErrorKind.{ErrorKind}
+use Rattle.protox_error.specs.declared.error.ErrorKind.TheVariants.{Parse, Check, OpenFile, FileTooLarge, FileInvalidUtf8, FileNotFound, ImportNotFound, CircularImport, FileNotIncluded, FileShadowed, DuplicateImport, Custom, NameMismatch, FileLimit, Undecodable, NoMemory}
 use Rattle.protox_compile.specs.Walk.{Done, Visited, Finished, Missing, Faulted, Shadowed, NoImport, is_done, visits}
-use Rattle.protox_io.specs.Count.{Rose}
+use Rattle.protox_io.specs.Count.{Count, Later}
+use Rattle.protox_io.proofs.Counts.{rose_later}
+use Rattle.protox_file.specs.Causes.{IsNamedFault, FaultCause}
+use Rattle.protox_file.specs.Library.{Library}
 use Rattle.protox_paths.specs.Paths.{name_of, path_equal}
 use Rattle.protox_compile.specs.State.{IsShadowedBy, IsRoot, Opens, is_settled}
 use Rattle.protox_compile.specs.Refusals.{Walk, Extends, Ends, OrNoMemory, IsToldBy, is_absent, RefusesWith, RefusesOpening, IsLeftOut, EndsWithout, RefusedWithout, Grows, HasRootCause, HasOpeningCause}
@@ -94,16 +97,16 @@ pub accepts_new : (lookups : List ℕ → Lookup) (limit : ℕ) (n : List ℕ) (
 accepts_new lookups limit n asked done middle later new h e = rw (new, h, e) refl
 
 -- what is known of the error of a root
-pub opening_cause : (limit : ℕ) (path : List ℕ) (resolved : Bool) (later : List Done) (rose : Type 0) (error answer : ErrorKind) → HasRootCause (asked_path resolved path) limit later rose error → IsToldBy (FileNotIncluded path) error answer → HasOpeningCause limit path later rose answer
-opening_cause limit path resolved later rose error answer h k = by_case (is_absent error) refl
+pub opening_cause : (limit : ℕ) (path : List ℕ) (resolved : Bool) (later : List Done) (fault : ErrorKind → Type 0) (error answer : ErrorKind) → HasRootCause (asked_path resolved path) limit later fault error → IsToldBy (FileNotIncluded path) error answer → HasOpeningCause limit path later fault answer
+opening_cause limit path resolved later fault error answer h k = by_case (is_absent error) refl
   where
-    absence : OrNoMemory answer (FileNotIncluded path) → HasOpeningCause limit path later rose answer
+    absence : OrNoMemory answer (FileNotIncluded path) → HasOpeningCause limit path later fault answer
     absence (inl memory) = rw memory tt
     absence (inr same) = rw same refl
 
-    other_kind : (e : ErrorKind) → HasRootCause (asked_path resolved path) limit later rose e → is_absent e ≡ false → HasOpeningCause limit path later rose e
+    other_kind : (e : ErrorKind) → HasRootCause (asked_path resolved path) limit later fault e → is_absent e ≡ false → HasOpeningCause limit path later fault e
     other_kind (Check why) x a = x
-    other_kind (OpenFile name p fault) x a = x
+    other_kind (OpenFile name p words) x a = x
     other_kind (Custom text is_io) x a = x
     other_kind (FileNotFound name) x a = absurd (cc)
     other_kind (FileNotIncluded p) x a = absurd x
@@ -113,21 +116,22 @@ opening_cause limit path resolved later rose error answer h k = by_case (is_abse
     other_kind (Undecodable file) x a = absurd x
     other_kind _ x a = tt
 
-    by_case : (b : Bool) → is_absent error ≡ b → HasOpeningCause limit path later rose answer
+    by_case : (b : Bool) → is_absent error ≡ b → HasOpeningCause limit path later fault answer
     by_case true e = absence (k.absent e)
     by_case false e = rw (k.other e) (other_kind error h e)
 
 -- the same of a cause that another gives
-pub cause_later : (limit : ℕ) (path : List ℕ) (later : List Done) (rose wider : Type 0) (error : ErrorKind) → (rose → wider) → HasOpeningCause limit path later rose error
+pub cause_later : (limit : ℕ) (path : List ℕ) (later : List Done) (fault wider : ErrorKind → Type 0) (error : ErrorKind) → ((e : ErrorKind) → fault e → wider e) → HasOpeningCause limit path later fault error
     → HasOpeningCause limit path later wider error
-cause_later limit path later rose wider (OpenFile name p fault) f h = f h
-cause_later limit path later rose wider (Custom text is_io) f h = f h
-cause_later limit path later rose wider _ f h = h
+cause_later limit path later fault wider (OpenFile name p words) f h = f (OpenFile name p words) h
+cause_later limit path later fault wider (Custom text is_io) f h = f (Custom text is_io) h
+cause_later limit path later fault wider _ f h = h
 
--- a count that rose since a later call has risen since an earlier one
-pub rose_since : (first before now : ℕ) (spent : Bool) → first ≤ before → Rose before now spent → Rose first now spent
-rose_since first before now spent h (inl rose) = inl (omega arith)
-rose_since first before now spent h (inr end) = inr end
+-- a fault since a later call is one since an earlier one, of a resolver that is as it was
+pub fault_since : (old new : Library) (first before now : Count) → new ≡ old → Later first before → (e : ErrorKind) → FaultCause new before now e
+    → FaultCause old first now e
+fault_since old new first before now same later e (rose, fault) =
+    (rose_later first before now later rose, (let P : Library → Type 0 = λ l. IsNamedFault l.may_fail e in subst P same fault))
 
 -- ---- marks
 

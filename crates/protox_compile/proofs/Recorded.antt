@@ -17,7 +17,7 @@ use Rattle.pbx_pool_laws.proofs.Behind.{pooled_are_behind}
 use Rattle.pbx_link.specs.declared.error.DescriptorError.{DescriptorError}
 use Rattle.pbx_link.specs.declared.error.DescriptorError.TheVariants as check
 use Rattle.pbx_link.specs.Pool.{IsRefused}
-use Rattle.protox_file.specs.Errors.{of_descriptor}
+use Rattle.protox_error.specs.Errors.{of_descriptor}
 use Rattle.protox_file.specs.Metadata.{Metadata}
 use Rattle.protox_compile.specs.Walk.{Done, Open, is_done, records, done_as, declared_name}
 use Rattle.protox_compile.specs.Opening.{mark, path_in}

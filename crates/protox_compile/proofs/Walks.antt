@@ -3,8 +3,8 @@ use Rattle.std.proofs.Common.{◌≡◌, ◌∷◌, ◌∙◌, [], ℕ, List, tr
 use Rattle.std.specs.Prelude.{nat_lt, Result, Ok, Err}
 use Rattle.std.specs.Str.{bytes_eq}
 use Rattle.protox_file.specs.Told.{Told, ByLookups}
-use Rattle.protox_file.specs.declared.error.ErrorKind.{ErrorKind}
-use Rattle.protox_file.specs.declared.error.ErrorKind.TheVariants.{Check, OpenFile, Custom, NoMemory}
+use Rattle.protox_error.specs.declared.error.ErrorKind.{ErrorKind}
+use Rattle.protox_error.specs.declared.error.ErrorKind.TheVariants.{Check, OpenFile, Custom, NoMemory}
 use Rattle.protox_compile.specs.Walk.{Done, Open, Finished, records, imports_of, declared_name, is_done}
 use Rattle.protox_compile.specs.Refusals.{Walk, Ends, HasStepCause}
 use Rattle.protox_compile.specs.Compiled.{IsUnlinked}
@@ -29,22 +29,22 @@ unlinked_ends files limit f fs done NoMemory last h = ends_memory files limit (f
 unlinked_ends files limit f fs done _ last h = absurd h
 
 -- a file that is not linked breaks a rule, and is not finished
-pub unlinked_cause : (limit : ℕ) (done : List Done) (rose : Type 0) (f : Open) (error : ErrorKind) → is_done done f.name ≡ false
-    → bytes_eq (declared_name f.entry) f.name ≡ true → IsUnlinked (records done) f.entry.file error → HasStepCause limit done rose error
-unlinked_cause limit done rose f (Check error) new named h =
+pub unlinked_cause : (limit : ℕ) (done : List Done) (fault : ErrorKind → Type 0) (f : Open) (error : ErrorKind) → is_done done f.name ≡ false
+    → bytes_eq (declared_name f.entry) f.name ≡ true → IsUnlinked (records done) f.entry.file error → HasStepCause limit done fault error
+unlinked_cause limit done fault f (Check error) new named h =
     (f.entry.file, ap (is_done done) (bytes_are (declared_name f.entry) f.name named) ∙ new, h.1)
-unlinked_cause limit done rose f NoMemory new named h = tt
-unlinked_cause limit done rose f _ new named h = absurd h
+unlinked_cause limit done fault f NoMemory new named h = tt
+unlinked_cause limit done fault f _ new named h = absurd h
 
 -- the same stack, written otherwise
 pub same_stack : (files : List ℕ → Told) (walk : Walk) (limit : ℕ) (fs gs : List Open) (done : List Done) → fs ≡ gs → Follows files walk limit fs done → Follows files walk limit gs done
 same_stack files walk limit fs gs done e h = let P : List Open → Type 0 = λ s. Follows files walk limit s done in subst P e h
 
 -- a cause that another gives
-pub step_cause_later : (limit : ℕ) (done : List Done) (rose wider : Type 0) (error : ErrorKind) → (rose → wider) → HasStepCause limit done rose error → HasStepCause limit done wider error
-step_cause_later limit done rose wider (OpenFile name path fault) f h = f h
-step_cause_later limit done rose wider (Custom text is_io) f h = f h
-step_cause_later limit done rose wider _ f h = h
+pub step_cause_later : (limit : ℕ) (done : List Done) (fault wider : ErrorKind → Type 0) (error : ErrorKind) → ((e : ErrorKind) → fault e → wider e) → HasStepCause limit done fault error → HasStepCause limit done wider error
+step_cause_later limit done fault wider (OpenFile name path words) f h = f (OpenFile name path words) h
+step_cause_later limit done fault wider (Custom text is_io) f h = f (Custom text is_io) h
+step_cause_later limit done fault wider _ f h = h
 
 pub fresh_next : (root : List ℕ) (f next : Open) (fs : List Open) (done : List Done) → next ≡ past f → Fresh root (f ∷ fs) done → Fresh root (next ∷ fs) done
 fresh_next root f next fs done e h = let P : Open → Type 0 = λ x. Fresh root (x ∷ fs) done in subst P (sym e) (fresh_past root f fs done h)

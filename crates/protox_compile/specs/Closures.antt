@@ -1,7 +1,7 @@
 -- How openings one after another were refused.
 use Rattle.std.specs.Prelude.{◌≡◌, ◌++◌, ◌∷◌, ℕ, List, Option}
 use Rattle.protox_file.specs.Told.{Lookup}
-use Rattle.protox_file.specs.declared.error.ErrorKind.{ErrorKind}
+use Rattle.protox_error.specs.declared.error.ErrorKind.{ErrorKind}
 use Rattle.protox_compile.specs.Walk.{Done}
 use Rattle.protox_compile.specs.Opening.{Accepted, closure}
 use Rattle.protox_compile.specs.Refusals.{RefusesOpening, Grows}

@@ -5,8 +5,8 @@ use Rattle.pbx_desc_records.specs.declared.file.FileDescriptorProto.{FileDescrip
 use Rattle.pbx_rules.specs.Breaches.{keeps_rules}
 use Rattle.pbx_link.specs.Pool.{IsRefused}
 use Rattle.protox_file.specs.Metadata.{Metadata}
-use Rattle.protox_file.specs.declared.error.ErrorKind.{ErrorKind}
-use Rattle.protox_file.specs.declared.error.ErrorKind.TheVariants.{Check, NoMemory}
+use Rattle.protox_error.specs.declared.error.ErrorKind.{ErrorKind}
+use Rattle.protox_error.specs.declared.error.ErrorKind.TheVariants.{Check, NoMemory}
 use Rattle.protox_compile.specs.Walk.{Done, is_done}
 
 -- a file, by what is known of it and its record

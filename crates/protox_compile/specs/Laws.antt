@@ -1,18 +1,22 @@
 -- What holds of openings.
 use Rattle.std.specs.Prelude.{◌≡◌, ◌⊎◌, ℕ, List, true, Option, Some}
 use Rattle.protox_file.specs.Told.{Told, Lookup, AreLookups, AreComplete, ByLookups}
-use Rattle.protox_file.specs.declared.error.ErrorKind.{ErrorKind}
-use Rattle.protox_compile.specs.Walk.{Done, is_done}
-use Rattle.protox_compile.specs.Opening.{Accepted, IsDecided, mark, opening, closure, root_of}
+use Rattle.protox_error.specs.declared.error.ErrorKind.{ErrorKind}
+use Rattle.protox_compile.specs.Walk.{Done, Fault, is_done}
+use Rattle.protox_compile.specs.Opening.{Opened, Accepted, Refused, IsDecided, mark, opening, closure, root_of}
 use Rattle.protox_compile.specs.Refusals.{RefusesOpening}
 use Rattle.protox_compile.specs.Closures.{StopsAt}
 
--- Opening a path whose name is finished changes the mark of that name at most.
+-- The opening was accepted, and changes the mark of the name alone, or it was refused, and changes nothing.
+abbrev pub IsOpenedAgain : List ℕ → List Done → List Done × Opened → Type 0
+IsOpenedAgain name done opened = (opened ≡ (mark name done, Accepted)) ⊎ ((fault : Fault) × (opened ≡ (done, Refused fault)))
+
+-- Opening a path whose name is finished changes its mark alone, to opened, or is refused and changes nothing.
 abbrev pub OpeningAgainMarks : Type 0
 OpeningAgainMarks =
     (lookups : List ℕ → Lookup) (resolves : List ℕ → Option (List ℕ)) (limit : ℕ) (path name : List ℕ) (asked : Option (List ℕ))
     (done : List Done) → root_of resolves path ≡ Some (name, asked) → is_done done name ≡ true
-    → ((opening lookups resolves limit path done).0 ≡ mark name done) ⊎ ((opening lookups resolves limit path done).0 ≡ done)
+    → IsOpenedAgain name done (opening lookups resolves limit path done)
 
 -- What opening a path comes to is one thing at most, whatever was looked up, if it was all that the opening asks for.
 abbrev pub OpensOnce : Type 0

@@ -9,10 +9,10 @@ use Rattle.pbx_link.specs.Pool.{IsRefused}
 use Rattle.pbx_parse.specs.declared.error.ParseError.TheVariants as parse
 use Rattle.protox_paths.specs.Paths.{path_equal}
 use Rattle.protox_file.specs.Told.{Entry, Lookup, NoFile, IsFile, TextFault}
-use Rattle.protox_file.specs.declared.error.ErrorKind.{ErrorKind}
-use Rattle.protox_file.specs.declared.error.ErrorKind.TheVariants.{Parse, Check, OpenFile, FileTooLarge, FileInvalidUtf8, FileNotFound}
-use Rattle.protox_file.specs.declared.error.ErrorKind.TheVariants.{ImportNotFound, CircularImport, FileNotIncluded, FileShadowed}
-use Rattle.protox_file.specs.declared.error.ErrorKind.TheVariants.{DuplicateImport, Custom, NameMismatch, FileLimit, Undecodable, NoMemory}
+use Rattle.protox_error.specs.declared.error.ErrorKind.{ErrorKind}
+use Rattle.protox_error.specs.declared.error.ErrorKind.TheVariants.{Parse, Check, OpenFile, FileTooLarge, FileInvalidUtf8, FileNotFound}
+use Rattle.protox_error.specs.declared.error.ErrorKind.TheVariants.{ImportNotFound, CircularImport, FileNotIncluded, FileShadowed}
+use Rattle.protox_error.specs.declared.error.ErrorKind.TheVariants.{DuplicateImport, Custom, NameMismatch, FileLimit, Undecodable, NoMemory}
 use Rattle.protox_compile.specs.Walk.{Open, Done, Limit, Text, Mismatch, Shadowed, Duplicate, Circular, NoImport, Unlinked, Visited}
 use Rattle.protox_compile.specs.Walk.{Missing, Faulted, records, declared_name, is_done}
 use Rattle.protox_compile.specs.Opening.{Opened, NotIncluded, Refused, root_of, opening, grown}
@@ -90,21 +90,21 @@ BreaksRule done error = (file : FileDescriptorProto) × (is_done done (text_or_e
 
 -- What is known of the error of a walk over every resolver: the rule is broken among the finished files, a fault of the resolver has this
 -- cause, the limit is this one, and the declared name is another than the one asked for. Some kinds never come.
-abbrev pub HasStepCause : ℕ → List Done → Type 0 → ErrorKind → Type 0
-HasStepCause limit done rose (Check error) = BreaksRule done error
-HasStepCause limit done rose (OpenFile name path fault) = rose
-HasStepCause limit done rose (Custom text is_io) = rose
-HasStepCause limit done rose (FileNotIncluded path) = ⊥
-HasStepCause limit done rose (FileShadowed name path shadow) = ⊥
-HasStepCause limit done rose (NameMismatch asked declared) = bytes_eq declared asked ≡ false
-HasStepCause limit done rose (FileLimit most) = most ≡ limit
-HasStepCause limit done rose (Undecodable file) = ⊥
-HasStepCause limit done rose kind = Unit {0}
+abbrev pub HasStepCause : ℕ → List Done → (ErrorKind → Type 0) → ErrorKind → Type 0
+HasStepCause limit done fault (Check error) = BreaksRule done error
+HasStepCause limit done fault (OpenFile name path words) = fault (OpenFile name path words)
+HasStepCause limit done fault (Custom text is_io) = fault (Custom text is_io)
+HasStepCause limit done fault (FileNotIncluded path) = ⊥
+HasStepCause limit done fault (FileShadowed name path shadow) = ⊥
+HasStepCause limit done fault (NameMismatch asked declared) = bytes_eq declared asked ≡ false
+HasStepCause limit done fault (FileLimit most) = most ≡ limit
+HasStepCause limit done fault (Undecodable file) = ⊥
+HasStepCause limit done fault kind = Unit {0}
 
 -- the same where a root was asked by a path: a file that has another path may be found
-abbrev pub HasRootCause : Option (List ℕ) → ℕ → List Done → Type 0 → ErrorKind → Type 0
-HasRootCause asked limit done rose (FileShadowed name path shadow) = (asked ≡ Some path) × (path_equal shadow path ≡ false)
-HasRootCause asked limit done rose kind = HasStepCause limit done rose kind
+abbrev pub HasRootCause : Option (List ℕ) → ℕ → List Done → (ErrorKind → Type 0) → ErrorKind → Type 0
+HasRootCause asked limit done fault (FileShadowed name path shadow) = (asked ≡ Some path) × (path_equal shadow path ≡ false)
+HasRootCause asked limit done fault kind = HasStepCause limit done fault kind
 
 -- this error, or want of memory in its place
 abbrev pub OrNoMemory : ErrorKind → ErrorKind → Type 0
@@ -171,19 +171,19 @@ StopsOpening lookup name asked NoMemory = Unit {0}
 
 -- Why a name that may be asked by a path was not opened, over every resolver: a fault of the resolver has this cause, and a file that has
 -- another name or another path was found. Some kinds never come.
-abbrev pub HasOpenCause : Option (List ℕ) → Type 0 → ErrorKind → Type 0
-HasOpenCause asked rose (OpenFile name path fault) = rose
-HasOpenCause asked rose (Custom text is_io) = rose
-HasOpenCause asked rose (Check error) = ⊥
-HasOpenCause asked rose (ImportNotFound file index place name) = ⊥
-HasOpenCause asked rose (CircularImport name cycle) = ⊥
-HasOpenCause asked rose (FileNotIncluded path) = ⊥
-HasOpenCause asked rose (FileShadowed name path shadow) = (asked ≡ Some path) × (path_equal shadow path ≡ false)
-HasOpenCause asked rose (DuplicateImport file index place name) = ⊥
-HasOpenCause asked rose (NameMismatch name declared) = bytes_eq declared name ≡ false
-HasOpenCause asked rose (FileLimit limit) = ⊥
-HasOpenCause asked rose (Undecodable file) = ⊥
-HasOpenCause asked rose kind = Unit {0}
+abbrev pub HasOpenCause : Option (List ℕ) → (ErrorKind → Type 0) → ErrorKind → Type 0
+HasOpenCause asked fault (OpenFile name path words) = fault (OpenFile name path words)
+HasOpenCause asked fault (Custom text is_io) = fault (Custom text is_io)
+HasOpenCause asked fault (Check error) = ⊥
+HasOpenCause asked fault (ImportNotFound file index place name) = ⊥
+HasOpenCause asked fault (CircularImport name cycle) = ⊥
+HasOpenCause asked fault (FileNotIncluded path) = ⊥
+HasOpenCause asked fault (FileShadowed name path shadow) = (asked ≡ Some path) × (path_equal shadow path ≡ false)
+HasOpenCause asked fault (DuplicateImport file index place name) = ⊥
+HasOpenCause asked fault (NameMismatch name declared) = bytes_eq declared name ≡ false
+HasOpenCause asked fault (FileLimit limit) = ⊥
+HasOpenCause asked fault (Undecodable file) = ⊥
+HasOpenCause asked fault kind = Unit {0}
 
 -- the opening of what is asked for was refused since the name has no file, which is the name that is asked for or that of an import
 abbrev pub RefusedWithout : Option (List ℕ × Option (List ℕ)) → List ℕ → Opened → Type 0
@@ -241,18 +241,18 @@ pub record RefusesOpening (lookups : List ℕ → Lookup) (resolves : List ℕ �
 
 -- What is known of the error of opening a path over every resolver: the rule is broken among the files that are left, a fault of the
 -- resolver has this cause, the path and the limit are these, and what was found has another path or another name. Some kinds never come.
-abbrev pub HasOpeningCause : ℕ → List ℕ → List Done → Type 0 → ErrorKind → Type 0
-HasOpeningCause limit path later rose (Check error) = BreaksRule later error
-HasOpeningCause limit path later rose (OpenFile name p fault) = rose
-HasOpeningCause limit path later rose (Custom text is_io) = rose
-HasOpeningCause limit path later rose (FileNotFound name) = ⊥
-HasOpeningCause limit path later rose (FileNotIncluded p) = p ≡ path
-HasOpeningCause limit path later rose (FileShadowed name asked shadow) = (asked ≡ path) × (path_equal shadow asked ≡ false)
-HasOpeningCause limit path later rose (NameMismatch asked declared) = bytes_eq declared asked ≡ false
-HasOpeningCause limit path later rose (FileLimit most) = most ≡ limit
-HasOpeningCause limit path later rose (Undecodable file) = ⊥
-HasOpeningCause limit path later rose kind = Unit {0}
+abbrev pub HasOpeningCause : ℕ → List ℕ → List Done → (ErrorKind → Type 0) → ErrorKind → Type 0
+HasOpeningCause limit path later fault (Check error) = BreaksRule later error
+HasOpeningCause limit path later fault (OpenFile name p words) = fault (OpenFile name p words)
+HasOpeningCause limit path later fault (Custom text is_io) = fault (Custom text is_io)
+HasOpeningCause limit path later fault (FileNotFound name) = ⊥
+HasOpeningCause limit path later fault (FileNotIncluded p) = p ≡ path
+HasOpeningCause limit path later fault (FileShadowed name asked shadow) = (asked ≡ path) × (path_equal shadow asked ≡ false)
+HasOpeningCause limit path later fault (NameMismatch asked declared) = bytes_eq declared asked ≡ false
+HasOpeningCause limit path later fault (FileLimit most) = most ≡ limit
+HasOpeningCause limit path later fault (Undecodable file) = ⊥
+HasOpeningCause limit path later fault kind = Unit {0}
 
 -- the same, of one of several paths
-abbrev pub HasOpeningsCause : ℕ → List (List ℕ) → List Done → Type 0 → ErrorKind → Type 0
-HasOpeningsCause limit paths later rose error = (path : List ℕ) × Contains paths path × HasOpeningCause limit path later rose error
+abbrev pub HasOpeningsCause : ℕ → List (List ℕ) → List Done → (ErrorKind → Type 0) → ErrorKind → Type 0
+HasOpeningsCause limit paths later fault error = (path : List ℕ) × Contains paths path × HasOpeningCause limit path later fault error

@@ -4,7 +4,7 @@ use Rattle.pbx_definitions.specs.Names.{among}
 use Rattle.protox_file.specs.Told.{Told, Lookup, Unread, IsLookup, AreLookups, ByLookups}
 use Rattle.protox_compile.specs.Places.{place_of_import}
 use Rattle.protox_compile.specs.Walk.{Done, Fault, Visited, Finished, Missing, Faulted, Open, imports_of, is_done, visit_imports, finish, visits}
-use Rattle.protox_file.specs.declared.error.ErrorKind.{ErrorKind}
+use Rattle.protox_error.specs.declared.error.ErrorKind.{ErrorKind}
 use Rattle.protox_compile.specs.Refusals.{Walk, Ends}
 use Rattle.protox_compile.specs.declared.step.Import.{Import}
 use Rattle.protox_compile.specs.declared.step.Import.TheVariants.{Finished as FinishedImport, Visit}

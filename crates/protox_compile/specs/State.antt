@@ -1,11 +1,8 @@
 -- The state of a compiler.
-use Rattle.std.specs.Prelude.{◌≡◌, ◌<◌, ℕ, zero, suc, List, Bool, true, false, Option, Some, None, IsTrue}
-use Rattle.protox_io.specs.Disk.{Held}
-use Rattle.protox_io.specs.Paths.{Component}
+use Rattle.std.specs.Prelude.{◌≡◌, ◌<◌, ℕ, zero, suc, List, Bool, true, false, Option, Some, None}
 use Rattle.protox_paths.specs.Paths.{name_of, path_equal}
-use Rattle.protox_file.specs.Told.{Told}
-use Rattle.protox_file.specs.declared.error.ErrorKind.{ErrorKind}
-use Rattle.protox_file.specs.declared.error.ErrorKind.TheVariants.{FileShadowed, NoMemory}
+use Rattle.protox_error.specs.declared.error.ErrorKind.{ErrorKind}
+use Rattle.protox_error.specs.declared.error.ErrorKind.TheVariants.{FileShadowed, NoMemory}
 use Rattle.protox_compile.specs.Walk.{Done, is_done}
 use Rattle.protox_compile.specs.Opening.{mark, asked_path}
 use Rattle.protox_compile.specs.Refusals.{Grows}
@@ -15,14 +12,6 @@ pub record State (R : Type 0) : Type 0 where
   pub resolver : R
   pub done : List Done
   pub limit : ℕ
-
--- What a call keeps of a resolver, by what resolvers tell: whether it tells, and where it does its files, its names of paths and its disk.
-pub record Keeps {R : Type 0} (telling : R → Bool) (told : R → List ℕ → Told) (names : R → List ℕ → Option (List ℕ))
-    (held : R → List Component → Held) (old new : R) : Type 0 where
-  pub tells : telling new ≡ telling old
-  pub files : IsTrue (telling old) → told new ≡ told old
-  pub resolves : IsTrue (telling old) → names new ≡ names old
-  pub disk : IsTrue (telling old) → held new ≡ held old
 
 -- the name that a path asks for, and whether the path was resolved
 abbrev pub IsRoot : Option (List ℕ × Option (List ℕ)) → List ℕ → Option (List ℕ × Bool) → Type 0

@@ -2,13 +2,14 @@
 
 ghost use Rattle.std.specs.Prelude.{◌≡◌, ◌≤◌, [], IfOk, IfErr, OnOk, OnErr, IsTrue, length, map, min, true};
 ghost use Rattle.std.specs.Slice.Iter.{iter_rest};
-ghost use Rattle.protox_io.specs.Count.{Rose};
+ghost use Rattle.protox_io.specs.Count.{Later};
+ghost use Rattle.protox_file.specs.Causes.{FaultCause};
 ghost use Rattle.pbx_pool_laws.specs.Pool.{ArePooled};
 ghost use Rattle.protox_file.specs.Told.{ByLookups};
 ghost use Rattle.protox_compile.specs.Walk.{is_done, records};
 ghost use Rattle.protox_compile.specs.Opening.{opening, closure, root_of, Accepted};
 ghost use Rattle.protox_compile.specs.Refusals.{RefusesOpening, HasOpeningCause, HasOpeningsCause, Grows};
-ghost use Rattle.protox_compile.specs.State.{Opens, OpensTimes, GrowsWithin, Keeps, is_settled};
+ghost use Rattle.protox_compile.specs.State.{Opens, OpensTimes, GrowsWithin, is_settled};
 ghost use Rattle.protox_compile.specs.Closures.{StopsAt};
 ghost use Rattle.protox_compile.specs.Compiled.{IsOrdered, metadata_of};
 
@@ -16,7 +17,8 @@ use crate::compiled::Compiled;
 use crate::root::open_path;
 use pbx_link::DescriptorPool;
 use pbx_wire::Texts;
-use protox_file::{Error, FileMetadata, FileResolver, looked_up_once};
+use protox_file::{Disk, Error, FileMetadata, FileResolver, looked_up_once};
+use protox_resolvers::StandardResolver;
 use std::alloc::Global;
 use std::marker::Model;
 
@@ -74,17 +76,17 @@ impl<R: FileResolver> Compiler<R> {
     /// Opens the file at a path, with all that it imports, each before what imports it.
     ///
     /// The name of the path is what the resolver says, and else `path_to_file_name`. A file that is there already is
-    /// marked as opened, and nothing is read. A refused call leaves the files that were there with their marks, and adds
+    /// marked as opened, unless the path was resolved and is another than the file's, and nothing is read. A refused call leaves the files that were there with their marks, and adds
     /// the imports that were finished, as imports.
     pub fn open_file(&mut self, path: &str) -> Result<(), Error>
         // Over a resolver that tells, it does what opening is, by look-ups of the names that it asked for.
-        ensures ok { IsTrue (R.tells self.old.resolver) → OnOk result (ByLookups (R.files self.old.resolver)
-            (λ lookups. opening lookups (R.resolves self.old.resolver) self.old.limit path.now self.old.done ≡ (self.new.done, Accepted))) }
+        ensures ok { IsTrue (R.library self.old.resolver).tells → OnOk result (ByLookups (R.library self.old.resolver).files
+            (λ lookups. opening lookups (R.library self.old.resolver).resolves self.old.limit path.now self.old.done ≡ (self.new.done, Accepted))) }
 
         // It is refused with the fault of the opening, or for want of memory or a fault of the resolver.
-        ensures err { IsTrue (R.tells self.old.resolver) → IfErr result (λ error. ByLookups (R.files self.old.resolver)
-            (λ lookups. RefusesOpening lookups (R.resolves self.old.resolver) self.old.limit path.now self.old.done self.new.done error)) }
-        ensures again { IsTrue (R.tells self.old.resolver) → is_settled (root_of (R.resolves self.old.resolver) path.now) self.old.done ≡ true →
+        ensures err { IsTrue (R.library self.old.resolver).tells → IfErr result (λ error. ByLookups (R.library self.old.resolver).files
+            (λ lookups. RefusesOpening lookups (R.library self.old.resolver).resolves self.old.limit path.now self.old.done self.new.done error)) }
+        ensures again { IsTrue (R.library self.old.resolver).tells → is_settled (root_of (R.library self.old.resolver).resolves path.now) self.old.done ≡ true →
             self.new.resolver ≡ self.old.resolver }
 
         // Over every resolver, files are added as imports, and then one of all is marked; where none is added, nothing is read.
@@ -92,10 +94,10 @@ impl<R: FileResolver> Compiler<R> {
         ensures unread { OnOk result (length self.new.done ≡ length self.old.done → self.new.resolver ≡ self.old.resolver) }
         ensures grows { OnErr result (Grows self.old.done self.new.done) }
         ensures cause { IfErr result (HasOpeningCause self.old.limit path.now self.new.done
-            (Rose (R.faults self.old.resolver) (R.faults self.new.resolver) (R.at_end self.new.resolver))) }
-        ensures later { R.faults self.old.resolver ≤ R.faults self.new.resolver }
+            (FaultCause (R.library self.old.resolver) (R.count self.old.resolver) (R.count self.new.resolver))) }
+        ensures later { Later (R.count self.old.resolver) (R.count self.new.resolver) }
         ensures limit { self.new.limit ≡ self.old.limit }
-        ensures keeps { Keeps R.tells R.files R.resolves R.disk self.old.resolver self.new.resolver }
+        ensures keeps { R.library self.new.resolver ≡ R.library self.old.resolver }
     {
         open_path(
             &mut self.resolver,
@@ -108,18 +110,18 @@ impl<R: FileResolver> Compiler<R> {
 
     /// Opens the files at paths in order, up to the first that is refused, as `open_file` does each.
     pub fn open_files(&mut self, paths: &Texts) -> Result<(), Error>
-        ensures ok { IsTrue (R.tells self.old.resolver) → OnOk result (ByLookups (R.files self.old.resolver)
-            (λ lookups. closure lookups (R.resolves self.old.resolver) self.old.limit paths.now self.old.done ≡ (self.new.done, Accepted))) }
-        ensures err { IsTrue (R.tells self.old.resolver) → IfErr result (λ error. ByLookups (R.files self.old.resolver)
-            (λ lookups. StopsAt lookups (R.resolves self.old.resolver) self.old.limit paths.now self.old.done self.new.done error)) }
+        ensures ok { IsTrue (R.library self.old.resolver).tells → OnOk result (ByLookups (R.library self.old.resolver).files
+            (λ lookups. closure lookups (R.library self.old.resolver).resolves self.old.limit paths.now self.old.done ≡ (self.new.done, Accepted))) }
+        ensures err { IsTrue (R.library self.old.resolver).tells → IfErr result (λ error. ByLookups (R.library self.old.resolver).files
+            (λ lookups. StopsAt lookups (R.library self.old.resolver).resolves self.old.limit paths.now self.old.done self.new.done error)) }
         // Over every resolver, each opened path adds files as imports and then marks one of all, and a refused one adds files as imports.
         ensures opens { OnOk result (OpensTimes (length paths.now) self.old.done self.new.done) }
         ensures grows { OnErr result (GrowsWithin (length paths.now) self.old.done self.new.done) }
         ensures cause { IfErr result (HasOpeningsCause self.old.limit paths.now self.new.done
-            (Rose (R.faults self.old.resolver) (R.faults self.new.resolver) (R.at_end self.new.resolver))) }
-        ensures later { R.faults self.old.resolver ≤ R.faults self.new.resolver }
+            (FaultCause (R.library self.old.resolver) (R.count self.old.resolver) (R.count self.new.resolver))) }
+        ensures later { Later (R.count self.old.resolver) (R.count self.new.resolver) }
         ensures limit { self.new.limit ≡ self.old.limit }
-        ensures keeps { Keeps R.tells R.files R.resolves R.disk self.old.resolver self.new.resolver }
+        ensures keeps { R.library self.new.resolver ≡ R.library self.old.resolver }
     {
         // So the look-ups of all paths agree.
         looked_up_once();
@@ -168,6 +170,23 @@ impl<R: FileResolver> Compiler<R> {
             alloc: _,
         } = self;
         resolver
+    }
+}
+
+impl<D: Disk> Compiler<StandardResolver<D>> {
+    /// No files, of the folders of a disk and the built-in files. Hands the disk back where memory runs out.
+    pub fn new(alloc: Global, disk: D, includes: &Texts) -> Result<Compiler<StandardResolver<D>>, D>
+        ensures ok { IfOk result (λ compiler. compiler ≡ record { resolver = record { folders = includes.now; disk = disk }; done = []; limit = 65536 }) }
+        ensures err { IfErr result (λ back. back ≡ disk) }
+    {
+        let resolver = match StandardResolver::new(alloc, disk, includes) {
+            Ok(resolver) => resolver,
+            Err(disk) => return Err(disk),
+        };
+        match Compiler::with_file_resolver(alloc, resolver) {
+            Ok(compiler) => Ok(compiler),
+            Err(resolver) => Err(resolver.into_disk()),
+        }
     }
 }
 

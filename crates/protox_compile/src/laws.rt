@@ -2,7 +2,7 @@ ghost use Rattle.protox_compile.specs.Laws.{OpeningAgainMarks, OpensOnce, Closes
 
 use protox_file::looked_up_once;
 
-/// Opening a path whose name is finished changes the mark of that name at most.
+/// Opening a path whose name is finished changes the mark of that name alone, to opened, or is refused and changes nothing.
 pub fn opening_again_marks()
     ensures { OpeningAgainMarks }
 {}

@@ -1,7 +1,8 @@
 ghost use Rattle.std.specs.Prelude.{◌≡◌, ◌≤◌, ◌<◌, ◌^◌, length, IfOk, IfErr, IsTrue, MatchOption, true, false, Some};
 ghost use Rattle.std.specs.Option.{option_copied};
 ghost use Rattle.std.specs.Str.{bytes_eq};
-ghost use Rattle.protox_io.specs.Count.{Rose};
+ghost use Rattle.protox_io.specs.Count.{Later};
+ghost use Rattle.protox_file.specs.Causes.{FaultCause};
 ghost use Rattle.protox_paths.specs.Paths.{path_equal};
 ghost use Rattle.protox_compile.specs.Walk.{imports_of, declared_name};
 ghost use Rattle.protox_compile.specs.Opening.{asked_path};
@@ -46,19 +47,16 @@ pub(crate) fn open_frame<R: FileResolver>(
     resolved: bool,
     path: &str,
 ) -> Result<Frame, Error>
-    ensures opened { IsTrue (R.tells resolver.old) →
-        IfOk result (λ f. ByLookup name.now (R.files resolver.old name.now) (λ lookup. IsOpenOf lookup name.now f)) }
+    ensures opened { IsTrue (R.library resolver.old).tells →
+        IfOk result (λ f. ByLookup name.now ((R.library resolver.old).files name.now) (λ lookup. IsOpenOf lookup name.now f)) }
     ensures unshadowed { IfOk result (λ f. IsUnshadowed (asked_path resolved path.now) f.entry.path) }
     ensures fresh { IfOk result (λ f. (f.name ≡ name.now) × (f.next ≡ 0) × (length (imports_of f.entry) < 2 ^ 64)) }
-    ensures stopped { IsTrue (R.tells resolver.old) →
-        IfErr result (λ e. ByLookup name.now (R.files resolver.old name.now)
+    ensures stopped { IsTrue (R.library resolver.old).tells →
+        IfErr result (λ e. ByLookup name.now ((R.library resolver.old).files name.now)
         (λ lookup. StopsOpening lookup name.now (asked_path resolved path.now) e)) }
-    ensures cause { IfErr result (HasOpenCause (asked_path resolved path.now) (Rose (R.faults resolver.old) (R.faults resolver.new) (R.at_end resolver.new))) }
-    ensures later { R.faults resolver.old ≤ R.faults resolver.new }
-    ensures keeps_tells { R.tells resolver.new ≡ R.tells resolver.old }
-    ensures keeps_files { IsTrue (R.tells resolver.old) → R.files resolver.new ≡ R.files resolver.old }
-    ensures keeps_resolves { IsTrue (R.tells resolver.old) → R.resolves resolver.new ≡ R.resolves resolver.old }
-    ensures keeps_disk { IsTrue (R.tells resolver.old) → R.disk resolver.new ≡ R.disk resolver.old }
+    ensures cause { IfErr result (HasOpenCause (asked_path resolved path.now) (FaultCause (R.library resolver.old) (R.count resolver.old) (R.count resolver.new))) }
+    ensures later { Later (R.count resolver.old) (R.count resolver.new) }
+    ensures keeps { R.library resolver.new ≡ R.library resolver.old }
 {
     let file = match resolver.open_file(alloc, name) {
         Ok(file) => file,

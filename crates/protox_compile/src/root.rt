@@ -1,7 +1,8 @@
 //! The opening of a path.
 
 ghost use Rattle.std.specs.Prelude.{◌≡◌, ◌≤◌, [], IfOk, IfErr, OnOk, OnErr, IsTrue, length, true, false, Some, IfSome};
-ghost use Rattle.protox_io.specs.Count.{Rose};
+ghost use Rattle.protox_io.specs.Count.{Later};
+ghost use Rattle.protox_file.specs.Causes.{FaultCause};
 ghost use Rattle.protox_paths.specs.Paths.{name_of};
 ghost use Rattle.protox_file.specs.Told.{ByLookups};
 ghost use Rattle.protox_compile.specs.Walk.{is_done};
@@ -23,7 +24,7 @@ fn root_by<R: FileResolver>(
     alloc: Global,
     path: &str,
 ) -> Result<Option<(Text, bool)>, NoMemory>
-    ensures root { IsTrue (R.tells resolver.now) → IfOk result (IsRoot (root_of (R.resolves resolver.now) path.now) path.now) }
+    ensures root { IsTrue (R.library resolver.now).tells → IfOk result (IsRoot (root_of (R.library resolver.now).resolves path.now) path.now) }
     ensures named { IfOk result (λ found. IfSome found (λ f. name_of f.0 ≡ Some f.0)) }
 {
     names_name_themselves();
@@ -67,11 +68,11 @@ fn open_name<R: FileResolver>(
     path: &str,
 ) -> Result<(), Error>
     requires { name_of name.now ≡ Some name.now }
-    ensures ok { IsTrue (R.tells resolver.old) →
-        OnOk result (ByLookups (R.files resolver.old)
+    ensures ok { IsTrue (R.library resolver.old).tells →
+        OnOk result (ByLookups (R.library resolver.old).files
         (λ lookups. open_name_in lookups limit (Some (name.now, asked_path resolved path.now)) done.old ≡ (done.new, Accepted))) }
-    ensures err { IsTrue (R.tells resolver.old) →
-        IfErr result (λ e. ByLookups (R.files resolver.old)
+    ensures err { IsTrue (R.library resolver.old).tells →
+        IfErr result (λ e. ByLookups (R.library resolver.old).files
         (λ lookups. RefusesWith path.now (Some (name.now, asked_path resolved path.now))
         (λ ls. grown ls limit (Some (name.now, asked_path resolved path.now)) done.old)
         (λ ls. open_name_in ls limit (Some (name.now, asked_path resolved path.now)) done.old) lookups done.new e)) }
@@ -80,12 +81,9 @@ fn open_name<R: FileResolver>(
     ensures root { OnErr result (is_done done.new name.now ≡ is_done done.old name.now) }
     ensures again { is_done done.old name.now ≡ true → resolver.new ≡ resolver.old }
     ensures unread { OnOk result (length done.new ≡ length done.old → resolver.new ≡ resolver.old) }
-    ensures cause { IfErr result (HasOpeningCause limit path.now done.new (Rose (R.faults resolver.old) (R.faults resolver.new) (R.at_end resolver.new))) }
-    ensures later { R.faults resolver.old ≤ R.faults resolver.new }
-    ensures keeps_tells { R.tells resolver.new ≡ R.tells resolver.old }
-    ensures keeps_files { IsTrue (R.tells resolver.old) → R.files resolver.new ≡ R.files resolver.old }
-    ensures keeps_resolves { IsTrue (R.tells resolver.old) → R.resolves resolver.new ≡ R.resolves resolver.old }
-    ensures keeps_disk { IsTrue (R.tells resolver.old) → R.disk resolver.new ≡ R.disk resolver.old }
+    ensures cause { IfErr result (HasOpeningCause limit path.now done.new (FaultCause (R.library resolver.old) (R.count resolver.old) (R.count resolver.new))) }
+    ensures later { Later (R.count resolver.old) (R.count resolver.new) }
+    ensures keeps { R.library resolver.new ≡ R.library resolver.old }
 {
     if done.contains(name) {
         return open_again(alloc, done, name, resolved, path);
@@ -107,22 +105,19 @@ pub(crate) fn open_path<R: FileResolver>(
     done: &mut Compiled,
     path: &str,
 ) -> Result<(), Error>
-    ensures ok { IsTrue (R.tells resolver.old) →
-        OnOk result (ByLookups (R.files resolver.old)
-        (λ lookups. opening lookups (R.resolves resolver.old) limit path.now done.old ≡ (done.new, Accepted))) }
-    ensures err { IsTrue (R.tells resolver.old) →
-        IfErr result (λ e. ByLookups (R.files resolver.old)
-        (λ lookups. RefusesOpening lookups (R.resolves resolver.old) limit path.now done.old done.new e)) }
+    ensures ok { IsTrue (R.library resolver.old).tells →
+        OnOk result (ByLookups (R.library resolver.old).files
+        (λ lookups. opening lookups (R.library resolver.old).resolves limit path.now done.old ≡ (done.new, Accepted))) }
+    ensures err { IsTrue (R.library resolver.old).tells →
+        IfErr result (λ e. ByLookups (R.library resolver.old).files
+        (λ lookups. RefusesOpening lookups (R.library resolver.old).resolves limit path.now done.old done.new e)) }
     ensures opens { OnOk result (Opens done.old done.new) }
     ensures grows { OnErr result (Grows done.old done.new) }
-    ensures again { IsTrue (R.tells resolver.old) → is_settled (root_of (R.resolves resolver.old) path.now) done.old ≡ true → resolver.new ≡ resolver.old }
+    ensures again { IsTrue (R.library resolver.old).tells → is_settled (root_of (R.library resolver.old).resolves path.now) done.old ≡ true → resolver.new ≡ resolver.old }
     ensures unread { OnOk result (length done.new ≡ length done.old → resolver.new ≡ resolver.old) }
-    ensures cause { IfErr result (HasOpeningCause limit path.now done.new (Rose (R.faults resolver.old) (R.faults resolver.new) (R.at_end resolver.new))) }
-    ensures later { R.faults resolver.old ≤ R.faults resolver.new }
-    ensures keeps_tells { R.tells resolver.new ≡ R.tells resolver.old }
-    ensures keeps_files { IsTrue (R.tells resolver.old) → R.files resolver.new ≡ R.files resolver.old }
-    ensures keeps_resolves { IsTrue (R.tells resolver.old) → R.resolves resolver.new ≡ R.resolves resolver.old }
-    ensures keeps_disk { IsTrue (R.tells resolver.old) → R.disk resolver.new ≡ R.disk resolver.old }
+    ensures cause { IfErr result (HasOpeningCause limit path.now done.new (FaultCause (R.library resolver.old) (R.count resolver.old) (R.count resolver.new))) }
+    ensures later { Later (R.count resolver.old) (R.count resolver.new) }
+    ensures keeps { R.library resolver.new ≡ R.library resolver.old }
 {
     match root_by(resolver, alloc, path) {
         Ok(Some((name, resolved))) => open_name(

@@ -1,7 +1,8 @@
 ghost use Rattle.std.specs.Prelude.{◌≡◌, ◌≤◌, ◌<◌, ◌^◌, ◌+◌, ◌∷◌, IfOk, IfErr, OnOk, IsTrue, ℕ, List, length};
 ghost use Rattle.std.specs.Str.{bytes_eq};
 ghost use Rattle.pbx_definitions.specs.Names.{among};
-ghost use Rattle.protox_io.specs.Count.{Rose};
+ghost use Rattle.protox_io.specs.Count.{Later};
+ghost use Rattle.protox_file.specs.Causes.{FaultCause};
 ghost use Rattle.protox_file.specs.Told.{Told};
 ghost use Rattle.protox_compile.specs.Walk.{imports_of};
 ghost use Rattle.protox_compile.specs.Refusals.{HasStepCause};
@@ -46,7 +47,7 @@ pub(crate) fn next_import(
     requires { current.now.next < length (imports_of current.now.entry) }
     ensures ok { IfOk result (AdvancesOrVisits current.now parents.now done.now) }
     ensures err { (files : List ℕ → Told) (limit : ℕ) → IfErr result (λ e. EndsWalks files limit (current.now ∷ parents.now) done.now e done.now) }
-    ensures cause { (limit : ℕ) → IfErr result (HasStepCause limit done.now ⊥) }
+    ensures cause { (limit : ℕ) → IfErr result (HasStepCause limit done.now (λ _. ⊥)) }
 {
     let name = current.import();
     if current.lists_before(name) {
@@ -77,18 +78,15 @@ pub(crate) fn open_import<R: FileResolver>(
     requires more { current.now.next < length (imports_of current.now.entry) }
     requires visit { IsVisit current.now parents.now done.now name.now }
     requires room { length done.now + length parents.now + 1 ≤ limit }
-    ensures child { IsTrue (R.tells resolver.old) →
-        IfOk result (λ child. LeadsTo (R.files resolver.old) limit (current.now ∷ parents.now) done.now
+    ensures child { IsTrue (R.library resolver.old).tells →
+        IfOk result (λ child. LeadsTo (R.library resolver.old).files limit (current.now ∷ parents.now) done.now
         (child ∷ past current.now ∷ parents.now) done.now) }
     ensures fresh { IfOk result (λ child. (child.name ≡ name.now) × (child.next ≡ 0) × (length (imports_of child.entry) < 2 ^ 64)) }
     ensures room { OnOk result (length done.now + length parents.now + 2 ≤ limit) }
-    ensures err { IsTrue (R.tells resolver.old) → IfErr result (λ e. EndsWalks (R.files resolver.old) limit (current.now ∷ parents.now) done.now e done.now) }
-    ensures cause { IfErr result (HasStepCause limit done.now (Rose (R.faults resolver.old) (R.faults resolver.new) (R.at_end resolver.new))) }
-    ensures later { R.faults resolver.old ≤ R.faults resolver.new }
-    ensures keeps_tells { R.tells resolver.new ≡ R.tells resolver.old }
-    ensures keeps_files { IsTrue (R.tells resolver.old) → R.files resolver.new ≡ R.files resolver.old }
-    ensures keeps_resolves { IsTrue (R.tells resolver.old) → R.resolves resolver.new ≡ R.resolves resolver.old }
-    ensures keeps_disk { IsTrue (R.tells resolver.old) → R.disk resolver.new ≡ R.disk resolver.old }
+    ensures err { IsTrue (R.library resolver.old).tells → IfErr result (λ e. EndsWalks (R.library resolver.old).files limit (current.now ∷ parents.now) done.now e done.now) }
+    ensures cause { IfErr result (HasStepCause limit done.now (FaultCause (R.library resolver.old) (R.count resolver.old) (R.count resolver.new))) }
+    ensures later { Later (R.count resolver.old) (R.count resolver.new) }
+    ensures keeps { R.library resolver.new ≡ R.library resolver.old }
 {
     if done.len() + parents.len() + 1 >= limit as usize {
         return Err(too_many(limit));

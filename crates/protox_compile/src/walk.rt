@@ -1,5 +1,6 @@
 ghost use Rattle.std.specs.Prelude.{◌≡◌, ◌≤◌, ◌<◌, ◌^◌, ◌+◌, ◌∷◌, [], true, false, IfOk, IfErr, OnOk, OnErr, IsTrue, length, ◌++◌};
-ghost use Rattle.protox_io.specs.Count.{Rose};
+ghost use Rattle.protox_io.specs.Count.{Later};
+ghost use Rattle.protox_file.specs.Causes.{FaultCause};
 ghost use Rattle.protox_file.specs.Told.{ByLookups};
 ghost use Rattle.protox_compile.specs.Walk.{imports_of, visits, Finished, is_done};
 ghost use Rattle.protox_compile.specs.Opening.{asked_path};
@@ -42,15 +43,12 @@ fn finish_all<R: FileResolver>(
     ensures root { OnErr result (is_done done.new root.name ≡ false) }
     ensures there { OnOk result (is_done done.new root.name ≡ true) }
     ensures grows { Grows done.old done.new }
-    ensures ok { IsTrue (R.tells resolver.old) → (walk : Walk) → Follows (R.files resolver.old) walk limit (root ∷ []) done.old →
-        OnOk result (ByLookups (R.files resolver.old) (λ lookups. walk lookups ≡ (done.new, Finished))) }
-    ensures err { IsTrue (R.tells resolver.old) → IfErr result (λ e. EndsWalks (R.files resolver.old) limit (root ∷ []) done.old e done.new) }
-    ensures cause { IfErr result (HasStepCause limit done.new (Rose (R.faults resolver.old) (R.faults resolver.new) (R.at_end resolver.new))) }
-    ensures later { R.faults resolver.old ≤ R.faults resolver.new }
-    ensures keeps_tells { R.tells resolver.new ≡ R.tells resolver.old }
-    ensures keeps_files { IsTrue (R.tells resolver.old) → R.files resolver.new ≡ R.files resolver.old }
-    ensures keeps_resolves { IsTrue (R.tells resolver.old) → R.resolves resolver.new ≡ R.resolves resolver.old }
-    ensures keeps_disk { IsTrue (R.tells resolver.old) → R.disk resolver.new ≡ R.disk resolver.old }
+    ensures ok { IsTrue (R.library resolver.old).tells → (walk : Walk) → Follows (R.library resolver.old).files walk limit (root ∷ []) done.old →
+        OnOk result (ByLookups (R.library resolver.old).files (λ lookups. walk lookups ≡ (done.new, Finished))) }
+    ensures err { IsTrue (R.library resolver.old).tells → IfErr result (λ e. EndsWalks (R.library resolver.old).files limit (root ∷ []) done.old e done.new) }
+    ensures cause { IfErr result (HasStepCause limit done.new (FaultCause (R.library resolver.old) (R.count resolver.old) (R.count resolver.new))) }
+    ensures later { Later (R.count resolver.old) (R.count resolver.new) }
+    ensures keeps { R.library resolver.new ≡ R.library resolver.old }
 {
     let mut current = root;
     let mut parents = Stack::new(alloc);
@@ -109,19 +107,16 @@ pub(crate) fn visit_root<R: FileResolver>(
     ensures root { OnErr result (is_done done.new root.now ≡ false) }
     ensures there { OnOk result (is_done done.new root.now ≡ true) }
     ensures grows { Grows done.old done.new }
-    ensures ok { IsTrue (R.tells resolver.old) →
-        OnOk result (ByLookups (R.files resolver.old)
+    ensures ok { IsTrue (R.library resolver.old).tells →
+        OnOk result (ByLookups (R.library resolver.old).files
         (λ lookups. visits lookups limit [] (asked_path resolved path.now) root.now done.old ≡ (done.new, Finished))) }
-    ensures err { IsTrue (R.tells resolver.old) →
-        IfErr result (λ e. ByLookups (R.files resolver.old)
+    ensures err { IsTrue (R.library resolver.old).tells →
+        IfErr result (λ e. ByLookups (R.library resolver.old).files
         (λ lookups. Ends root.now e (λ ls. visits ls limit [] (asked_path resolved path.now) root.now done.old) lookups done.new)) }
     ensures cause { IfErr result
-        (HasRootCause (asked_path resolved path.now) limit done.new (Rose (R.faults resolver.old) (R.faults resolver.new) (R.at_end resolver.new))) }
-    ensures later { R.faults resolver.old ≤ R.faults resolver.new }
-    ensures keeps_tells { R.tells resolver.new ≡ R.tells resolver.old }
-    ensures keeps_files { IsTrue (R.tells resolver.old) → R.files resolver.new ≡ R.files resolver.old }
-    ensures keeps_resolves { IsTrue (R.tells resolver.old) → R.resolves resolver.new ≡ R.resolves resolver.old }
-    ensures keeps_disk { IsTrue (R.tells resolver.old) → R.disk resolver.new ≡ R.disk resolver.old }
+        (HasRootCause (asked_path resolved path.now) limit done.new (FaultCause (R.library resolver.old) (R.count resolver.old) (R.count resolver.new))) }
+    ensures later { Later (R.count resolver.old) (R.count resolver.new) }
+    ensures keeps { R.library resolver.new ≡ R.library resolver.old }
 {
     if done.len() >= limit as usize {
         return Err(too_many(limit));

@@ -1,4 +1,3 @@
-pub mod Said
 pub mod Lookups
 pub mod Puts
 pub mod Readings

@@ -1,8 +1,9 @@
-pub mod Errors
-pub mod Lines
+pub mod Library
 pub mod Told
 pub mod Causes
 pub mod Memory
 pub mod Metadata
 pub mod Include
 pub mod Google
+pub mod Laws
+pub mod Encoded

@@ -1,11 +1,12 @@
 -- What a resolver in memory holds.
-use Rattle.std.specs.Prelude.{◌≡◌, ℕ, ◌==◌, List, [], ◌∷◌, Bool, true, Option, Some, None, Result, Err, codes, if◌then◌else◌}
+use Rattle.std.specs.Prelude.{◌≡◌, ℕ, ◌==◌, List, [], ◌∷◌, Bool, true, false, ◌&&◌, Option, Some, None, Result, Err, codes, if◌then◌else◌}
 use Rattle.std.specs.List.{list_any}
 use Rattle.std.specs.Str.{bytes_eq}
-use Rattle.protox_file.specs.declared.error.ErrorKind.{ErrorKind}
-use Rattle.protox_file.specs.declared.error.ErrorKind.TheVariants.{OpenFile, Custom, NoMemory}
+use Rattle.protox_error.specs.declared.error.ErrorKind.{ErrorKind}
+use Rattle.protox_error.specs.declared.error.ErrorKind.TheVariants.{OpenFile, Custom, NoMemory}
 use Rattle.protox_file.specs.declared.memory.Put.{Put}
 use Rattle.protox_file.specs.declared.memory.Put.TheVariants.{Source, File}
+use Rattle.protox_file.specs.Library.{Library}
 use Rattle.protox_file.specs.Told.{Entry, Told, Absent, Recorded, told_source}
 
 -- what a source, or a file, tells that was put under a name
@@ -31,6 +32,15 @@ stored_as (f ∷ fs) name = if bytes_eq f.0 name then told_put f.1 else stored_a
 abbrev pub named_by : List (List ℕ × List ℕ) → List ℕ → Option (List ℕ)
 named_by [] path = None
 named_by (n ∷ ns) path = if bytes_eq n.0 path then Some n.1 else named_by ns path
+
+-- the fault of a call that is listed
+abbrev pub is_injected : ErrorKind → Bool
+is_injected (Custom text is_io) = bytes_eq text (codes "failed to load file!") && is_io
+is_injected error = false
+
+-- what contracts see of it
+abbrev pub library : ResolverState → Library
+library r = record { tells = true; files = stored_as r.files; resolves = named_by r.names; may_fail = λ name. is_injected; disks = [] }
 
 -- whether the next call is listed
 abbrev pub is_listed : ResolverState → Bool

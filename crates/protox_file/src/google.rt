@@ -1,14 +1,14 @@
 //! The built-in files.
 
-ghost use Rattle.std.specs.Prelude.{◌≡◌, None, true, false};
-ghost use Rattle.protox_io.specs.Disk.{Missing};
-ghost use Rattle.protox_file.specs.Google.{pooled_as};
+ghost use Rattle.std.specs.Prelude.{◌≡◌};
+ghost use Rattle.protox_io.specs.Count.{counted};
+ghost use Rattle.protox_file.specs.Library.{pooled};
 
-use crate::error::Error;
 use crate::file::File;
 use crate::resolver::FileResolver;
 use pbx_link::DescriptorPool;
 use pbx_wire::{NoMemory, Text};
+use protox_error::Error;
 use std::alloc::Global;
 use std::marker::Model;
 
@@ -42,17 +42,9 @@ impl GoogleFileResolver {
 }
 
 impl FileResolver for GoogleFileResolver {
-    ghost tells = { λ _. true };
+    ghost library = { pooled };
 
-    ghost files = { pooled_as };
-
-    ghost resolves = { λ _ _. None };
-
-    ghost disk = { λ _ _. Missing };
-
-    ghost faults = { λ _. 0 };
-
-    ghost at_end = { λ _. false };
+    ghost count = { λ _. counted 0 };
 
     fn resolve_path(&self, _alloc: Global, _path: &str) -> Result<Option<Text>, NoMemory> {
         Ok(None)

@@ -1,11 +1,10 @@
 ghost use Rattle.std.specs.Prelude.{◌≡◌};
-ghost use Rattle.protox_paths.specs.Paths.{resolved};
-ghost use Rattle.protox_file.specs.Told.{told_below};
+ghost use Rattle.protox_file.specs.Library.{below};
 
-use crate::error::Error;
 use crate::file::File;
 use crate::resolver::FileResolver;
 use pbx_wire::{NoMemory, Text};
+use protox_error::Error;
 use protox_io::Disk;
 use protox_paths::{join_path, path_to_file_name, strip_prefix};
 use std::alloc::Global;
@@ -43,17 +42,9 @@ impl<D: Disk> IncludeFileResolver<D> {
 }
 
 impl<D: Disk> FileResolver for IncludeFileResolver<D> {
-    ghost tells = { λ r. D.tells r.disk };
+    ghost library = { λ r. below (D.volume r.disk) r.include };
 
-    ghost files = { λ r. told_below (D.holds r.disk) r.include };
-
-    ghost resolves = { λ r. resolved r.include };
-
-    ghost disk = { λ r. D.holds r.disk };
-
-    ghost faults = { λ r. D.faults r.disk };
-
-    ghost at_end = { λ r. D.at_end r.disk };
+    ghost count = { λ r. D.count r.disk };
 
     fn resolve_path(&self, alloc: Global, path: &str) -> Result<Option<Text>, NoMemory> {
         match strip_prefix(path, self.include.as_str()) {

@@ -1,17 +1,17 @@
 ghost use Rattle.std.specs.Prelude.{◌≡◌, ◌≤◌, ◌∷◌, ◌++◌, ◌==◌, ◌^◌, ◌-◌, [], ℕ, List, Some, None, All, OnOk, OnErr, IfOk, IfErr, IfSome};
 ghost use Rattle.std.specs.Prelude.{IsTrue, IsFalse, MatchOption, true, if◌then◌else◌};
 ghost use Rattle.std.specs.Option.{option_copied};
-ghost use Rattle.protox_io.specs.Count.{Rose, raised};
-ghost use Rattle.protox_io.specs.Disk.{Missing};
+ghost use Rattle.protox_io.specs.Count.{Rose, Later, raised, counted};
+ghost use Rattle.protox_file.specs.Library.{never};
 ghost use Rattle.protox_file.specs.Causes.{HasCause, IsTold};
-ghost use Rattle.protox_file.specs.Memory.{told_put, stored_as, named_by, is_listed, IsFault, NoFault};
+ghost use Rattle.protox_file.specs.Memory.{library, told_put, stored_as, named_by, is_listed, IsFault, NoFault};
 ghost use Rattle.protox_paths.specs.Paths.{name_of};
 ghost use Rattle.protox_file.specs.Told.{Absent, Recorded, told_source};
 
-use crate::error::Error;
 use crate::file::File;
 use crate::resolver::FileResolver;
 use pbx_wire::{NoMemory, Text};
+use protox_error::Error;
 use std::alloc::Global;
 use std::marker::Model;
 
@@ -148,8 +148,8 @@ impl MemoryResolver {
         ensures files { self.new.files ≡ self.old.files }
         ensures names { self.new.names ≡ self.old.names }
         ensures keeps_listed { self.new.listed ≡ self.old.listed }
-        ensures rose { IsTrue result → Rose self.old.faults self.new.faults (self.new.faults == 2 ^ 64 - 1) }
-        ensures later { self.old.faults ≤ self.new.faults }
+        ensures rose { IsTrue result → Rose (counted self.old.faults) (counted self.new.faults) }
+        ensures later { Later (counted self.old.faults) (counted self.new.faults) }
     {
         let call = self.calls;
         self.calls = self.calls.saturating_add(1);
@@ -189,7 +189,7 @@ fn find_name<'a>(names: &'a [(Text, Text)], path: &str) -> Option<&'a Text>
 /// The file of what was put under the name.
 fn open(alloc: Global, name: &str, put: &Put) -> Result<File, Error>
     ensures told { IsTold name.now (told_put put.now) result }
-    ensures cause { IfErr result (HasCause name.now ⊥) }
+    ensures cause { IfErr result (HasCause never name.now ⊥) }
 {
     match put {
         Put::Source(source) => File::from_source(alloc, name, source.as_str()),
@@ -198,17 +198,9 @@ fn open(alloc: Global, name: &str, put: &Put) -> Result<File, Error>
 }
 
 impl FileResolver for MemoryResolver {
-    ghost tells = { λ _. true };
+    ghost library = { library };
 
-    ghost files = { λ r. stored_as r.files };
-
-    ghost resolves = { λ r. named_by r.names };
-
-    ghost disk = { λ _ _. Missing };
-
-    ghost faults = { λ r. r.faults };
-
-    ghost at_end = { λ r. r.faults == 2 ^ 64 - 1 };
+    ghost count = { λ r. counted r.faults };
 
     fn resolve_path(&self, alloc: Global, path: &str) -> Result<Option<Text>, NoMemory> {
         match find_name(&self.names, path) {
@@ -226,8 +218,9 @@ impl FileResolver for MemoryResolver {
         ensures keeps_listed { self.new.listed ≡ self.old.listed }
         ensures keeps_files { self.new.files ≡ self.old.files }
         ensures keeps_names { self.new.names ≡ self.old.names }
-        ensures cause { IfErr result (HasCause name.now (Rose self.old.faults self.new.faults (self.new.faults == 2 ^ 64 - 1))) }
-        ensures later { self.old.faults ≤ self.new.faults }
+        ensures keeps { library self.new ≡ library self.old }
+        ensures cause { IfErr result (HasCause (library self.old).may_fail name.now (Rose (counted self.old.faults) (counted self.new.faults))) }
+        ensures later { Later (counted self.old.faults) (counted self.new.faults) }
     {
         if self.fails() {
             return Err(Error::from_io(alloc, "failed to load file!"));

@@ -4,11 +4,14 @@
 //! what is done, and what it is done with. `stdin` has the rows, and `stdout` the answers that they must have.
 #![tactic(auto)]
 
+mod built_in;
 mod disks;
 mod errors;
 mod files;
+mod over;
 mod paths;
 mod resolvers;
+mod sets;
 mod step;
 mod streams;
 mod told;
@@ -35,6 +38,7 @@ fn answer_alone(alloc: Global, row: &Row, told: &mut Told) {
         "file of record" => files::of_record(alloc, row, told),
         "record into file" => files::converted(alloc, row, told),
         "metadata" => files::metadata(alloc, row, told),
+        "built-in file" => built_in::open(alloc, row, told),
         "source" => streams::source(alloc, row, told),
         "source to its end" => streams::source_to_end(alloc, row, told),
         "sink" => streams::sink(alloc, row, told),
@@ -50,7 +54,11 @@ fn answer<R: Files + AllocGlobal>(rt: &R, row: &Row, told: &mut Told) {
         "walk over one" => untold::walk_over_one(rt.alloc(), row, told),
         "walk over none" => untold::walk_over_none(rt.alloc(), row, told),
         "resolver" => resolvers::of_memory(rt.alloc(), row, told),
+        "walk over folders" => walk::over_folders(rt.alloc(), row, told),
         "folder" => resolvers::of_folder(rt.alloc(), row, told),
+        "folders" => over::of_folders(rt.alloc(), row, told),
+        "chain" => over::of_chain(rt.alloc(), row, told),
+        "set" => over::of_set(rt.alloc(), row, told),
         "disk" => disks::of_memory(rt.alloc(), row, told),
         "real disk" => disks::real(rt, row, told),
         "real streams" => streams::real(rt, row, told),

@@ -117,15 +117,30 @@ fn put(alloc: Global, resolver: &mut MemoryResolver, step: Step<'_>) -> Result<(
     }
 }
 
-/// A resolver with what the steps of a row put.
-pub(crate) fn filled(alloc: Global, row: &Row, told: &mut Told) -> MemoryResolver {
+/// A resolver with what the steps of a row put in the member of that number: each step `next` begins a further member.
+pub(crate) fn filled_member(
+    alloc: Global,
+    row: &Row,
+    member: usize,
+    told: &mut Told,
+) -> MemoryResolver {
     let mut resolver = MemoryResolver::new(alloc);
+    let mut at: usize = 0;
     for number in 0..steps(row) {
-        if put(alloc, &mut resolver, step_at(row, number)).is_err() {
+        let step = step_at(row, number);
+        if step.word == "next" {
+            at = at.saturating_add(1);
+        }
+        if at == member && put(alloc, &mut resolver, step).is_err() {
             told.say("out of memory");
         }
     }
     resolver
+}
+
+/// A resolver with what the steps of a row put.
+pub(crate) fn filled(alloc: Global, row: &Row, told: &mut Told) -> MemoryResolver {
+    filled_member(alloc, row, 0, told)
 }
 
 /// Adds what is wrong, of which of a fault of the text only the file is told.
@@ -178,7 +193,12 @@ fn resolve<R: FileResolver>(alloc: Global, resolver: &R, path: &str, told: &mut 
 }
 
 /// Takes the steps of a row.
-fn take_steps<R: FileResolver>(alloc: Global, row: &Row, resolver: &mut R, told: &mut Told) {
+pub(crate) fn take_steps<R: FileResolver>(
+    alloc: Global,
+    row: &Row,
+    resolver: &mut R,
+    told: &mut Told,
+) {
     for number in 0..steps(row) {
         let step = step_at(row, number);
         match step.word {

@@ -1,8 +1,8 @@
 //! Resolvers that do not tell what they have.
 
-ghost use Rattle.std.specs.Prelude.{true, false, None};
-ghost use Rattle.protox_io.specs.Disk.{Missing};
-ghost use Rattle.protox_file.specs.Told.{Absent};
+ghost use Rattle.std.specs.Prelude.{true};
+ghost use Rattle.protox_io.specs.Count.{counted};
+ghost use Rattle.protox_file.specs.Library.{unknown};
 
 use crate::told::Told;
 use crate::walk;
@@ -18,17 +18,9 @@ struct Once {
 }
 
 impl FileResolver for Once {
-    ghost tells = { λ _. false };
+    ghost library = { λ _. unknown };
 
-    ghost files = { λ _ _. Absent };
-
-    ghost resolves = { λ _ _. None };
-
-    ghost disk = { λ _ _. Missing };
-
-    ghost faults = { λ _. 0 };
-
-    ghost at_end = { λ _. false };
+    ghost count = { λ _. counted 0 };
 
     fn resolve_path(&self, _alloc: Global, _path: &str) -> Result<Option<Text>, NoMemory> {
         Ok(None)
@@ -52,17 +44,9 @@ impl FileResolver for Once {
 struct Never;
 
 impl FileResolver for Never {
-    ghost tells = { λ _. false };
+    ghost library = { λ _. unknown };
 
-    ghost files = { λ _ _. Absent };
-
-    ghost resolves = { λ _ _. None };
-
-    ghost disk = { λ _ _. Missing };
-
-    ghost faults = { λ _. 0 };
-
-    ghost at_end = { λ _. true };
+    ghost count = { λ _. record { faults = 0; spent = true } };
 
     fn resolve_path(&self, _alloc: Global, _path: &str) -> Result<Option<Text>, NoMemory> {
         Ok(None)

@@ -1,9 +1,11 @@
 //! Questions about files with all that they import. The steps of a row put files, set limits and open paths.
 
 use crate::errors::{add_long_line, sort};
+use crate::over::{filled_disk, folders};
 use crate::resolvers;
 use crate::step::{Step, add_texts, small_number, step_at, steps};
 use crate::told::Told;
+use pbx_desc_records::FieldDescriptorProto;
 use pbx_link::DescriptorPool;
 use pbx_wire::Texts;
 use protox_compile::Compiler;
@@ -159,6 +161,33 @@ fn say_paths<R: FileResolver>(compiler: &Compiler<R>, told: &mut Told) {
     }
 }
 
+/// Adds whether an extension is `optional`, and the index of its oneof.
+fn add_presence(field: &FieldDescriptorProto, told: &mut Told) {
+    told.say(match field.proto3_optional {
+        Some(true) => "optional",
+        _ => "not optional",
+    });
+    match field.oneof_index {
+        Some(_) => told.add(", in a oneof"),
+        None => told.add(", in no oneof"),
+    }
+}
+
+/// The extensions at the top of the last file.
+fn say_extension(alloc: Global, pool: &DescriptorPool, told: &mut Told) {
+    let Some(file) = pool.files().last() else {
+        told.say("no file");
+        return;
+    };
+    let Ok(record) = file.file_descriptor_proto(alloc) else {
+        told.say("out of memory");
+        return;
+    };
+    for field in record.extension.as_slice() {
+        add_presence(field, told);
+    }
+}
+
 /// Sets the limit of files, maybe after another.
 fn set_limit<R: FileResolver>(compiler: &mut Compiler<R>, step: Step<'_>) {
     if !step.name.is_empty() {
@@ -189,6 +218,7 @@ fn take<R: FileResolver>(
         "at" => say_record(&compiler.descriptor_pool(), step.text, told),
         "earlier" => earlier(alloc, compiler, step, told),
         "paths" => say_paths(compiler, told),
+        "extension" => say_extension(alloc, &compiler.descriptor_pool(), told),
         _ => {}
     }
 }
@@ -231,4 +261,18 @@ pub(crate) fn over<R: FileResolver + Drop>(alloc: Global, row: &Row, resolver: R
 pub(crate) fn of_memory(alloc: Global, row: &Row, told: &mut Told) {
     let resolver = resolvers::filled(alloc, row, told);
     over(alloc, row, resolver, told);
+}
+
+/// The same over the folders of a disk in memory and the built-in files.
+pub(crate) fn over_folders(alloc: Global, row: &Row, told: &mut Told) {
+    let disk = filled_disk(alloc, row, told);
+    let Ok(folders) = folders(alloc, row) else {
+        told.say("out of memory");
+        drop(disk);
+        return;
+    };
+    match Compiler::new(alloc, disk, &folders) {
+        Ok(mut compiler) => take_steps(alloc, row, &mut compiler, told),
+        Err(_) => told.say("out of memory"),
+    }
 }

@@ -1,8 +1,8 @@
 -- What follows from a call's cause, over calls in a row.
 use Rattle.std.specs.List.{flat_map}
-use Rattle.std.proofs.Common.{◌≡◌, ◌≤◌, ◌<◌, ◌+◌, ◌++◌, ◌∙◌, ℕ, Bool, List, [], inl, inr, sym, ap, length, drop, get_or, add-one, drop-cons, arith, append_assoc, refl, Err, append-nil}
+use Rattle.std.proofs.Common.{◌≡◌, ◌<◌, ◌+◌, ◌++◌, ◌∙◌, ℕ, List, [], inl, inr, sym, ap, length, drop, get_or, add-one, drop-cons, arith, append_assoc, refl, Err, append-nil}
 use Rattle.std.proofs.lemmas.List.{length-append}
-use Rattle.protox_io.specs.Count.{Rose}
+use Rattle.protox_io.specs.Count.{Count, Rose, Later}
 use Rattle.protox_io.specs.Read.{ReadsAll, Reads, ReadFails, BlockFails}
 use Rattle.protox_io.specs.Sink.{RefusesFor, Appends, Begins}
 use Rattle.protox_io.specs.declared.read.ReadFault.{ReadFault}
@@ -10,23 +10,29 @@ use Rattle.protox_io.specs.declared.read.ReadFault.TheVariants.{Failed, TooLong,
 use Rattle.protox_io.specs.declared.stream.SinkError.{SinkError}
 use Rattle.protox_io.specs.declared.stream.SinkError.TheVariants as sink
 
-pub rose_later : (a b c : ℕ) (s : Bool) → a ≤ b → Rose b c s → Rose a c s
-rose_later a b c s h (inl rose) = inl (omega arith)
-rose_later a b c s h (inr spent) = inr spent
+pub later_again : (a b c : Count) → Later a b → Later b c → Later a c
+later_again a b c h i = record { faults = omega (arith, h.faults, i.faults); spent = λ s. i.spent (h.spent s) }
 
-pub block_fails : (a b c : ℕ) (s : Bool) (fault : ReadFault) → a ≤ b → BlockFails (Rose b c s) fault → ReadFails (Rose a c s) fault
-block_fails a b c s Failed h rose = rose_later a b c s h rose
-block_fails a b c s TooLong h never = absurd never
-block_fails a b c s NoMemory h u = u
+pub later_same : (a : Count) → Later a a
+later_same a = record { faults = omega arith; spent = λ s. s }
+
+pub rose_later : (a b c : Count) → Later a b → Rose b c → Rose a c
+rose_later a b c h (inl rose) = inl (omega (arith, h.faults, rose))
+rose_later a b c h (inr spent) = inr spent
+
+pub block_fails : (a b c : Count) (fault : ReadFault) → Later a b → BlockFails (Rose b c) fault → ReadFails (Rose a c) fault
+block_fails a b c Failed h rose = rose_later a b c h rose
+block_fails a b c TooLong h never = absurd never
+block_fails a b c NoMemory h u = u
 
 pub block_told : (rose : Type 0) (limit : ℕ) (left later : List ℕ) (fault : ReadFault) → BlockFails rose fault → ReadsAll limit left later (Err fault)
 block_told rose limit left later Failed r = tt
 block_told rose limit left later TooLong never = absurd never
 block_told rose limit left later NoMemory u = tt
 
-pub refuses_later : (short : Type 0) (a b c : ℕ) (s : Bool) (error : SinkError) → a ≤ b → RefusesFor (Rose b c s) short error → RefusesFor (Rose a c s) short error
-refuses_later short a b c s sink.Failed h rose = rose_later a b c s h rose
-refuses_later short a b c s sink.NoMemory h r = r
+pub refuses_later : (short : Type 0) (a b c : Count) (error : SinkError) → Later a b → RefusesFor (Rose b c) short error → RefusesFor (Rose a c) short error
+refuses_later short a b c sink.Failed h rose = rose_later a b c h rose
+refuses_later short a b c sink.NoMemory h r = r
 
 pub over_limit : (bytes left all : List ℕ) (limit : ℕ) → bytes ++ left ≡ all → limit < length bytes → limit < length all
 over_limit bytes left all limit e h = omega (arith, ap length e, length-append bytes left)

@@ -4,3 +4,5 @@ pub mod Keys
 pub mod Walk
 pub mod Under
 pub mod Examples
+pub mod Showing
+pub mod Plain

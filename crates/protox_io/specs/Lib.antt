@@ -5,3 +5,4 @@ pub mod Disk
 pub mod Memory
 pub mod Sink
 pub mod Read
+pub mod Shown

@@ -1,7 +1,12 @@
 -- What reading a source to its end says of its bytes (as `std::io::Read::read_to_end` of Rust's documentation, with a limit).
-use Rattle.std.specs.Prelude.{◌≡◌, ◌++◌, ◌≤◌, ◌<◌, [], ℕ, List, Result, Ok, Err, length}
+use Rattle.std.specs.Prelude.{◌≡◌, ◌++◌, ◌≤◌, ◌<◌, [], ℕ, List, Bool, Result, Ok, Err, length}
 use Rattle.protox_io.specs.declared.read.ReadFault.{ReadFault}
 use Rattle.protox_io.specs.declared.read.ReadFault.TheVariants.{Failed, TooLong, NoMemory}
+
+-- what contracts see of a source: whether it tells what it holds, and the bytes that are left
+pub record Input : Type 0 where
+  pub tells : Bool
+  pub left : List ℕ
 
 -- all that was left was read, or more than the limit was left
 abbrev pub ReadsAll : ℕ → List ℕ → List ℕ → Result (List ℕ) ReadFault → Type 0

@@ -1,7 +1,7 @@
-ghost use Rattle.std.specs.Prelude.{◌≡◌, ◌≤◌, IsTrue, OnOk, ℕ, Bool, List};
-ghost use Rattle.protox_io.specs.Count.{Rose};
-ghost use Rattle.protox_io.specs.Disk.{Held, Stored, IsHeld, FailsByCount};
-ghost use Rattle.protox_io.specs.Paths.{Component, disk_key};
+ghost use Rattle.std.specs.Prelude.{◌≡◌, IsTrue};
+ghost use Rattle.protox_io.specs.Count.{Count, Rose, Later};
+ghost use Rattle.protox_io.specs.Disk.{Volume, IsHeld, Writes, FailsByCount};
+ghost use Rattle.protox_io.specs.Paths.{disk_key};
 
 use pbx_wire::{Blob, Text};
 use std::alloc::Global;
@@ -30,39 +30,31 @@ pub enum DiskError {
 }
 
 /// Files by path, as a compiler reads its sources and writes its descriptor set. Paths are relative to a folder of the
-/// disk's own choice, or begin at its root with `/`. Two paths are one file where they have one key: without `.`, and
-/// with each `..` carried out.
+/// disk's own choice, or begin at its root with `/`. On a disk that tells, two paths are one file where they have one key:
+/// without `.`, and with each `..` carried out.
 pub trait Disk {
-    /// Whether it tells what it holds.
-    ghost tells: { Self → Bool };
-
-    /// What stands at each key.
-    ghost holds: { Self → List Component → Held };
+    /// Whether it tells what it holds, what stands at each key, and the keys that a refused write has spoiled.
+    ghost volume: { Self → Volume };
 
     /// How often it has failed.
-    ghost faults: { Self → ℕ };
-
-    /// Whether that count stands at its end.
-    ghost at_end: { Self → Bool };
+    ghost count: { Self → Count };
 
     /// Reads the whole file at a path. Reading changes no file.
     fn read_file(&mut self, alloc: Global, path: &str) -> Result<DiskAnswer, DiskError>
-        ensures told { IsTrue (tells self.old) → IsHeld (holds self.old (disk_key path.now)) result }
-        ensures cause { FailsByCount (Rose (faults self.old) (faults self.new) (at_end self.new)) result }
-        ensures later { faults self.old ≤ faults self.new }
-        ensures keeps_tells { tells self.new ≡ tells self.old }
-        ensures keeps_holds { IsTrue (tells self.old) → holds self.new ≡ holds self.old };
+        ensures told { IsTrue (volume self.old).tells → IsHeld ((volume self.old).holds (disk_key path.now)) result }
+        ensures keeps { volume self.new ≡ volume self.old }
+        ensures cause { FailsByCount (Rose (count self.old) (count self.new)) result }
+        ensures later { Later (count self.old) (count self.new) };
 
-    /// Lets the file at a path have these bytes, in place of any that it had. After a refused write nothing is known of
-    /// what stands at the key of the path; all other files stay in either case.
+    /// Lets the file at a path have these bytes, in place of any that it had. After a refused write the key of the path
+    /// is as it was, or spoiled; all other files stay in either case.
     fn write_file(&mut self, alloc: Global, path: &str, bytes: &[u8]) -> Result<(), DiskError>
-        ensures set { IsTrue (tells self.old) → OnOk result (holds self.new (disk_key path.now) ≡ Stored bytes.now) }
-        ensures others { IsTrue (tells self.old) → (key : List Component) → ¬ (key ≡ disk_key path.now) → holds self.new key ≡ holds self.old key }
-        ensures cause { FailsByCount (Rose (faults self.old) (faults self.new) (at_end self.new)) result }
-        ensures later { faults self.old ≤ faults self.new }
-        ensures keeps_tells { tells self.new ≡ tells self.old };
+        ensures told { IsTrue (volume self.old).tells → Writes (disk_key path.now) bytes.now (volume self.old) (volume self.new) result }
+        ensures keeps_tells { (volume self.new).tells ≡ (volume self.old).tells }
+        ensures cause { FailsByCount (Rose (count self.old) (count self.new)) result }
+        ensures later { Later (count self.old) (count self.new) };
 
     /// Whether the count of faults stands at its end, so that a further fault does not raise it.
     fn spent(&self) -> bool
-        ensures { result ≡ at_end self.now };
+        ensures { result ≡ (count self.now).spent };
 }

@@ -7,6 +7,7 @@ mod memory_disk;
 mod memory_stream;
 mod read;
 mod real;
+mod shown;
 mod stream;
 mod write;
 
@@ -15,5 +16,6 @@ pub use memory_disk::MemoryDisk;
 pub use memory_stream::{MemorySink, MemorySource};
 pub use read::{ReadFault, read_to_end};
 pub use real::{RealDisk, RealSink, RealSource};
+pub use shown::{shown_is_plain, write_line, write_shown};
 pub use stream::{Failed, Sink, SinkError, Source};
 pub use write::{write_all, write_pieces};

@@ -1,5 +1,5 @@
 ghost use Rattle.std.specs.Prelude.{◌≡◌, ◌≤◌, ◌<◌, ◌+◌, ◌-◌, ◌^◌, ◌==◌, ◌++◌, [], true, false, if◌then◌else◌, is_err, IfOk, OnErr, IfErr, IsTrue, length, take};
-ghost use Rattle.protox_io.specs.Count.{Rose, raised};
+ghost use Rattle.protox_io.specs.Count.{Rose, Later, raised, counted};
 ghost use Rattle.protox_io.specs.Memory.{is_call};
 ghost use Rattle.protox_io.specs.Sink.{RefusesFor, has_failed, is_short};
 
@@ -46,13 +46,9 @@ impl MemorySource {
 }
 
 impl Source for MemorySource {
-    ghost tells = { λ _. true };
+    ghost input = { λ s. record { tells = true; left = s.left } };
 
-    ghost left = { λ s. s.left };
-
-    ghost faults = { λ s. s.faults };
-
-    ghost at_end = { λ s. s.faults == 2 ^ 64 - 1 };
+    ghost count = { λ s. counted s.faults };
 
     fn read(&mut self, buf: &mut [u8]) -> Result<usize, Failed>
         ensures within { IfOk result (λ n. n ≤ length buf.new) }
@@ -64,8 +60,8 @@ impl Source for MemorySource {
         ensures calls { self.new.calls ≡ raised self.old.calls }
         ensures counts { self.new.faults ≡ (if is_err result then raised self.old.faults else self.old.faults) }
         ensures keeps_fail_at { self.new.fail_at ≡ self.old.fail_at }
-        ensures cause { OnErr result (Rose self.old.faults self.new.faults (self.new.faults == 2 ^ 64 - 1)) }
-        ensures later { self.old.faults ≤ self.new.faults }
+        ensures cause { OnErr result (Rose (counted self.old.faults) (counted self.new.faults)) }
+        ensures later { Later (counted self.old.faults) (counted self.new.faults) }
     {
         let call = self.calls;
         self.calls = self.calls.saturating_add(1);
@@ -134,15 +130,9 @@ impl MemorySink {
 }
 
 impl Sink for MemorySink {
-    ghost tells = { λ _. true };
+    ghost output = { λ s. record { tells = true; held = s.held; short = s.short } };
 
-    ghost held = { λ s. s.held };
-
-    ghost faults = { λ s. s.faults };
-
-    ghost at_end = { λ s. s.faults == 2 ^ 64 - 1 };
-
-    ghost short = { λ s. s.short };
+    ghost count = { λ s. counted s.faults };
 
     fn write(&mut self, bytes: &[u8]) -> Result<usize, SinkError>
         ensures whole { IfOk result (λ n. n ≡ length bytes.now) }
@@ -151,12 +141,13 @@ impl Sink for MemorySink {
         ensures fails { has_failed result ≡ is_call self.old.fail_at self.old.calls }
         ensures calls { self.new.calls ≡ raised self.old.calls }
         ensures counts { self.new.faults ≡ (if has_failed result then raised self.old.faults else self.old.faults) }
+        ensures short { IsTrue self.old.short → IsTrue self.new.short }
         ensures shorts { self.new.short ≡ (if is_short result then true else self.old.short) }
         ensures keeps_fail_at { self.new.fail_at ≡ self.old.fail_at }
         ensures within { IfOk result (λ n. n ≤ length bytes.now) }
         ensures some { IfOk result (λ n. 0 < length bytes.now → 0 < n) }
-        ensures cause { IfErr result (RefusesFor (Rose self.old.faults self.new.faults (self.new.faults == 2 ^ 64 - 1)) (IsTrue self.new.short)) }
-        ensures later { self.old.faults ≤ self.new.faults }
+        ensures cause { IfErr result (RefusesFor (Rose (counted self.old.faults) (counted self.new.faults)) (IsTrue self.new.short)) }
+        ensures later { Later (counted self.old.faults) (counted self.new.faults) }
     {
         let call = self.calls;
         self.calls = self.calls.saturating_add(1);

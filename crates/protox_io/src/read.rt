@@ -1,5 +1,5 @@
 ghost use Rattle.std.specs.Prelude.{◌≡◌, ◌≤◌, ◌<◌, ◌+◌, ◌++◌, [], IsTrue, IfOk, IfErr, length};
-ghost use Rattle.protox_io.specs.Count.{Rose};
+ghost use Rattle.protox_io.specs.Count.{Rose, Later};
 ghost use Rattle.protox_io.specs.Read.{ReadsAll, Reads, ReadFails, BlockFails};
 ghost use Rattle.protox_io.specs.declared.read.ReadFault.TheVariants.{NoMemory as OutOfMemory};
 
@@ -36,13 +36,13 @@ fn read_block<S: Source>(
     bytes: &mut Blob,
 ) -> Result<usize, ReadFault>
     requires { 0 < length block.old }
-    ensures told { IsTrue (S.tells source.old) → IfOk result (λ n. bytes.new ++ S.left source.new ≡ bytes.old ++ S.left source.old) }
-    ensures end { IsTrue (S.tells source.old) → IfOk result (λ n. n ≡ 0 → S.left source.new ≡ []) }
-    ensures front { IsTrue (S.tells source.old) → Reads (S.left source.old) (S.left source.new) }
+    ensures told { IsTrue (S.input source.old).tells → IfOk result (λ n. bytes.new ++ (S.input source.new).left ≡ bytes.old ++ (S.input source.old).left) }
+    ensures end { IsTrue (S.input source.old).tells → IfOk result (λ n. n ≡ 0 → (S.input source.new).left ≡ []) }
+    ensures front { IsTrue (S.input source.old).tells → Reads (S.input source.old).left (S.input source.new).left }
     ensures grows { IfOk result (λ n. length bytes.new ≡ length bytes.old + n) }
-    ensures cause { IfErr result (BlockFails (Rose (S.faults source.old) (S.faults source.new) (S.at_end source.new))) }
-    ensures later { S.faults source.old ≤ S.faults source.new }
-    ensures keeps_tells { S.tells source.new ≡ S.tells source.old }
+    ensures cause { IfErr result (BlockFails (Rose (S.count source.old) (S.count source.new))) }
+    ensures later { Later (S.count source.old) (S.count source.new) }
+    ensures keeps_tells { (S.input source.new).tells ≡ (S.input source.old).tells }
 {
     match source.read(block) {
         Ok(n) => {
@@ -61,11 +61,11 @@ pub fn read_to_end<S: Source>(
     limit: usize,
 ) -> Result<Blob, ReadFault>
     ensures within { IfOk result (λ bytes. length bytes ≤ limit) }
-    ensures told { IsTrue (S.tells source.old) → ReadsAll limit (S.left source.old) (S.left source.new) result }
-    ensures front { IsTrue (S.tells source.old) → Reads (S.left source.old) (S.left source.new) }
-    ensures cause { IfErr result (ReadFails (Rose (S.faults source.old) (S.faults source.new) (S.at_end source.new))) }
-    ensures later { S.faults source.old ≤ S.faults source.new }
-    ensures keeps_tells { S.tells source.new ≡ S.tells source.old }
+    ensures told { IsTrue (S.input source.old).tells → ReadsAll limit (S.input source.old).left (S.input source.new).left result }
+    ensures front { IsTrue (S.input source.old).tells → Reads (S.input source.old).left (S.input source.new).left }
+    ensures cause { IfErr result (ReadFails (Rose (S.count source.old) (S.count source.new))) }
+    ensures later { Later (S.count source.old) (S.count source.new) }
+    ensures keeps_tells { (S.input source.new).tells ≡ (S.input source.old).tells }
 {
     let mut bytes = Blob::new(alloc);
     let mut blocks = [0u8; BLOCK];

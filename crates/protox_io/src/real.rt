@@ -1,6 +1,6 @@
 ghost use Rattle.std.specs.Prelude.{◌≡◌, ◌≤◌, ◌<◌, ◌==◌, ◌^◌, ◌-◌, [], false, IfOk, OnErr, IfErr, IsTrue, is_err, length, if◌then◌else◌};
-ghost use Rattle.protox_io.specs.Count.{Rose, raised};
-ghost use Rattle.protox_io.specs.Disk.{Missing, FailsWith, FailsByCount, Counts, CountsError};
+ghost use Rattle.protox_io.specs.Count.{Rose, Later, raised, counted};
+ghost use Rattle.protox_io.specs.Disk.{untold, FailsWith, FailsByCount, Counts, CountsError};
 ghost use Rattle.protox_io.specs.Sink.{RefusesFor};
 
 use crate::disk::LARGEST;
@@ -37,14 +37,17 @@ impl<R: Files> RealDisk<R> {
 }
 
 impl<R> RealDisk<R> {
-    /// Counts a fault of the system.
-    fn fault(&mut self, alloc: Global, why: &str) -> DiskError
+    /// Counts a fault of the system; want of memory is none.
+    fn fault(&mut self, alloc: Global, kind: ErrorKind) -> DiskError
         ensures counts { CountsError self.old self.new result }
-        ensures cause { FailsWith (Rose self.old self.new (self.new == 2 ^ 64 - 1)) result }
-        ensures later { self.old ≤ self.new }
+        ensures cause { FailsWith (Rose (counted self.old) (counted self.new)) result }
+        ensures later { Later (counted self.old) (counted self.new) }
     {
+        if kind == ErrorKind::OutOfMemory {
+            return DiskError::NoMemory;
+        }
         self.faults = self.faults.saturating_add(1);
-        match Text::from_str(alloc, why) {
+        match Text::from_str(alloc, describe(kind)) {
             Ok(text) => DiskError::Failed(text),
             Err(_) => DiskError::NoMemory,
         }
@@ -61,6 +64,18 @@ fn describe(kind: ErrorKind) -> &'static str {
         ErrorKind::ReadOnlyFilesystem => "the file system is read only",
         ErrorKind::StorageFull => "no space is left",
         _ => "the system refused",
+    }
+}
+
+/// Whether no file can stand at a path that was refused for this: nothing does, what stands above it is a file, or no
+/// name of the system has such bytes or is as long.
+fn is_absence(kind: ErrorKind) -> bool {
+    match kind {
+        ErrorKind::NotFound
+        | ErrorKind::NotADirectory
+        | ErrorKind::InvalidFilename
+        | ErrorKind::InvalidInput => true,
+        _ => false,
     }
 }
 
@@ -95,19 +110,15 @@ impl<R: Read> RealSource<R> {
 }
 
 impl<R: Read> Source for RealSource<R> {
-    ghost tells = { λ _. false };
+    ghost input = { λ _. record { tells = false; left = [] } };
 
-    ghost left = { λ _. [] };
-
-    ghost faults = { λ s. s };
-
-    ghost at_end = { λ s. s == 2 ^ 64 - 1 };
+    ghost count = { counted };
 
     fn read(&mut self, buf: &mut [u8]) -> Result<usize, Failed>
         ensures within { IfOk result (λ n. n ≤ length buf.new) }
         ensures counts { self.new ≡ (if is_err result then raised self.old else self.old) }
-        ensures cause { OnErr result (Rose self.old self.new (self.new == 2 ^ 64 - 1)) }
-        ensures later { self.old ≤ self.new }
+        ensures cause { OnErr result (Rose (counted self.old) (counted self.new)) }
+        ensures later { Later (counted self.old) (counted self.new) }
     {
         match self.stream.read(buf) {
             Ok(n) => Ok(n),
@@ -149,23 +160,17 @@ impl<W: Write> RealSink<W> {
 }
 
 impl<W: Write> Sink for RealSink<W> {
-    ghost tells = { λ _. false };
+    ghost output = { λ _. record { tells = false; held = []; short = false } };
 
-    ghost held = { λ _. [] };
-
-    ghost faults = { λ s. s };
-
-    ghost at_end = { λ s. s == 2 ^ 64 - 1 };
-
-    ghost short = { λ _. false };
+    ghost count = { counted };
 
     /// A write that takes nothing of some bytes is a fault.
     fn write(&mut self, bytes: &[u8]) -> Result<usize, SinkError>
         ensures within { IfOk result (λ n. n ≤ length bytes.now) }
         ensures some { IfOk result (λ n. 0 < length bytes.now → 0 < n) }
         ensures counts { self.new ≡ (if is_err result then raised self.old else self.old) }
-        ensures cause { IfErr result (RefusesFor (Rose self.old self.new (self.new == 2 ^ 64 - 1)) ⊥) }
-        ensures later { self.old ≤ self.new }
+        ensures cause { IfErr result (RefusesFor (Rose (counted self.old) (counted self.new)) ⊥) }
+        ensures later { Later (counted self.old) (counted self.new) }
     {
         match self.stream.write(bytes) {
             Ok(n) if n > 0 || bytes.is_empty() => Ok(n),
@@ -182,27 +187,24 @@ impl<W: Write> Sink for RealSink<W> {
 }
 
 impl<R: Files> Disk for RealDisk<R> {
-    ghost tells = { λ _. false };
+    ghost volume = { λ _. untold };
 
-    ghost holds = { λ _ _. Missing };
+    ghost count = { counted };
 
-    ghost faults = { λ d. d };
-
-    ghost at_end = { λ d. d == 2 ^ 64 - 1 };
-
-    /// A path that does not exist is `Absent`. A folder, or a file that cannot be read, is a fault.
+    /// A path that does not exist is `Absent`, and so is one that no file can have: below a file, with a NUL byte, or too
+    /// long. A folder, or a file that cannot be read, is a fault.
     fn read_file(&mut self, alloc: Global, path: &str) -> Result<DiskAnswer, DiskError>
         ensures counts { Counts self.old self.new result }
-        ensures cause { FailsByCount (Rose self.old self.new (self.new == 2 ^ 64 - 1)) result }
-        ensures later { self.old ≤ self.new }
+        ensures cause { FailsByCount (Rose (counted self.old) (counted self.new)) result }
+        ensures later { Later (counted self.old) (counted self.new) }
     {
         let file = match fs::open(&self.rt, path) {
             Ok(file) => file,
             Err(error) => {
-                if error.kind() == ErrorKind::NotFound {
+                if is_absence(error.kind()) {
                     return Ok(DiskAnswer::Absent);
                 }
-                return Err(self.fault(alloc, describe(error.kind())));
+                return Err(self.fault(alloc, error.kind()));
             }
         };
         let mut source = RealSource::new(file);
@@ -210,18 +212,18 @@ impl<R: Files> Disk for RealDisk<R> {
             Ok(bytes) => Ok(DiskAnswer::Bytes(bytes)),
             Err(ReadFault::TooLong) => Ok(DiskAnswer::TooLarge),
             Err(ReadFault::NoMemory) => Err(DiskError::NoMemory),
-            Err(ReadFault::Failed) => Err(self.fault(alloc, describe(source.why))),
+            Err(ReadFault::Failed) => Err(self.fault(alloc, source.why)),
         }
     }
 
     fn write_file(&mut self, alloc: Global, path: &str, bytes: &[u8]) -> Result<(), DiskError>
         ensures counts { Counts self.old self.new result }
-        ensures cause { FailsByCount (Rose self.old self.new (self.new == 2 ^ 64 - 1)) result }
-        ensures later { self.old ≤ self.new }
+        ensures cause { FailsByCount (Rose (counted self.old) (counted self.new)) result }
+        ensures later { Later (counted self.old) (counted self.new) }
     {
         match fs::write(&self.rt, path, bytes) {
             Ok(()) => Ok(()),
-            Err(error) => Err(self.fault(alloc, describe(error.kind()))),
+            Err(error) => Err(self.fault(alloc, error.kind())),
         }
     }
 

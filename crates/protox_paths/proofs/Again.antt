@@ -27,7 +27,7 @@ whole_onto x (q ∷ qs) n h = (whole_cons x q n h.0, h.1)
 other_byte : (b : ℕ) → is_slash b ≡ false → b ≢ 47
 other_byte b e = grind (arith, nat_tests)
 
-split_whole : (s : List ℕ) → AllWhole (slice_split is_slash s)
+pub split_whole : (s : List ℕ) → AllWhole (slice_split is_slash s)
 split_whole [] = ((λ i below. absurd (let no : ⊥ = omega arith in no)), tt)
 split_whole (b ∷ s) =
     let cases : (v : Bool) → is_slash b ≡ v → AllWhole (cond v ([] ∷ slice_split is_slash s) (onto_first b (slice_split is_slash s))) = λ v.
@@ -96,7 +96,7 @@ names (q ∷ qs) h =
     ap (λ b. name_bytes (cond b Parent (Named q)) ∷ map name_bytes (map component qs)) h.0.no_parent
     ∙ ap (λ l. q ∷ l) (names qs h.1)
 
-components_joined : (q : List ℕ) (qs : List (List ℕ)) → AllGood (q ∷ qs) → components (join_with_byte 47 (q ∷ qs)) ≡ map component (q ∷ qs)
+pub components_joined : (q : List ℕ) (qs : List (List ℕ)) → AllGood (q ∷ qs) → components (join_with_byte 47 (q ∷ qs)) ≡ map component (q ∷ qs)
 components_joined q qs h =
     let name = join_with_byte 47 (q ∷ qs) in
     let first : is_first_dot (parts name) ≡ false = ap is_first_dot (parts_joined q qs h) ∙ h.0.no_dot in
@@ -105,7 +105,7 @@ components_joined q qs h =
     ∙ ap (λ l. map component (filter other l)) (parts_joined q qs h)
     ∙ ap (map component) (all_other (q ∷ qs) h)
 
-some_injects : (a b : List ℕ) → Some a ≡ Some b → a ≡ b
+pub some_injects : (a b : List ℕ) → Some a ≡ Some b → a ≡ b
 some_injects a b e = cc
 
 -- the parts of a path whose components are these alone

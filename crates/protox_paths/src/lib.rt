@@ -4,4 +4,7 @@
 mod components;
 mod paths;
 
-pub use paths::{join_path, names_name_themselves, path_eq, path_to_file_name, strip_prefix};
+pub use paths::{
+    join_path, names_name_themselves, path_eq, path_to_file_name, resolved_stand_below,
+    strip_prefix,
+};

@@ -4,6 +4,7 @@ ghost use Rattle.std.specs.Prelude.{◌≡◌, Some, ℕ, List, IfOk, OnOk, opti
 ghost use Rattle.std.specs.Io.BufRead.{ends_with_byte};
 ghost use Rattle.protox_io.specs.Paths.{components};
 ghost use Rattle.protox_paths.specs.Paths.{name_of, path_equal, stripped, joined};
+ghost use Rattle.protox_paths.specs.Laws.{NamesNameThemselves, ResolvedStandBelow};
 ghost use Rattle.protox_paths.specs.Left.{with_part, named_so_far};
 
 use crate::components::{Components, Part, same_part, starts_with_dot, starts_with_slash};
@@ -90,7 +91,12 @@ pub fn join_path(alloc: Global, folder: &str, name: &str) -> Result<Text, NoMemo
 
 /// The file name of a name that is the file name of some path is that name.
 pub fn names_name_themselves()
-    ensures { (path name : List ℕ) → name_of path ≡ Some name → name_of name ≡ Some name }
+    ensures { NamesNameThemselves }
+{}
+
+/// A path that a folder resolves has the folder's components followed by those of the name, without `.`.
+pub fn resolved_stand_below()
+    ensures { ResolvedStandBelow }
 {}
 
 fn has_last_slash(folder: &str) -> bool

@@ -1,10 +1,11 @@
 -- What is written of files one after another.
 use Rattle.std.proofs.Common.{◌≡◌, ◌≤◌, ◌∷◌, ◌++◌, ◌∙◌, [], ℕ, Bool, List, Result, Ok, Err, IfErr, inl, inr, refl, sym, ap, subst, append_assoc, append-nil, length, drop, arith}
 use Rattle.std.proofs.lemmas.List.{drop_all}
-use Rattle.protox_io.specs.Count.{Rose}
+use Rattle.protox_io.specs.Count.{Count, Rose, Later}
 use Rattle.protox_io.specs.Disk.{Held}
 use Rattle.protox_io.specs.Paths.{Component}
 use Rattle.protox_io.specs.Sink.{Appends, Prints}
+use Rattle.protox_io.proofs.Counts.{rose_later}
 use Rattle.protox_records.specs.Records.{HasRecord, IsOfOutput, EndsAt, WritesOne, Writes, framed}
 use Rattle.protox_records.specs.Stops.{Caused}
 use Rattle.protox_records.specs.declared.stop.Stop.{Stop}
@@ -59,12 +60,8 @@ writes_all holds items names i u old new e h a = record {
       (subst (λ rest. Continues holds items rest a.added) (drop_all i items h) a.so (Ok u) [] (tt, refl)));
 }
 
-rose_later : (a b c : ℕ) (s : Bool) → a ≤ b → Rose b c s → Rose a c s
-rose_later a b c s h (inl rose) = inl (omega arith)
-rose_later a b c s h (inr spent) = inr spent
-
-pub caused_later : (a b c d e f : ℕ) (s t : Bool) (stop : Stop) → a ≤ b → d ≤ e → Caused (Rose b c s) (Rose e f t) stop → Caused (Rose a c s) (Rose d f t) stop
-caused_later a b c d e f s t (Refused line) h k cause = tt
-caused_later a b c d e f s t (Unread line) h k cause = rose_later a b c s h cause
-caused_later a b c d e f s t Output h k cause = rose_later d e f t k cause
-caused_later a b c d e f s t NoMemory h k cause = tt
+pub caused_later : (a b c d e f : Count) (stop : Stop) → Later a b → Later d e → Caused (Rose b c) (Rose e f) stop → Caused (Rose a c) (Rose d f) stop
+caused_later a b c d e f (Refused line) h k cause = tt
+caused_later a b c d e f (Unread line) h k cause = rose_later a b c h cause
+caused_later a b c d e f Output h k cause = rose_later d e f k cause
+caused_later a b c d e f NoMemory h k cause = tt

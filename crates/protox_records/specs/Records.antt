@@ -9,10 +9,11 @@ use Rattle.protox_io.specs.Paths.{Component, disk_key}
 use Rattle.protox_io.specs.Sink.{Begins}
 use Rattle.protox_file.specs.Told.{Entry, Told, IsFile, IsFound, told_held}
 use Rattle.protox_file.specs.Causes.{IsToldRefusal, HasCause}
-use Rattle.protox_file.specs.Lines.{long_line_of}
-use Rattle.protox_file.specs.Errors.{is_reading_fault}
-use Rattle.protox_file.specs.declared.error.ErrorKind.{ErrorKind}
-use Rattle.protox_file.specs.declared.error.ErrorKind.TheVariants as kind
+use Rattle.protox_file.specs.Library.{never}
+use Rattle.protox_error.specs.Lines.{long_line_of}
+use Rattle.protox_error.specs.Errors.{is_reading_fault}
+use Rattle.protox_error.specs.declared.error.ErrorKind.{ErrorKind}
+use Rattle.protox_error.specs.declared.error.ErrorKind.TheVariants as kind
 use Rattle.protox_records.specs.declared.stop.Stop.{Stop}
 use Rattle.protox_records.specs.declared.stop.Stop.TheVariants.{Refused, Unread, Output, NoMemory}
 
@@ -29,7 +30,7 @@ HasRecord holds name bytes =
 abbrev pub HasNone : (List Component → Held) → List ℕ → List ℕ → Type 0
 HasNone holds name line =
     ((entry : Entry) → ¬ IsFound name (told_of holds name) (IsFile entry))
-    × (error : ErrorKind) × IsToldRefusal name (told_of holds name) error × HasCause name ⊥ error × (line ≡ concat (long_line_of error))
+    × (error : ErrorKind) × IsToldRefusal name (told_of holds name) error × HasCause never name ⊥ error × (line ≡ concat (long_line_of error))
 
 -- Why the run ends at a file of this error: no memory, a fault of reading, or a refusal, with the error's line.
 abbrev pub IsOf : ErrorKind → Stop → Type 0

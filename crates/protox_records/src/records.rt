@@ -3,7 +3,7 @@ ghost use Rattle.std.specs.List.{concat};
 ghost use Rattle.pbx_meaning.specs.Encoding.{encoded};
 ghost use Rattle.pbx_desc_shape.specs.Shape.{descriptor_shape};
 ghost use Rattle.pbx_desc.specs.Content.{file_content};
-ghost use Rattle.protox_io.specs.Count.{Rose};
+ghost use Rattle.protox_io.specs.Count.{Rose, Later};
 ghost use Rattle.protox_io.specs.Sink.{Appends, Prints};
 ghost use Rattle.protox_records.specs.Records.{HasRecord, IsReason, IsOf, IsOfOutput, WritesOne, Writes, framed};
 ghost use Rattle.protox_records.specs.Stops.{Caused};
@@ -48,27 +48,29 @@ fn bytes(alloc: Global, file: &FileDescriptorProto) -> Result<Vec<u8>, Stop>
 
 /// The bytes of the record of the file at the path that is its name.
 fn record<D: Disk>(alloc: Global, name: &str, disk: &mut D) -> Result<Vec<u8>, Stop>
-    ensures found { IsTrue (D.tells disk.old) → IfOk result (λ v. HasRecord (D.holds disk.old) name.now v.items) }
-    ensures reason { IsTrue (D.tells disk.old) → IfErr result (IsReason (D.holds disk.old) name.now) }
-    ensures cause { IfErr result (Caused (Rose (D.faults disk.old) (D.faults disk.new) (D.at_end disk.new)) ⊥) }
-    ensures later { D.faults disk.old ≤ D.faults disk.new }
-    ensures keeps_tells { D.tells disk.new ≡ D.tells disk.old }
-    ensures keeps_holds { IsTrue (D.tells disk.old) → D.holds disk.new ≡ D.holds disk.old }
+    ensures found { IsTrue (D.volume disk.old).tells → IfOk result (λ v. HasRecord (D.volume disk.old).holds name.now v.items) }
+    ensures reason { IsTrue (D.volume disk.old).tells → IfErr result (IsReason (D.volume disk.old).holds name.now) }
+    ensures cause { IfErr result (Caused (Rose (D.count disk.old) (D.count disk.new)) ⊥) }
+    ensures later { Later (D.count disk.old) (D.count disk.new) }
+    ensures keeps { D.volume disk.new ≡ D.volume disk.old }
 {
     looked_up_once();
     match File::open(alloc, disk, name, name) {
-        Ok(file) => bytes(alloc, file.file_descriptor_proto()),
+        Ok(file) => match bytes(alloc, file.file_descriptor_proto()) {
+            Ok(bytes) => Ok(bytes),
+            Err(stop) => Err(stop),
+        },
         Err(error) => Err(stop(alloc, &error)),
     }
 }
 
 /// Writes the length of a record's bytes, a line feed, and the bytes.
 fn write_record<K: Sink>(out: &mut K, bytes: &[u8]) -> Result<(), Stop>
-    ensures told { IsTrue (K.tells out.old) → Appends (K.held out.old) (K.held out.new) (Prints (framed bytes.now) result) }
+    ensures told { IsTrue (K.output out.old).tells → Appends (K.output out.old).held (K.output out.new).held (Prints (framed bytes.now) result) }
     ensures stop { IfErr result IsOfOutput }
-    ensures cause { IfErr result (Caused ⊥ (Rose (K.faults out.old) (K.faults out.new) (K.at_end out.new))) }
-    ensures later { K.faults out.old ≤ K.faults out.new }
-    ensures keeps_tells { K.tells out.new ≡ K.tells out.old }
+    ensures cause { IfErr result (Caused ⊥ (Rose (K.count out.old) (K.count out.new))) }
+    ensures later { Later (K.count out.old) (K.count out.new) }
+    ensures keeps_tells { (K.output out.new).tells ≡ (K.output out.old).tells }
 {
     let mut buffer = Buffer::new();
     let length = buffer.format(bytes.len());
@@ -86,13 +88,12 @@ fn write_file<D: Disk, K: Sink>(
     disk: &mut D,
     out: &mut K,
 ) -> Result<(), Stop>
-    ensures told { IsTrue (D.tells disk.old) → IsTrue (K.tells out.old) → Appends (K.held out.old) (K.held out.new) (WritesOne (D.holds disk.old) name.now result) }
-    ensures cause { IfErr result (Caused (Rose (D.faults disk.old) (D.faults disk.new) (D.at_end disk.new)) (Rose (K.faults out.old) (K.faults out.new) (K.at_end out.new))) }
-    ensures later_disk { D.faults disk.old ≤ D.faults disk.new }
-    ensures later_out { K.faults out.old ≤ K.faults out.new }
-    ensures keeps_disk { D.tells disk.new ≡ D.tells disk.old }
-    ensures keeps_out { K.tells out.new ≡ K.tells out.old }
-    ensures keeps_holds { IsTrue (D.tells disk.old) → D.holds disk.new ≡ D.holds disk.old }
+    ensures told { IsTrue (D.volume disk.old).tells → IsTrue (K.output out.old).tells → Appends (K.output out.old).held (K.output out.new).held (WritesOne (D.volume disk.old).holds name.now result) }
+    ensures cause { IfErr result (Caused (Rose (D.count disk.old) (D.count disk.new)) (Rose (K.count out.old) (K.count out.new))) }
+    ensures later_disk { Later (D.count disk.old) (D.count disk.new) }
+    ensures later_out { Later (K.count out.old) (K.count out.new) }
+    ensures keeps_disk { D.volume disk.new ≡ D.volume disk.old }
+    ensures keeps_out { (K.output out.new).tells ≡ (K.output out.old).tells }
 {
     match record(alloc, name, disk) {
         Ok(record) => write_record(out, record.as_slice()),
@@ -107,8 +108,8 @@ pub(crate) fn write_records<D: Disk, K: Sink>(
     disk: &mut D,
     out: &mut K,
 ) -> Result<(), Stop>
-    ensures told { IsTrue (D.tells disk.old) → IsTrue (K.tells out.old) → Appends (K.held out.old) (K.held out.new) (Writes (D.holds disk.old) names.now result) }
-    ensures cause { IfErr result (Caused (Rose (D.faults disk.old) (D.faults disk.new) (D.at_end disk.new)) (Rose (K.faults out.old) (K.faults out.new) (K.at_end out.new))) }
+    ensures told { IsTrue (D.volume disk.old).tells → IsTrue (K.output out.old).tells → Appends (K.output out.old).held (K.output out.new).held (Writes (D.volume disk.old).holds names.now result) }
+    ensures cause { IfErr result (Caused (Rose (D.count disk.old) (D.count disk.new)) (Rose (K.count out.old) (K.count out.new))) }
 {
     for name in names.as_slice() {
         match write_file(alloc, name.as_str(), disk, out) {

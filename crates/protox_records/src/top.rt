@@ -1,7 +1,7 @@
 ghost use Rattle.std.specs.Prelude.{◌≡◌, ◌≤◌, ◌⊎◌, IsTrue, List, ℕ};
 ghost use Rattle.protox_io.specs.Count.{Rose};
-ghost use Rattle.protox_io.specs.Sink.{Appends};
-ghost use Rattle.protox_records.specs.Stops.{Ends, Says, SinkRefuses};
+ghost use Rattle.protox_io.specs.Sink.{Appends, Says, SinkRefuses};
+ghost use Rattle.protox_records.specs.Stops.{Ends};
 
 use crate::records::write_records;
 use crate::report::report;
@@ -20,11 +20,11 @@ pub fn run<D: Disk, K: Sink, E: Sink>(
     out: &mut K,
     err: &mut E,
 ) -> u8
-    ensures told { IsTrue (D.tells disk.old) → IsTrue (K.tells out.old) →
+    ensures told { IsTrue (D.volume disk.old).tells → IsTrue (K.output out.old).tells →
         (line : List ℕ)
-        × Appends (K.held out.old) (K.held out.new) (λ added. Ends (D.holds disk.old) names.now result added line)
-        × Says (E.tells err.old) (SinkRefuses (Rose (E.faults err.old) (E.faults err.new) (E.at_end err.new)) (E.short err.new)) (E.held err.old) (E.held err.new) line }
-    ensures fault { result ≡ 3 → Rose (D.faults disk.old) (D.faults disk.new) (D.at_end disk.new) ⊎ Rose (K.faults out.old) (K.faults out.new) (K.at_end out.new) }
+        × Appends (K.output out.old).held (K.output out.new).held (λ added. Ends (D.volume disk.old).holds names.now result added line)
+        × Says (E.output err.old).tells (SinkRefuses (Rose (E.count err.old) (E.count err.new)) (E.output err.new).short) (E.output err.old).held (E.output err.new).held line }
+    ensures fault { result ≡ 3 → Rose (D.count disk.old) (D.count disk.new) ⊎ Rose (K.count out.old) (K.count out.new) }
     ensures status { result ≤ 4 }
 {
     let ended = write_records(alloc, names, disk, out);

@@ -12,5 +12,5 @@ pub returns-in-Ok-clause-stop : goal.returns-in-Ok-clause-stop
 returns-in-Ok-clause-stop g c disk input =
     let read = c.in-Ok.ensures.ok input in
     err_then c.compile.result.result
-    (λ stop h. file_judged (record { type_name = c.args.type_name.now; path = c.args.path.now; file = c.args.file.now }) (g.D.Disk.holds c.args.disk) (g.S.Source.left c.args.input.now) (view c.in-Ok.tree) stop read.0 read.1 h)
+    (λ stop h. file_judged (record { type_name = c.args.type_name.now; path = c.args.path.now; file = c.args.file.now }) (g.D.Disk.volume c.args.disk) (g.S.Source.input c.args.input.now).left (view c.in-Ok.tree) stop read.0 read.1 h)
     (c.compile.ensures.stop disk)

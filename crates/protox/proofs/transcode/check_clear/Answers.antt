@@ -1,4 +1,4 @@
-use Rattle.std.proofs.Common.{◌≡◌, ◌∙◌}
+use Rattle.std.proofs.Common.{◌∙◌}
 use Rattle.protox.proofs.transcode.check_clear.Goals as goal
 
 pub returns-in-Ok-check_names-clause-ok : goal.returns-in-Ok-check_names-clause-ok

@@ -6,25 +6,25 @@ use Rattle.protox_compile.proofs.compiler.Compiler.open_file.Goals as goal
 pub returns-clause-ok : goal.returns-clause-ok
 returns-clause-ok g c tells =
     let same : c.self.inside.resolver ≡ c.args.self.now.resolver = ap (λ s. s.resolver) c.self.view_is in
-    let told : IsTrue (g.R.FileResolver.tells c.self.inside.resolver) = rw same tells in
+    let told : IsTrue (g.R.FileResolver.library c.self.inside.resolver).tells = rw same tells in
     rw (← c.self.view_is) (c.open_path.ensures.ok told)
 
 pub returns-clause-err : goal.returns-clause-err
 returns-clause-err g c tells =
     let same : c.self.inside.resolver ≡ c.args.self.now.resolver = ap (λ s. s.resolver) c.self.view_is in
-    let told : IsTrue (g.R.FileResolver.tells c.self.inside.resolver) = rw same tells in
+    let told : IsTrue (g.R.FileResolver.library c.self.inside.resolver).tells = rw same tells in
     rw (← c.self.view_is) (c.open_path.ensures.err told)
 
 pub returns-clause-again : goal.returns-clause-again
 returns-clause-again g c tells settled =
     let same : c.self.inside.resolver ≡ c.args.self.now.resolver = ap (λ s. s.resolver) c.self.view_is in
     let files : c.self.inside.compiled ≡ c.args.self.now.done = ap (λ s. s.done) c.self.view_is in
-    let told : IsTrue (g.R.FileResolver.tells c.self.inside.resolver) = rw same tells in
-    let there : is_settled (root_of (g.R.FileResolver.resolves c.self.inside.resolver) c.args.path.now) c.self.inside.compiled ≡ true = rw (same, files) settled in
+    let told : IsTrue (g.R.FileResolver.library c.self.inside.resolver).tells = rw same tells in
+    let there : is_settled (root_of (g.R.FileResolver.library c.self.inside.resolver).resolves c.args.path.now) c.self.inside.compiled ≡ true = rw (same, files) settled in
     rw (← c.self.view_is) (c.open_path.ensures.again told there)
 
 pub returns-clause-unread : goal.returns-clause-unread
 returns-clause-unread g c = rw (← c.self.view_is) c.open_path.ensures.unread
 
 pub returns-clause-keeps : goal.returns-clause-keeps
-returns-clause-keeps g c = rw (← c.self.view_is) (record { tells = c.open_path.ensures.keeps_tells; files = c.open_path.ensures.keeps_files; resolves = c.open_path.ensures.keeps_resolves; disk = c.open_path.ensures.keeps_disk })
+returns-clause-keeps g c = rw (← c.self.view_is) c.open_path.ensures.keeps

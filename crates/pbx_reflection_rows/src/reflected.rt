@@ -1,0 +1,52 @@
+//! What is told of a value.
+
+use crate::stop::Stop;
+use pbx_desc::Message;
+use pbx_link::{DescriptorPool, MessageDescriptor};
+use pbx_message::DynamicMessage;
+use pbx_reflection::{ReflectError, ReflectMessage};
+use std::alloc::{AllocError, Global};
+
+/// Adds the full name of the type, if there is one.
+fn add_name(told: &mut String, desc: Option<MessageDescriptor>) -> Result<(), AllocError> {
+    if let Some(desc) = desc {
+        told.push_str(desc.full_name())?;
+        told.push_str(": ")?;
+    }
+    Ok(())
+}
+
+/// Adds what is written for the message, in hexadecimal digits and quotes.
+fn add_bytes(alloc: Global, told: &mut String, message: &DynamicMessage) -> Result<(), Stop> {
+    let bytes = message.encode_to_vec(alloc)?;
+    let digits = hex::encode(alloc, bytes.as_slice())?;
+    told.push_str("'")?;
+    told.push_str(digits.as_str())?;
+    told.push_str("'")?;
+    Ok(())
+}
+
+/// Adds why there is no message.
+fn add_error(told: &mut String, error: ReflectError) -> Result<(), Stop> {
+    match error {
+        ReflectError::NotFound => told.push_str("not found")?,
+        ReflectError::Decode(fault) => write!(told, "{fault}")?,
+        ReflectError::NoMemory => return Err(Stop::NoMemory),
+    }
+    Ok(())
+}
+
+/// The full name of the value's type in the pool, and what is written for its dynamic message or why there is none.
+pub(crate) fn reflected<M: ReflectMessage>(
+    alloc: Global,
+    pool: &DescriptorPool,
+    value: &M,
+) -> Result<String, Stop> {
+    let mut told = String::new(alloc);
+    add_name(&mut told, value.descriptor(pool))?;
+    match value.transcode_to_dynamic(alloc, pool) {
+        Ok(message) => add_bytes(alloc, &mut told, &message)?,
+        Err(error) => add_error(&mut told, error)?,
+    }
+    Ok(told)
+}

@@ -1,0 +1,5 @@
+pub mod Chained
+pub mod Listed
+pub mod Standard
+pub mod Laws
+pub mod Sets

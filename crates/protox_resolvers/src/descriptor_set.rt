@@ -1,0 +1,204 @@
+//! The files of a descriptor set.
+
+ghost use Rattle.std.specs.Prelude.{◌≡◌, [], map, unwrap_or, OnOk, IfOk, IfErr, MatchOption};
+ghost use Rattle.pbx_wire.specs.View.{rec_of};
+ghost use Rattle.pbx_meaning.specs.Faults.{IsToldFault};
+ghost use Rattle.pbx_desc.specs.Sets.{set_meaning_of, IsSetFault};
+ghost use Rattle.pbx_link.specs.Bytes.{DecodesFiles};
+ghost use Rattle.protox_io.specs.Count.{counted};
+ghost use Rattle.protox_file.specs.Library.{alone};
+ghost use Rattle.protox_file.specs.Told.{Absent, Recorded};
+ghost use Rattle.protox_resolvers.specs.Listed.{first_declared, listed_files};
+ghost use Rattle.protox_resolvers.specs.Sets.{entries_of, records_of, AreFilesIn, IsAdded};
+
+use pbx_desc_decoding::DecodeMessage;
+use pbx_desc_records::{FileDescriptorProto, FileDescriptorSet};
+use pbx_wire::{DecodeError, List, NoMemory, RecRef, Text, read_rec_ref};
+use protox_error::Error;
+use protox_file::{File, FileResolver};
+use std::alloc::Global;
+use std::marker::Model;
+
+/// How many levels of groups a record of a set may have that is no file.
+const LEVELS: usize = 100;
+
+/// The files of a set.
+#[derive(Drop)]
+enum Files {
+    /// Of a set that was given: each is a record alone.
+    Records(List<FileDescriptorProto>),
+    /// Of the bytes of a set: each is kept beside its own bytes.
+    Decoded(List<File>),
+}
+
+/// The files of a `google.protobuf.FileDescriptorSet`, each under the name that it declares. The first file of a name
+/// answers. It resolves no path, and never fails but for want of memory.
+#[derive(Drop)]
+pub struct DescriptorSetFileResolver {
+    files: Files,
+}
+
+impl Model for DescriptorSetFileResolver {
+    ghost use Rattle.std.specs.Prelude.{List};
+    ghost use Rattle.std.specs.Coded.{codes};
+    ghost use Rattle.pbx_desc_records.specs.contracts.file.FileDescriptorProto as proto;
+    ghost use Rattle.protox_file.specs.Told.{Entry};
+    ghost use Rattle.protox_resolvers.specs.Sets.{entries_of};
+
+    ghost Value = { List Entry };
+
+    ghost coded = { Prim.hlevel (codes, proto.the_row.coded) };
+
+    ghost view = { λ r. entries_of r.files };
+}
+
+impl DescriptorSetFileResolver {
+    /// The files of a set, each a record alone; takes no memory.
+    pub fn new(_alloc: Global, set: FileDescriptorSet) -> Self
+        ensures { result ≡ map alone set.file }
+    {
+        DescriptorSetFileResolver {
+            files: Files::Records(set.file),
+        }
+    }
+
+    /// The files of a set that decodes from bytes, each beside its own bytes as they stand in the set. Each file has 100
+    /// levels of its own.
+    #[tactic(auto, using(crate::proofs::Sets::decodes_files))]
+    pub fn decode(alloc: Global, bytes: &[u8]) -> Result<Self, DecodeError>
+        ensures files { IfOk result (AreFilesIn bytes.now) }
+        // They are the files that the whole set decodes to.
+        ensures decoded { IfOk result (λ it. DecodesFiles bytes.now (records_of it)) }
+        // Only where the bytes decode to no set. Where there are several faults, the first.
+        ensures fault { IfErr result (IsToldFault (set_meaning_of bytes.now) (IsSetFault bytes.now)) }
+    {
+        match files_in(alloc, bytes) {
+            Ok(files) => Ok(DescriptorSetFileResolver {
+                files: Files::Decoded(files),
+            }),
+            Err(_) => Err(fault_of(alloc, bytes)),
+        }
+    }
+}
+
+/// Why the bytes of a set were not read: their first fault, or want of memory.
+fn fault_of(alloc: Global, bytes: &[u8]) -> DecodeError
+    ensures { IsToldFault (set_meaning_of bytes.now) (IsSetFault bytes.now) result }
+{
+    match FileDescriptorSet::decode(alloc, bytes) {
+        // It was memory that had run out.
+        Ok(_) => DecodeError::NoMemory,
+        Err(fault) => fault,
+    }
+}
+
+/// The files of the bytes of a set. The offset of a fault is not that in the set.
+#[tactic(auto, using(crate::proofs::Sets::reading))]
+fn files_in(alloc: Global, bytes: &[u8]) -> Result<List<File>, DecodeError>
+    ensures { IfOk result (AreFilesIn bytes.now) }
+{
+    let mut files = List::new(alloc);
+    let mut rest = bytes;
+    loop {
+        match read_rec_ref(alloc, 0, rest, LEVELS)? {
+            Some((rec, after)) => {
+                add_file(alloc, &mut files, rec)?;
+                rest = after;
+            }
+            None => return Ok(files),
+        }
+    }
+}
+
+/// Adds the file that a record of a set has; a record of another number than 1 has none.
+fn add_file(alloc: Global, files: &mut List<File>, rec: RecRef<'_>) -> Result<(), DecodeError>
+    ensures { OnOk result (IsAdded (rec_of rec.entry) files.old files.new) }
+{
+    match rec {
+        RecRef::Bytes(1, payload) => {
+            files.add(File::decode_file_descriptor_proto(alloc, payload)?)?;
+            Ok(())
+        }
+        RecRef::Varint(1, _)
+        | RecRef::Fixed64(1, _)
+        | RecRef::Group(1, _)
+        | RecRef::Fixed32(1, _) => Err(DecodeError::WireType(0)),
+        _ => Ok(()),
+    }
+}
+
+impl Files {
+    /// The first file that declares the name. The only error is want of memory.
+    fn first(&self, alloc: Global, name: &str) -> Result<Option<File>, NoMemory>
+        ensures { IfOk result (λ file. MatchOption file (first_declared (entries_of self.now) name.now ≡ Absent)
+            (λ entry. first_declared (entries_of self.now) name.now ≡ Recorded entry)) }
+    {
+        match self {
+            Files::Records(files) => match first_record(files.as_slice(), name) {
+                Some(file) => Ok(Some(File::from_file_descriptor_proto(file.copy(alloc)?))),
+                None => Ok(None),
+            },
+            Files::Decoded(files) => match first_file(files.as_slice(), name) {
+                Some(file) => Ok(Some(file.copy(alloc)?)),
+                None => Ok(None),
+            },
+        }
+    }
+}
+
+/// The first of the records that declares the name.
+fn first_record<'a>(files: &'a [FileDescriptorProto], name: &str) -> Option<&'a FileDescriptorProto>
+    ensures { MatchOption result (first_declared (map alone files.now) name.now ≡ Absent)
+        (λ file. first_declared (map alone files.now) name.now ≡ Recorded (alone file.now)) }
+{
+    for file in files {
+        if name_in(file) == name {
+            return Some(file);
+        }
+    }
+    None
+}
+
+/// The name that the record declares, which is empty where it declares none.
+fn name_in(file: &FileDescriptorProto) -> &str
+    ensures { result.now ≡ unwrap_or file.now.name [] }
+{
+    match &file.name {
+        Some(name) => name.as_str(),
+        None => "",
+    }
+}
+
+/// The first of the files that declares the name.
+fn first_file<'a>(files: &'a [File], name: &str) -> Option<&'a File>
+    ensures { MatchOption result (first_declared files.now name.now ≡ Absent)
+        (λ file. first_declared files.now name.now ≡ Recorded file.now) }
+{
+    for file in files {
+        if file.name() == name {
+            return Some(file);
+        }
+    }
+    None
+}
+
+impl FileResolver for DescriptorSetFileResolver {
+    ghost library = { listed_files };
+
+    ghost count = { λ _. counted 0 };
+
+    fn resolve_path(&self, _alloc: Global, _path: &str) -> Result<Option<Text>, NoMemory> {
+        Ok(None)
+    }
+
+    fn open_file(&mut self, alloc: Global, name: &str) -> Result<File, Error> {
+        match self.files.first(alloc, name)? {
+            Some(file) => Ok(file),
+            None => Err(Error::file_not_found(alloc, name)),
+        }
+    }
+
+    fn spent(&self) -> bool {
+        false
+    }
+}

@@ -1,0 +1,26 @@
+ghost use Rattle.std.specs.Prelude.{◌≡◌};
+ghost use Rattle.protox_words.specs.Words.{count_of as count_in};
+
+/// The greatest number of a schema to generate.
+const GREATEST: u16 = 2000;
+
+/// The number from 1 to 2000 that the text is, as one to four digits of which the first is not zero.
+pub(crate) fn count_of(text: &str) -> Option<u16>
+    ensures { result ≡ count_in text.now }
+{
+    let digits = text.as_bytes();
+    if digits.is_empty() || digits.len() > 4 || digits[0] == b'0' {
+        return None;
+    }
+    let mut number = 0;
+    for digit in digits {
+        if !digit.is_ascii_digit() {
+            return None;
+        }
+        number = number * 10 + u16::from(*digit - b'0');
+        if number > GREATEST {
+            return None;
+        }
+    }
+    Some(number)
+}

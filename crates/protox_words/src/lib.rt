@@ -1,0 +1,16 @@
+//! The words of the program's command line.
+//!
+//! The words are `[-I PATH]* [-o PATH] [--include_imports] [--include_source_info] [--type NAME [--wire PATH]] FILE+`, or
+//! `--generate N`.
+#![tactic(auto)]
+
+mod args;
+mod count;
+mod fault;
+mod options;
+mod scan;
+mod words;
+
+pub use args::Args;
+pub use fault::{WordFault, WordsError};
+pub use words::read_words;
