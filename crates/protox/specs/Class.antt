@@ -9,9 +9,9 @@ use Rattle.pbx_wkt_files.specs.Files.{wkt_files}
 use Rattle.protox_io.specs.Disk.{Volume}
 use Rattle.protox_file.specs.Library.{Library}
 use Rattle.protox_resolvers.specs.Standard.{standard}
-use Rattle.protox.specs.Top.{ForFiles, IsTranscoded, Refuses, is_refusal, top_line}
+use Rattle.protox_transcode.specs.Top.{ForFiles, IsTranscoded, Refuses, is_refusal, top_line}
 use Rattle.protox.specs.Words.{Args}
-use Rattle.protox.specs.declared.error.TopError.{TopError}
+use Rattle.protox_transcode.specs.declared.error.TopError.{TopError}
 use Rattle.protox.specs.declared.stop.Refusal.{Refusal}
 use Rattle.protox.specs.declared.stop.Refusal.TheVariants.{TooLong, NotJson, Top}
 
@@ -39,7 +39,8 @@ ForTree input P = (length input ≤ limit) × ((tree : Data) × (json_of input �
 abbrev pub Gives : List ℕ → List ℕ → Volume → Data → List ℕ → List ℕ → Type 0
 Gives type_name file disk tree wire text =
     (set : List ℕ) × (written : Data)
-    × ForFiles (library_on disk).files (library_on disk).resolves (file ∷ []) (λ files. IsTranscoded type_name tree files set wire written) × (text ≡ compact_text written)
+    × ForFiles (library_on disk).files (library_on disk).resolves (file ∷ []) (λ files. IsTranscoded type_name tree files set wire written)
+    × (text ≡ compact_text written)
 
 -- the line of a refusal of the file, the type's name or the tree
 abbrev pub RefusedWith : List ℕ → List ℕ → Volume → Data → List ℕ → Type 0

@@ -1,9 +1,6 @@
 pub mod Words
-pub mod Json
-pub mod Top
 pub mod Class
 pub mod Outcome
 pub mod Stops
 pub mod Parts
-pub mod Input
 pub mod Laws

@@ -6,7 +6,7 @@ use Rattle.protox_io.specs.Paths.{disk_key}
 use Rattle.protox_io.specs.Sink.{Begins}
 use Rattle.protox_error.specs.Lines.{long_line_of}
 use Rattle.protox_error.specs.declared.error.ErrorKind.{ErrorKind}
-use Rattle.protox.specs.Top.{RefusesFiles}
+use Rattle.protox_transcode.specs.Top.{RefusesFiles}
 use Rattle.protox.specs.Words.{Args, path_word}
 use Rattle.protox_file.specs.Causes.{IsNamedFault}
 use Rattle.protox.specs.Class.{ForTree, Judges, Done, Refusing, library_on}
@@ -36,7 +36,8 @@ pub record Untouched (disk later : Volume) (out : List ℕ) : Type 0 where
 -- or the wire bytes stand there, and out refused a write and holds the first bytes.
 pub record Carrying (path wire text : List ℕ) (disk later : Volume) (out : List ℕ) (path_refused out_refused : Type 0) : Type 0 where
   pub others : SameBut (disk_key path) disk later
-  pub state : (path_refused × IsOpen (disk_key path) disk later × (out ≡ [])) ⊎ (Stands (disk_key path) wire later × out_refused × Begins out (text ++ codes "\n"))
+  pub state : (path_refused × IsOpen (disk_key path) disk later × (out ≡ []))
+      ⊎ (Stands (disk_key path) wire later × out_refused × Begins out (text ++ codes "\n"))
 
 -- all was read and accepted, and the writing was begun
 pub record Midway (args : Args) (disk : Volume) (input : List ℕ) (later : Volume) (out : List ℕ)

@@ -1,4 +1,4 @@
-ghost use Rattle.protox.specs.Laws.{DoneAlone, DoneOnce, TranscodedAlone, TranscodedOnce};
+ghost use Rattle.protox.specs.Laws.{DoneAlone, DoneOnce};
 
 use protox_compile::opens_once;
 
@@ -8,16 +8,6 @@ use protox_compile::opens_once;
 pub fn done_is_determined()
     ensures alone { DoneAlone }
     ensures once { DoneOnce }
-{
-    opens_once();
-}
-
-/// The same of any paths, and of any resolver that tells its files: where `compile_and_transcode` gives a set, wire bytes
-/// and a tree, it refuses the paths, the type's name and the tree for no reason, want of memory and faults aside, and the
-/// three are determined.
-pub fn transcoded_is_determined()
-    ensures alone { TranscodedAlone }
-    ensures once { TranscodedOnce }
 {
     opens_once();
 }

@@ -6,20 +6,16 @@
 #![tactic(auto)]
 
 mod carry;
-mod error;
-mod input_tree;
-mod json_line;
 mod laws;
 mod plan;
 mod report;
-mod set;
 mod stop;
 mod top;
-mod transcode;
 mod words;
 
-pub use error::TopError;
-pub use laws::{done_is_determined, transcoded_is_determined};
+pub use laws::done_is_determined;
+pub use protox_transcode::{
+    Attempt, TopError, Transcoded, compile_and_transcode, transcoded_is_determined,
+};
 pub use stop::{Object, Refusal, Stop};
 pub use top::{Ran, run};
-pub use transcode::{Attempt, Transcoded, compile_and_transcode};

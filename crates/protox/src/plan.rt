@@ -6,14 +6,12 @@ ghost use Rattle.protox.specs.Class.{limit, folders, Judges, Done, json_of, Give
 ghost use Rattle.protox.specs.Parts.{IsJsonStop, IsInputStop, IsFileStop, IsStopOf};
 ghost use Rattle.protox.specs.Stops.{PlanStops, Caused};
 
-use crate::error::TopError;
-use crate::input_tree::InputTree;
 use crate::stop::{Object, Refusal, Stop};
-use crate::transcode::{Attempt, Transcoded, transcode_files};
 use pbx_json_meaning::canonical_is_plain;
 use pbx_wire::{Blob, NoMemory, Text, Texts};
 use protox_io::{Disk, ReadFault, Source, read_to_end};
 use protox_resolvers::StandardResolver;
+use protox_transcode::{Attempt, InputTree, TopError, Transcoded, transcode_files};
 use serde_json::Value;
 use std::alloc::Global;
 
@@ -67,7 +65,8 @@ fn read_json(alloc: Global, input: &[u8]) -> Result<Value, Stop>
 
 /// The tree of the input.
 fn read_tree<S: Source>(alloc: Global, input: &mut S) -> Result<Value, Stop>
-    ensures ok { IsTrue (S.input input.old).tells → IfOk result (λ tree. (length (S.input input.old).left ≤ limit) × (json_of (S.input input.old).left ≡ Some (view tree))) }
+    ensures ok { IsTrue (S.input input.old).tells →
+        IfOk result (λ tree. (length (S.input input.old).left ≤ limit) × (json_of (S.input input.old).left ≡ Some (view tree))) }
     ensures end { IsTrue (S.input input.old).tells → OnOk result ((S.input input.new).left ≡ []) }
     ensures stop { IsTrue (S.input input.old).tells → IfErr result (IsInputStop (S.input input.old).left) }
     ensures cause { IfErr result (Caused ⊥ (Rose (S.count input.old) (S.count input.new)) ⊥) }

@@ -132,7 +132,8 @@ pub fn run<D: Disk, S: Source, K: Sink, E: Sink>(
         × RoseOf (Rose (D.count disk) (D.count result.disk))
         (Rose (S.count input.old) (S.count input.new)) (Rose (K.count out.old) (K.count out.new))
         object
-        × (IsTrue (D.volume disk).tells → IsTrue (S.input input.old).tells → IsTrue (K.output out.old).tells → Reached (args_of words.now) (D.volume disk) (S.input input.old).left object)
+        × (IsTrue (D.volume disk).tells → IsTrue (S.input input.old).tells → IsTrue (K.output out.old).tells →
+        Reached (args_of words.now) (D.volume disk) (S.input input.old).left object)
         × Says (E.output err.old).tells (SinkRefuses (Rose (E.count err.old) (E.count err.new)) (E.output err.new).short) (E.output err.old).held
         (E.output err.new).held (error_line (object_line words.now object)) }
 
@@ -142,7 +143,8 @@ pub fn run<D: Disk, S: Source, K: Sink, E: Sink>(
 
     // What a status of 3 or 4 leaves.
     ensures stopped { IsTrue (D.volume disk).tells → IsTrue (S.input input.old).tells → IsTrue (K.output out.old).tells → 3 ≤ result.status →
-        Appends (K.output out.old).held (K.output out.new).held (λ printed. Leftover (args_of words.now) (D.volume disk) (S.input input.old).left (D.volume result.disk) printed
+        Appends (K.output out.old).held (K.output out.new).held (λ printed.
+        Leftover (args_of words.now) (D.volume disk) (S.input input.old).left (D.volume result.disk) printed
         (Rose (D.count disk) (D.count result.disk) ⊎ (result.status ≡ 4))
         (SinkRefuses (Rose (K.count out.old) (K.count out.new)) (K.output out.new).short)) }
 

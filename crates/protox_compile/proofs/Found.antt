@@ -1,112 +1,47 @@
--- What is known of files, found by their names.
-use Rattle.std.proofs.Common.{◌≡◌, ◌∙◌, ◌+◌, ◌<◌, ◌++◌, ◌∷◌, ◌||◌, [], ℕ, zero, suc, List, Bool, true, false, refl, sym, ap, length, get_or, arith}
-use Rattle.std.proofs.Math.ListN.{set}
-use Rattle.std.proofs.lemmas.List.{map-append, length-map, length_push}
-use Rattle.std.specs.Prelude.{if◌then◌else◌, Option, Some, None, is_some}
-use Rattle.std.specs.List.{list_any}
-use Rattle.std.specs.Str.{bytes_eq}
-use Rattle.pbx_definitions.specs.Names.{among}
-use Rattle.protox_file.specs.Metadata.{Metadata}
-use Rattle.protox_compile.specs.declared.indexes.Indexes.{Indexes}
-use Rattle.protox_compile.specs.Indexes.{first_index, AreIndexed}
-use Rattle.protox_compile.specs.Compiled.{opened_at, opened_in, path_at, path_known, names_known}
-use Rattle.protox_compile.proofs.Indexed.{front, behind, below, found_among}
+-- What is found among elements, and its place.
+use Rattle.std.proofs.Common.{◌≡◌, ◌∙◌, ◌+◌, ◌<◌, ◌≤◌, ℕ, List, [], ◌∷◌, Bool, true, false, cond, not, nat_lt, length, Some, None, find, position, slice_get, refl, ap, sym, arith, lt-ltb, le-ltb, ltb-false}
+use Rattle.std.specs.List.{position_or_len}
+use Rattle.std.proofs.lemmas.List.Folds.{find_at}
+use Rattle.std.proofs.lemmas.Option.{slice_get_past}
 
-any_known : (name : List ℕ) (ms : List Metadata) → among (names_known ms) name ≡ list_any (λ (m : Metadata). bytes_eq m.name name) ms
-any_known name [] = refl
-any_known name (m ∷ ms) = ap (λ b. bytes_eq m.name name || b) (any_known name ms)
-
--- a name is found exactly if a file has it
-pub found_known : (name : List ℕ) (ms : List Metadata) → is_some (first_index name (names_known ms)) ≡ list_any (λ (m : Metadata). bytes_eq m.name name) ms
-found_known name ms = found_among name (names_known ms) ∙ any_known name ms
-
--- an index is that of a file
-pub within : (name : List ℕ) (ms : List Metadata) (i : ℕ) → first_index name (names_known ms) ≡ Some i → i < length ms
-within name ms i h = let less : i < length (names_known ms) = below name (names_known ms) i h in rw length-map at less
-
--- ---- paths
-
--- the path of the file of this index, if there is one
-abbrev pub path_by : List Metadata → Option ℕ → Option (List ℕ)
-path_by ms None = None
-path_by ms (Some i) = path_at i ms
-
-pub path_found : (name : List ℕ) (ms : List Metadata) → path_known name ms ≡ path_by ms (first_index name (names_known ms))
-path_found name [] = refl
-path_found name (m ∷ ms) = at (bytes_eq m.name name) (first_index name (names_known ms)) (path_found name ms)
+within : {X : Type 0} (p : X → Bool) (xs : List X) (d : X) → find p xs ≡ Some d → position_or_len p xs < length xs
+within p [] d e = absurd (cc)
+within p (x ∷ xs) d e = at (p x) e (within p xs d)
   where
-    at : (b : Bool) (o : Option ℕ) → path_known name ms ≡ path_by ms o → (if b then m.path else path_known name ms) ≡ path_by (m ∷ ms) (if b then front else behind o)
-    at true o h = refl
-    at false None h = h
-    at false (Some i) h = h
+    at : (b : Bool) → cond b (Some x) (find p xs) ≡ Some d → (find p xs ≡ Some d → position_or_len p xs < length xs)
+        → cond (not b) (1 + position_or_len p xs) 0 < length (x ∷ xs)
+    at true k more = omega arith
+    at false k more = let rest = more k in omega (arith, rest)
 
-pub path_is : (ms : List Metadata) (i : ℕ) (m : Metadata) → i < length ms → (get_or ms i m).path ≡ path_at i ms
-path_is [] i m h = absurd (omega (arith, h))
-path_is (x ∷ ms) zero m h = refl
-path_is (x ∷ ms) (suc i) m h = path_is ms i m (omega (arith, h))
+-- what is found has a place
+pub has_place : {X : Type 0} (p : X → Bool) (xs : List X) (d : X) → find p xs ≡ Some d → (t : ℕ) × (position p xs ≡ Some t)
+has_place p xs d e = let here = within p xs d e in (position_or_len p xs, rw (lt-ltb _ _ here) refl)
 
--- ---- marks
-
--- the files, that of this index opened, if there is one
-abbrev pub opened_by : List Metadata → Option ℕ → List Metadata
-opened_by ms None = ms
-opened_by ms (Some i) = opened_at i ms
-
-pub opened_found : (name : List ℕ) (ms : List Metadata) → opened_by ms (first_index name (names_known ms)) ≡ opened_in name ms
-opened_found name [] = refl
-opened_found name (m ∷ ms) = at (bytes_eq m.name name) (first_index name (names_known ms)) (opened_found name ms)
+-- without a place nothing is found
+pub none_found : {X : Type 0} (p : X → Bool) (xs : List X) → position p xs ≡ None → find p xs ≡ None
+none_found p xs e = at (nat_lt (position_or_len p xs) (length xs)) refl e
   where
-    at : (b : Bool) (o : Option ℕ) → opened_by ms o ≡ opened_in name ms → opened_by (m ∷ ms) (if b then front else behind o) ≡ (if b then record m { is_import = false } ∷ ms else m ∷ opened_in name ms)
-    at true o h = refl
-    at false None h = ap (λ xs. m ∷ xs) h
-    at false (Some i) h = ap (λ xs. m ∷ xs) h
+    at : (b : Bool) → nat_lt (position_or_len p xs) (length xs) ≡ b → cond b (Some (position_or_len p xs)) None ≡ None → find p xs ≡ None
+    at true h k = absurd (cc)
+    at false h k = find_at p xs ∙ slice_get_past xs _ (ltb-false _ _ h)
 
-pub opened_set : (ms now : List Metadata) (i : ℕ) (m : Metadata) → now ≡ ms → i < length ms → set now i (record (get_or now i m) { is_import = false }) ≡ opened_at i ms
-opened_set ms now i m is h = rw is (at ms i h)
+-- at its place stands what is found
+pub found_at : {X : Type 0} (p : X → Bool) (xs : List X) (i : ℕ) → position p xs ≡ Some i → slice_get xs i ≡ find p xs
+found_at p xs i e = at (nat_lt (position_or_len p xs) (length xs)) e
   where
-    at : (xs : List Metadata) (k : ℕ) → k < length xs → set xs k (record (get_or xs k m) { is_import = false }) ≡ opened_at k xs
-    at [] k less = absurd (omega (arith, less))
-    at (x ∷ xs) zero less = refl
-    at (x ∷ xs) (suc k) less = ap (λ ys. x ∷ ys) (at xs k (omega (arith, less)))
+    at : (b : Bool) → cond b (Some (position_or_len p xs)) None ≡ Some i → slice_get xs i ≡ find p xs
+    at true k = (let same : i ≡ position_or_len p xs = cc in ap (slice_get xs) same ∙ sym (find_at p xs))
+    at false k = absurd (cc)
 
-pub same_names : (i : ℕ) (ms : List Metadata) → names_known (opened_at i ms) ≡ names_known ms
-same_names i [] = refl
-same_names zero (m ∷ ms) = refl
-same_names (suc i) (m ∷ ms) = ap (λ ns. m.name ∷ ns) (same_names i ms)
+passed : {X : Type 0} (p : X → Bool) (xs : List X) → find p xs ≡ None → length xs ≤ position_or_len p xs
+passed p [] e = omega arith
+passed p (x ∷ xs) e = at (p x) e (passed p xs)
+  where
+    at : (b : Bool) → cond b (Some x) (find p xs) ≡ None → (find p xs ≡ None → length xs ≤ position_or_len p xs)
+        → length (x ∷ xs) ≤ cond (not b) (1 + position_or_len p xs) 0
+    at true k more = absurd (cc)
+    at false k more = let rest = more k in omega (arith, rest)
 
-pub same_length : (i : ℕ) (ms : List Metadata) → length (opened_at i ms) ≡ length ms
-same_length i [] = refl
-same_length zero (m ∷ ms) = refl
-same_length (suc i) (m ∷ ms) = ap suc (same_length i ms)
-
--- ---- one file more, and one less
-
-pub indexed_push : (names now : Indexes) (ms : List Metadata) (m : Metadata) (index : ℕ) → index ≡ length ms
-    → ((ns : List (List ℕ)) → length ns ≡ index → AreIndexed names ns → AreIndexed now (ns ++ m.name ∷ [])) → AreIndexed names (names_known ms)
-    → AreIndexed now (names_known (ms ++ m ∷ []))
-indexed_push names now ms m index long more h =
-    let same : length (names_known ms) ≡ index = rw length-map (sym long) in
-    rw map-append (more (names_known ms) same h)
-
-pub indexed_pop : (names now : Indexes) (old ms : List Metadata) (m : Metadata) (index : ℕ) → index ≡ length ms → old ≡ ms ++ m ∷ []
-    → ((ns : List (List ℕ)) → length ns ≡ index → AreIndexed names (ns ++ m.name ∷ []) → AreIndexed now ns) → AreIndexed names (names_known old)
-    → AreIndexed now (names_known ms)
-indexed_pop names now old ms m index long is less h =
-    let same : length (names_known ms) ≡ index = rw length-map (sym long) in
-    less (names_known ms) same (rw (is, map-append) at h)
-
--- what stands before the last is one list
-pub front_is : (xs ys : List Metadata) (x y : Metadata) → xs ++ x ∷ [] ≡ ys ++ y ∷ [] → xs ≡ ys
-front_is [] [] x y h = refl
-front_is [] (b ∷ ys) x y h =
-    let longer : length (ys ++ y ∷ []) ≡ length ys + 1 = length_push ys y in
-    let same : 1 ≡ suc (length (ys ++ y ∷ [])) = ap length h in
-    absurd (omega (arith, longer, same))
-front_is (a ∷ xs) [] x y h =
-    let longer : length (xs ++ x ∷ []) ≡ length xs + 1 = length_push xs x in
-    let same : suc (length (xs ++ x ∷ [])) ≡ 1 = ap length h in
-    absurd (omega (arith, longer, same))
-front_is (a ∷ xs) (b ∷ ys) x y h =
-    let heads : a ≡ b = cc in
-    let tails : xs ++ x ∷ [] ≡ ys ++ y ∷ [] = cc in
-    ap (λ l. a ∷ l) (front_is xs ys x y tails) ∙ ap (λ c. c ∷ ys) heads
+-- what is not found has no place
+pub no_place : {X : Type 0} (p : X → Bool) (xs : List X) → find p xs ≡ None → position p xs ≡ None
+no_place p xs e = let past = passed p xs e in rw (le-ltb _ _ past) refl

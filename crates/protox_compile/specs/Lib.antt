@@ -1,10 +1,3 @@
-pub mod Places
-pub mod Walk
-pub mod Opening
-pub mod Refusals
-pub mod Resume
-pub mod Closures
-pub mod Compiled
 pub mod State
-pub mod Indexes
-pub mod Laws
+pub mod Sets
+pub mod Compiling

@@ -1,52 +1,20 @@
 -- The state of a compiler.
-use Rattle.std.specs.Prelude.{◌≡◌, ◌<◌, ℕ, zero, suc, List, Bool, true, false, Option, Some, None}
-use Rattle.protox_paths.specs.Paths.{name_of, path_equal}
-use Rattle.protox_error.specs.declared.error.ErrorKind.{ErrorKind}
-use Rattle.protox_error.specs.declared.error.ErrorKind.TheVariants.{FileShadowed, NoMemory}
-use Rattle.protox_compile.specs.Walk.{Done, is_done}
-use Rattle.protox_compile.specs.Opening.{mark, asked_path}
-use Rattle.protox_compile.specs.Refusals.{Grows}
+use Rattle.std.specs.Prelude.{ℕ, List, [], Bool, false}
+use Rattle.protox_walk.specs.Walk.{Done}
 
--- its resolver, the files that are finished, and how many files there may be
+-- its resolver, the files that are finished, how many files there may be, and whether sets have the files that are only imported and
+-- source information
 pub record State (R : Type 0) : Type 0 where
   pub resolver : R
   pub done : List Done
   pub limit : ℕ
+  pub imports : Bool
+  pub info : Bool
 
--- the name that a path asks for, and whether the path was resolved
-abbrev pub IsRoot : Option (List ℕ × Option (List ℕ)) → List ℕ → Option (List ℕ × Bool) → Type 0
-IsRoot root path None = root ≡ None
-IsRoot root path (Some found) = root ≡ Some (found.0, asked_path found.1 path)
+-- how many files there may be at most
+abbrev pub most_files : ℕ
+most_files = 65536
 
--- a file that is finished has another path than the one that was asked
-abbrev pub IsShadowedBy : List ℕ → Option (List ℕ) → Option (List ℕ) → ErrorKind → Type 0
-IsShadowedBy name asked known (FileShadowed n path shadow) = (n ≡ name) × (asked ≡ Some path) × (known ≡ Some shadow) × (path_equal shadow path ≡ false)
-IsShadowedBy name asked known NoMemory = Unit {0}
-IsShadowedBy name asked known kind = ⊥
-
--- nothing is read for a name that is finished, nor where no name is asked for
-abbrev pub is_settled : Option (List ℕ × Option (List ℕ)) → List Done → Bool
-is_settled None done = true
-is_settled (Some root) done = is_done done root.0
-
--- more files stand behind the old ones as imports, and one of all has been marked, whose name names itself
-pub record Opens (old new : List Done) : Type 0 where
-  pub name : List ℕ
-  pub named : name_of name ≡ Some name
-  pub middle : List Done
-  pub grows : Grows old middle
-  pub finished : is_done middle name ≡ true
-  pub marked : new ≡ mark name middle
-
--- so many paths were opened one after another
-abbrev pub OpensTimes : ℕ → List Done → List Done → Type 0
-OpensTimes zero old new = new ≡ old
-OpensTimes (suc n) old new = (middle : List Done) × OpensTimes n old middle × Opens middle new
-
--- fewer than so many paths were opened one after another, and then more files stand behind as imports
-pub record GrowsWithin (most : ℕ) (old new : List Done) : Type 0 where
-  pub count : ℕ
-  pub fewer : count < most
-  pub middle : List Done
-  pub opens : OpensTimes count old middle
-  pub grows : Grows middle new
+-- a compiler without files
+abbrev pub fresh : {R : Type 0} → R → State R
+fresh resolver = record { resolver = resolver; done = []; limit = most_files; imports = false; info = false }

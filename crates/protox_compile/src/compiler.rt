@@ -6,19 +6,22 @@ ghost use Rattle.protox_io.specs.Count.{Later};
 ghost use Rattle.protox_file.specs.Causes.{FaultCause};
 ghost use Rattle.pbx_pool_laws.specs.Pool.{ArePooled};
 ghost use Rattle.protox_file.specs.Told.{ByLookups};
-ghost use Rattle.protox_compile.specs.Walk.{is_done, records};
-ghost use Rattle.protox_compile.specs.Opening.{opening, closure, root_of, Accepted};
-ghost use Rattle.protox_compile.specs.Refusals.{RefusesOpening, HasOpeningCause, HasOpeningsCause, Grows};
-ghost use Rattle.protox_compile.specs.State.{Opens, OpensTimes, GrowsWithin, is_settled};
-ghost use Rattle.protox_compile.specs.Closures.{StopsAt};
-ghost use Rattle.protox_compile.specs.Compiled.{IsOrdered, metadata_of};
+ghost use Rattle.protox_walk.specs.Walk.{is_done, records};
+ghost use Rattle.protox_walk.specs.Opening.{opening, closure, root_of, Accepted};
+ghost use Rattle.protox_walk.specs.Refusals.{RefusesOpening, HasOpeningCause, HasOpeningsCause, Grows};
+ghost use Rattle.protox_walk.specs.Opens.{Opens, OpensTimes, GrowsWithin, is_settled};
+ghost use Rattle.protox_walk.specs.Closures.{StopsAt};
+ghost use Rattle.protox_walk.specs.Compiled.{IsOrdered, metadata_of};
+ghost use Rattle.protox_compile.specs.State.{fresh, most_files};
+ghost use Rattle.protox_compile.specs.Sets.{listed as listed_of, IsSet, AreDecodable, IsUnencodable};
 
-use crate::compiled::Compiled;
-use crate::root::open_path;
+use crate::sets::{encode, listed, listed_set};
+use pbx_desc_records::FileDescriptorSet;
 use pbx_link::DescriptorPool;
-use pbx_wire::Texts;
+use pbx_wire::{NoMemory, Recs, Texts};
 use protox_file::{Disk, Error, FileMetadata, FileResolver, looked_up_once};
 use protox_resolvers::StandardResolver;
+use protox_walk::{FinishedFiles, open_path};
 use std::alloc::Global;
 use std::marker::Model;
 
@@ -29,8 +32,10 @@ const MOST_FILES: u32 = 65536;
 #[derive(Drop)]
 pub struct Compiler<R> {
     resolver: R,
-    compiled: Compiled,
+    finished: FinishedFiles,
     limit: u32,
+    imports: bool,
+    source_info: bool,
     alloc: Global,
 }
 
@@ -43,20 +48,28 @@ impl<R> Model for Compiler<R> {
 
     ghost coded = { Prim.hlevel (codes, proto.the_row.coded, R.code) };
 
-    ghost view = { λ c. record { resolver = c.resolver; done = c.compiled; limit = c.limit } };
+    ghost view = { λ c. record {
+      resolver = c.resolver;
+      done = c.finished;
+      limit = c.limit;
+      imports = c.imports;
+      info = c.source_info;
+    } };
 }
 
 impl<R: FileResolver> Compiler<R> {
     /// No files, of a resolver. Hands the resolver back where memory runs out.
     pub fn with_file_resolver(alloc: Global, resolver: R) -> Result<Compiler<R>, R>
-        ensures ok { IfOk result (λ compiler. compiler ≡ record { resolver = resolver; done = []; limit = 65536 }) }
+        ensures ok { IfOk result (λ compiler. compiler ≡ fresh resolver) }
         ensures err { IfErr result (λ back. back ≡ resolver) }
     {
-        match Compiled::new(alloc) {
-            Ok(compiled) => Ok(Compiler {
+        match FinishedFiles::new(alloc) {
+            Ok(finished) => Ok(Compiler {
                 resolver,
-                compiled,
+                finished,
                 limit: MOST_FILES,
+                imports: false,
+                source_info: false,
                 alloc,
             }),
             Err(_) => Err(resolver),
@@ -67,17 +80,35 @@ impl<R: FileResolver> Compiler<R> {
     /// 65,536. Files that are there stay.
     pub fn file_limit(&mut self, limit: u32) -> &mut Self
         ensures same { result.ghost_name ≡ self.entry.ghost_name }
-        ensures value { result.now ≡ record self.old { limit = min limit 65536 } }
+        ensures value { result.now ≡ record self.old { limit = min limit most_files } }
     {
         self.limit = limit.min(MOST_FILES);
+        self
+    }
+
+    /// Whether sets have the files that are only imported; at first they have not.
+    pub fn include_imports(&mut self, yes: bool) -> &mut Self
+        ensures same { result.ghost_name ≡ self.entry.ghost_name }
+        ensures value { result.now ≡ record self.old { imports = yes } }
+    {
+        self.imports = yes;
+        self
+    }
+
+    /// Whether sets have source information; at first they have not.
+    pub fn include_source_info(&mut self, yes: bool) -> &mut Self
+        ensures same { result.ghost_name ≡ self.entry.ghost_name }
+        ensures value { result.now ≡ record self.old { info = yes } }
+    {
+        self.source_info = yes;
         self
     }
 
     /// Opens the file at a path, with all that it imports, each before what imports it.
     ///
     /// The name of the path is what the resolver says, and else `path_to_file_name`. A file that is there already is
-    /// marked as opened, unless the path was resolved and is another than the file's, and nothing is read. A refused call leaves the files that were there with their marks, and adds
-    /// the imports that were finished, as imports.
+    /// marked as opened, unless the path was resolved and is another than the file's, and nothing is read. A refused call
+    /// leaves the files that were there with their marks, and adds the imports that were finished, as imports.
     pub fn open_file(&mut self, path: &str) -> Result<(), Error>
         // Over a resolver that tells, it does what opening is, by look-ups of the names that it asked for.
         ensures ok { IsTrue (R.library self.old.resolver).tells → OnOk result (ByLookups (R.library self.old.resolver).files
@@ -96,14 +127,14 @@ impl<R: FileResolver> Compiler<R> {
         ensures cause { IfErr result (HasOpeningCause self.old.limit path.now self.new.done
             (FaultCause (R.library self.old.resolver) (R.count self.old.resolver) (R.count self.new.resolver))) }
         ensures later { Later (R.count self.old.resolver) (R.count self.new.resolver) }
-        ensures limit { self.new.limit ≡ self.old.limit }
+        ensures settings { self.new ≡ record self.old { resolver = self.new.resolver; done = self.new.done } }
         ensures keeps { R.library self.new.resolver ≡ R.library self.old.resolver }
     {
         open_path(
             &mut self.resolver,
             self.alloc,
             self.limit,
-            &mut self.compiled,
+            &mut self.finished,
             path,
         )
     }
@@ -120,7 +151,7 @@ impl<R: FileResolver> Compiler<R> {
         ensures cause { IfErr result (HasOpeningsCause self.old.limit paths.now self.new.done
             (FaultCause (R.library self.old.resolver) (R.count self.old.resolver) (R.count self.new.resolver))) }
         ensures later { Later (R.count self.old.resolver) (R.count self.new.resolver) }
-        ensures limit { self.new.limit ≡ self.old.limit }
+        ensures settings { self.new ≡ record self.old { resolver = self.new.resolver; done = self.new.done } }
         ensures keeps { R.library self.new.resolver ≡ R.library self.old.resolver }
     {
         // So the look-ups of all paths agree.
@@ -134,18 +165,57 @@ impl<R: FileResolver> Compiler<R> {
         Ok(())
     }
 
+    /// The set of the files: their linked records in order, without the files that are only imported and without source
+    /// information, unless these are included. The only error is want of memory.
+    pub fn file_descriptor_set(&self) -> Result<FileDescriptorSet, NoMemory>
+        ensures { IfOk result (λ set. set ≡ record { file = listed_of self.now.imports self.now.info self.now.done; unknown = [] }) }
+    {
+        let pool = self.finished.pool();
+        let file = listed(
+            self.alloc,
+            self.finished.metadata(),
+            &pool,
+            self.imports,
+            self.source_info,
+        )?;
+        Ok(FileDescriptorSet {
+            file,
+            unknown: Recs::new(self.alloc),
+        })
+    }
+
+    /// The bytes of that set. `Undecodable` comes exactly where one of its files cannot be read again, since it nests more
+    /// than 100 levels, and names the first such file.
+    pub fn encode_file_descriptor_set(&self) -> Result<Vec<u8>, Error>
+        ensures ok { IfOk result (λ bytes. IsSet (listed_of self.now.imports self.now.info self.now.done) bytes.items) }
+        ensures decodable { OnOk result (AreDecodable (listed_of self.now.imports self.now.info self.now.done)) }
+        ensures err { IfErr result (IsUnencodable (listed_of self.now.imports self.now.info self.now.done)) }
+    {
+        let pool = self.finished.pool();
+        match listed_set(
+            self.alloc,
+            self.finished.metadata(),
+            &pool,
+            self.imports,
+            self.source_info,
+        ) {
+            Ok(set) => encode(self.alloc, set),
+            Err(error) => Err(error),
+        }
+    }
+
     /// What is known of each file, in order; takes no memory.
     pub fn files(&self) -> Files<'_>
         ensures files { iter_rest result ≡ map metadata_of self.now.done }
     {
-        self.compiled.metadata().iter()
+        self.finished.metadata().iter()
     }
 
     /// Whether a file of this name is there; takes no memory.
     pub fn is_compiled(&self, name: &str) -> bool
         ensures { result ≡ is_done self.now.done name.now }
     {
-        self.compiled.contains(name)
+        self.finished.contains(name)
     }
 
     /// The records of the files, in order; takes no memory. What is opened later is not in it.
@@ -156,27 +226,21 @@ impl<R: FileResolver> Compiler<R> {
         // Each record is linked among those before it, where it breaks no rule.
         ensures pooled { ArePooled [] (records self.now.done) }
     {
-        self.compiled.pool()
+        self.finished.pool()
     }
 
     /// The resolver.
     pub fn into_resolver(self) -> R
         ensures { result ≡ self.resolver }
     {
-        let Compiler {
-            resolver,
-            compiled: _,
-            limit: _,
-            alloc: _,
-        } = self;
-        resolver
+        self.resolver
     }
 }
 
 impl<D: Disk> Compiler<StandardResolver<D>> {
     /// No files, of the folders of a disk and the built-in files. Hands the disk back where memory runs out.
     pub fn new(alloc: Global, disk: D, includes: &Texts) -> Result<Compiler<StandardResolver<D>>, D>
-        ensures ok { IfOk result (λ compiler. compiler ≡ record { resolver = record { folders = includes.now; disk = disk }; done = []; limit = 65536 }) }
+        ensures ok { IfOk result (λ compiler. compiler ≡ fresh (record { folders = includes.now; disk = disk })) }
         ensures err { IfErr result (λ back. back ≡ disk) }
     {
         let resolver = match StandardResolver::new(alloc, disk, includes) {

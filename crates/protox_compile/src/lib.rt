@@ -1,19 +1,10 @@
 //! Compiling: files and all that they import, in order.
 #![tactic(auto)]
 
-mod compiled;
 mod compiler;
-mod frame;
-mod indexes;
-mod known;
-mod laws;
-mod opening;
-mod place;
-mod refusal;
-mod root;
-mod stack;
-mod step;
-mod walk;
+mod compiling;
+mod sets;
 
 pub use compiler::{Compiler, Files};
-pub use laws::{opening_again_marks, opens_by_all, opens_once};
+pub use compiling::{Compiled, compile, open_all};
+pub use protox_walk::{opening_again_marks, opens_by_all, opens_once};

@@ -39,16 +39,21 @@ pub(crate) fn of_chain(alloc: Global, row: &Row, told: &mut Told) {
     take_steps(alloc, row, &mut chain, told);
 }
 
-/// The folders that the steps of a row name, in order.
-pub(crate) fn folders(alloc: Global, row: &Row) -> Result<Texts, NoMemory> {
-    let mut folders = Texts::new(alloc);
+/// What the steps of a row name with that word, in order.
+pub(crate) fn named(alloc: Global, row: &Row, word: &str) -> Result<Texts, NoMemory> {
+    let mut texts = Texts::new(alloc);
     for number in 0..steps(row) {
         let step = step_at(row, number);
-        if step.word == "folder" {
-            folders.add(Text::from_str(alloc, step.text)?)?;
+        if step.word == word {
+            texts.add(Text::from_str(alloc, step.text)?)?;
         }
     }
-    Ok(folders)
+    Ok(texts)
+}
+
+/// The folders that the steps of a row name, in order.
+pub(crate) fn folders(alloc: Global, row: &Row) -> Result<Texts, NoMemory> {
+    named(alloc, row, "folder")
 }
 
 /// The disk in memory that the steps of a row fill.

@@ -1,5 +1,6 @@
 //! Questions about files with all that they import. The steps of a row put files, set limits and open paths.
 
+use crate::compiled::{include, say_encoded, say_set};
 use crate::errors::{add_long_line, sort};
 use crate::over::{filled_disk, folders};
 use crate::resolvers;
@@ -218,6 +219,9 @@ fn take<R: FileResolver>(
         "at" => say_record(&compiler.descriptor_pool(), step.text, told),
         "earlier" => earlier(alloc, compiler, step, told),
         "paths" => say_paths(compiler, told),
+        "include" => include(compiler, step.text),
+        "set" => say_set(compiler, told),
+        "encoded" => say_encoded(alloc, compiler, told),
         "extension" => say_extension(alloc, &compiler.descriptor_pool(), told),
         _ => {}
     }

@@ -1,7 +1,7 @@
 use Rattle.std.proofs.Common.{IfOk, IfErr, string_bytes}
 use Rattle.serde_json.specs.View.{view}
 use Rattle.protox_io.specs.Count.{Rose}
-use Rattle.protox.specs.Top.{ForFiles, IsTranscoded, Refuses}
+use Rattle.protox_transcode.specs.Top.{ForFiles, IsTranscoded, Refuses}
 use Rattle.protox.proofs.Judged.{ok_of, err_of, ok_both, of_folders, gives, file_stop, stop_caused, of_disk, disk_kept}
 use Rattle.protox.proofs.plan.compile.Goals as goal
 

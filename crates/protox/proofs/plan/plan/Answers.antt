@@ -1,6 +1,5 @@
 use Rattle.serde_json.specs.View.{view}
-use Rattle.protox.proofs.Judged.{file_judged}
-use Rattle.protox.proofs.Transcoding.{ok_then, err_then}
+use Rattle.protox.proofs.Judged.{file_judged, ok_then, err_then}
 use Rattle.protox.proofs.plan.plan.Goals as goal
 
 pub returns-in-Ok-clause-done : goal.returns-in-Ok-clause-done

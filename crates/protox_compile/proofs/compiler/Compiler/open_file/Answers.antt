@@ -1,6 +1,6 @@
 use Rattle.std.proofs.Common.{◌≡◌, ap, IsTrue, true}
-use Rattle.protox_compile.specs.Opening.{root_of}
-use Rattle.protox_compile.specs.State.{is_settled}
+use Rattle.protox_walk.specs.Opening.{root_of}
+use Rattle.protox_walk.specs.Opens.{is_settled}
 use Rattle.protox_compile.proofs.compiler.Compiler.open_file.Goals as goal
 
 pub returns-clause-ok : goal.returns-clause-ok
@@ -18,9 +18,9 @@ returns-clause-err g c tells =
 pub returns-clause-again : goal.returns-clause-again
 returns-clause-again g c tells settled =
     let same : c.self.inside.resolver ≡ c.args.self.now.resolver = ap (λ s. s.resolver) c.self.view_is in
-    let files : c.self.inside.compiled ≡ c.args.self.now.done = ap (λ s. s.done) c.self.view_is in
+    let files : c.self.inside.finished ≡ c.args.self.now.done = ap (λ s. s.done) c.self.view_is in
     let told : IsTrue (g.R.FileResolver.library c.self.inside.resolver).tells = rw same tells in
-    let there : is_settled (root_of (g.R.FileResolver.library c.self.inside.resolver).resolves c.args.path.now) c.self.inside.compiled ≡ true = rw (same, files) settled in
+    let there : is_settled (root_of (g.R.FileResolver.library c.self.inside.resolver).resolves c.args.path.now) c.self.inside.finished ≡ true = rw (same, files) settled in
     rw (← c.self.view_is) (c.open_path.ensures.again told there)
 
 pub returns-clause-unread : goal.returns-clause-unread

@@ -1,13 +1,13 @@
 use Rattle.std.proofs.Common.{◌≡◌, IsTrue, take}
 use Rattle.protox_io.specs.Count.{Later}
 use Rattle.protox_file.specs.Told.{ByLookups}
-use Rattle.protox_compile.specs.Opening.{closure, Accepted}
-use Rattle.protox_compile.specs.State.{OpensTimes}
+use Rattle.protox_walk.specs.Opening.{closure, Accepted}
+use Rattle.protox_walk.specs.Opens.{OpensTimes}
 use Rattle.protox_compile.proofs.compiler.Compiler.open_files.Given as goal
 
 abbrev pub invariant-loop-path : goal.invariant-loop-path
 invariant-loop-path g l = record {
-  limit : l.self.limit ≡ l.fn.self.limit;
+  settings : l.self ≡ record l.fn.self { resolver = l.self.resolver; done = l.self.done };
   keeps : g.R.FileResolver.library l.self.resolver ≡ g.R.FileResolver.library l.fn.self.resolver;
   later : Later (g.R.FileResolver.count l.fn.self.resolver) (g.R.FileResolver.count l.self.resolver);
   opens : OpensTimes l.path-index l.fn.self.done l.self.done;

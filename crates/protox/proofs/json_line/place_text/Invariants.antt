@@ -1,6 +1,0 @@
-use Rattle.std.proofs.Common.{◌≡◌, take, string_bytes}
-use Rattle.protox.specs.Json.{place_text}
-use Rattle.protox.proofs.json_line.place_text.Given as goal
-
-abbrev pub invariant-loop-step : goal.invariant-loop-step
-invariant-loop-step l = string_bytes l.place ≡ place_text (take l.step-index l.steps)

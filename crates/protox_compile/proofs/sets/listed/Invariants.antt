@@ -1,0 +1,8 @@
+use Rattle.std.proofs.Common.{◌≡◌, ◌++◌}
+use Rattle.protox_walk.specs.Compiled.{done_of}
+use Rattle.protox_compile.specs.Sets.{listed as listed_of}
+use Rattle.protox_compile.proofs.Listed.{left}
+use Rattle.protox_compile.proofs.sets.listed.Given as goal
+
+abbrev pub invariant-loop-metadata : goal.invariant-loop-metadata
+invariant-loop-metadata l = l.listed ++ left l.imports l.info l.known l.metadata-index l.files ≡ listed_of l.imports l.info (done_of l.known l.pool)

@@ -1,0 +1,140 @@
+-- From the answers of the parts to what the whole run comes to.
+use Rattle.std.proofs.Common.{◌≡◌, ◌∷◌, [], ◌≤◌, Bool, true, false, inl, inr, if◌then◌else◌, IsTrue, Result, Ok, Err, IfOk, IfErr, MatchOption, ℕ, List, length, Option, Some, ap, ◌∙◌, sym, subst}
+use Rattle.serde_json.specs.Data.{Data}
+use Rattle.pbx_desc_records.specs.declared.file.FileDescriptorProto.{FileDescriptorProto}
+use Rattle.pbx_pool_laws.specs.Pool.{ArePooled}
+use Rattle.protox_io.specs.Count.{Count}
+use Rattle.protox_file.specs.Causes.{FaultCause}
+use Rattle.protox_file.specs.Library.{Library}
+use Rattle.protox_file.specs.Told.{Told, ByLookups}
+use Rattle.protox_error.specs.declared.error.ErrorKind.{ErrorKind}
+use Rattle.protox_error.specs.declared.error.ErrorKind.TheVariants as kinds
+use Rattle.protox_walk.specs.Walk.{Done, records}
+use Rattle.protox_walk.specs.Opening.{Accepted, closure}
+use Rattle.protox_walk.specs.Closures.{StopsAt}
+use Rattle.protox_walk.specs.Compiled.{IsOrdered}
+use Rattle.protox_walk.specs.Refusals.{HasOpeningCause}
+use Rattle.protox_compile.specs.State.{State, fresh, most_files}
+use Rattle.protox_compile.specs.Sets.{IsUndecodable}
+use Rattle.protox_transcode.specs.Top.{ForFiles, IsCaused, IsRefused, IsTranscoded, Refuses, is_memory, of_error}
+use Rattle.protox_transcode.specs.declared.error.TopError.{TopError}
+use Rattle.protox_transcode.specs.declared.error.TopError.TheVariants as top
+
+-- two facts of a result give another
+pub ok_both : {X E : Type 0} {P Q S : X → Type 0} (r : Result X E) → ((x : X) → P x → Q x → S x) → IfOk r P → IfOk r Q → IfOk r S
+ok_both (Ok x) f p q = f x p q
+ok_both (Err e) f p q = tt
+
+pub ok_of : {X E : Type 0} (P : X → Type 0) (r : Result X E) (x : X) → r ≡ Ok x → IfOk r P → P x
+ok_of {X = X} {E = E} P r x e h = let Q : Result X E → Type 0 = λ y. IfOk y P in subst Q e h
+
+pub err_of : {X E : Type 0} (P : E → Type 0) (r : Result X E) (x : E) → r ≡ Err x → IfErr r P → P x
+err_of {X = X} {E = E} P r x e h = let Q : Result X E → Type 0 = λ y. IfErr y P in subst Q e h
+
+pub some_of : {X : Type 0} (N : Type 0) (P : X → Type 0) (o : Option X) (x : X) → o ≡ Some x → MatchOption o N P → P x
+some_of {X = X} N P o x e h = let Q : Option X → Type 0 = λ y. MatchOption y N P in subst Q e h
+
+-- ---- what a compiler without files answers
+
+module _ {R : Type 0} (library : R → Library) (r : R) (s : State R) (paths : List (List ℕ)) (later : List Done) where
+  pub stopped : (name : List ℕ) (tree : Data) (error : ErrorKind) → s ≡ fresh r
+      → (IsTrue (library s.resolver).tells → ByLookups (library s.resolver).files (λ ls. StopsAt ls (library s.resolver).resolves s.limit paths s.done later error))
+      → IsTrue (library r).tells → Refuses (library r).files (library r).resolves paths name tree (of_error error)
+  stopped name tree error e h t = at (is_memory error)
+    where
+      P : State R → Type 0
+      P c = (IsTrue (library c.resolver).tells → ByLookups (library c.resolver).files (λ ls. StopsAt ls (library c.resolver).resolves c.limit paths c.done later error))
+
+      stops : ByLookups (library r).files (λ ls. StopsAt ls (library r).resolves most_files paths [] later error)
+      stops = (subst P e h) t
+
+      at : (b : Bool) → Refuses (library r).files (library r).resolves paths name tree (if b then top.NoMemory else top.File error)
+      at true = tt
+      at false = inl (stops.0, stops.1, (later, stops.2))
+
+  pub accepted : s ≡ fresh r
+      → (IsTrue (library s.resolver).tells → ByLookups (library s.resolver).files (λ ls. closure ls (library s.resolver).resolves s.limit paths s.done ≡ (later, Accepted)))
+      → IsTrue (library r).tells → ByLookups (library r).files (λ ls. closure ls (library r).resolves most_files paths [] ≡ (later, Accepted))
+  accepted e h t =
+      let P : State R → Type 0 = λ c. (IsTrue (library c.resolver).tells → ByLookups (library c.resolver).files (λ ls. closure ls (library c.resolver).resolves c.limit paths c.done ≡ (later, Accepted))) in
+      (subst P e h) t
+
+module _ (told : List ℕ → Told) (resolves : List ℕ → Option (List ℕ)) (paths : List (List ℕ)) (later : List Done) (all : ByLookups told (λ ls. closure ls resolves most_files paths [] ≡ (later, Accepted))) (files : List FileDescriptorProto) (is : files ≡ records later) where
+  -- what is said of the files of the closure
+  for_files : (P : List FileDescriptorProto → Type 0) → P files → ForFiles told resolves paths P
+  for_files P h = (all.0, all.1, (later, all.2, subst P is h))
+
+  -- what is refused among them
+  pub all_refused : (name : List ℕ) (tree : Data) (error : TopError) → IsRefused name tree files error → Refuses told resolves paths name tree error
+  all_refused name tree (top.File error) h = inr (for_files (λ fs. IsUndecodable fs error) h)
+  all_refused name tree (top.JsonNames message key) h = for_files (λ fs. IsRefused name tree fs (top.JsonNames message key)) h
+  all_refused name tree (top.WellKnownShape message) h = for_files (λ fs. IsRefused name tree fs (top.WellKnownShape message)) h
+  all_refused name tree (top.TypeNotFound n) h = for_files (λ fs. IsRefused name tree fs (top.TypeNotFound n)) h
+  all_refused name tree top.TooDeep h = for_files (λ fs. IsRefused name tree fs top.TooDeep) h
+  all_refused name tree top.NoMemory h = tt
+  all_refused name tree (top.Json e) h = for_files (λ fs. IsRefused name tree fs (top.Json e)) h
+
+  pub all_given : (name : List ℕ) (tree : Data) (set wire : List ℕ) (written : Data) → IsTranscoded name tree files set wire written → ForFiles told resolves paths (λ fs. IsTranscoded name tree fs set wire written)
+  all_given name tree set wire written h = for_files (λ fs. IsTranscoded name tree fs set wire written) h
+
+-- the files of the pool are those that the compiler holds, in order and linked
+pub all_pooled : (name : List ℕ) (tree : Data) (later : List Done) (files : List FileDescriptorProto) (set wire : List ℕ) (written : Data) → files ≡ records later → IsOrdered [] later → ArePooled [] (records later)
+    → IsTranscoded name tree files set wire written → (dones : List Done) × IsOrdered [] dones × ArePooled [] (records dones) × IsTranscoded name tree (records dones) set wire written
+all_pooled name tree later files set wire written e ordered pooled h =
+    (later, ordered, pooled, (let P : List FileDescriptorProto → Type 0 = λ fs. IsTranscoded name tree fs set wire written in subst P e h))
+
+-- the cause is that of the resolver that is handed back
+pub of_resolver : {R : Type 0} (library : R → Library) (count : R → Count) (a b x y : R) (error : TopError) → x ≡ a → b ≡ y
+    → IsCaused (FaultCause (library x) (count x) (count y)) error → IsCaused (FaultCause (library a) (count a) (count b)) error
+of_resolver {R = R} library count a b x y error e k h =
+    let P : R → Type 0 = λ r. IsCaused (FaultCause (library r) (count r) (count y)) error in
+    let Q : R → Type 0 = λ r. IsCaused (FaultCause (library a) (count a) (count r)) error in
+    subst Q (sym k) (subst P e h)
+
+-- what is kept of the resolver that is handed back
+pub resolver_kept : {R : Type 0} (library : R → Library) (a b x y : R) → x ≡ a → b ≡ y → library y ≡ library x → library b ≡ library a
+resolver_kept library a b x y e k h = ap library k ∙ h ∙ ap library e
+
+-- the cause that an error of a walk has over every resolver
+pub walk_caused : (most : ℕ) (path : List ℕ) (later : List Done) (fault : ErrorKind → Type 0) (error : ErrorKind) → HasOpeningCause most path later fault error → IsCaused fault (of_error error)
+walk_caused most path later fault (kinds.Parse e) h = tt
+walk_caused most path later fault (kinds.Check e) h = tt
+walk_caused most path later fault (kinds.OpenFile name p words) h = h
+walk_caused most path later fault (kinds.FileTooLarge name) h = tt
+walk_caused most path later fault (kinds.FileInvalidUtf8 name) h = tt
+walk_caused most path later fault (kinds.FileNotFound name) h = tt
+walk_caused most path later fault (kinds.ImportNotFound file index place name) h = tt
+walk_caused most path later fault (kinds.CircularImport name cycle) h = tt
+walk_caused most path later fault (kinds.FileNotIncluded p) h = tt
+walk_caused most path later fault (kinds.FileShadowed name asked shadow) h = tt
+walk_caused most path later fault (kinds.DuplicateImport file index place name) h = tt
+walk_caused most path later fault (kinds.Custom text is_io) h = h
+walk_caused most path later fault (kinds.NameMismatch asked declared) h = tt
+walk_caused most path later fault (kinds.FileLimit n) h = tt
+walk_caused most path later fault (kinds.Undecodable file) h = tt
+walk_caused most path later fault kinds.NoMemory h = tt
+
+-- an error that is told of the pool has no cause outside
+pub pool_caused : (fault : ErrorKind → Type 0) (name : List ℕ) (tree : Data) (files : List FileDescriptorProto) (error : TopError) → IsRefused name tree files error → IsCaused fault error
+pool_caused fault name tree files (top.File (kinds.Parse e)) h = absurd h
+pool_caused fault name tree files (top.File (kinds.Check e)) h = absurd h
+pool_caused fault name tree files (top.File (kinds.OpenFile file p words)) h = absurd h
+pool_caused fault name tree files (top.File (kinds.FileTooLarge file)) h = absurd h
+pool_caused fault name tree files (top.File (kinds.FileInvalidUtf8 file)) h = absurd h
+pool_caused fault name tree files (top.File (kinds.FileNotFound file)) h = absurd h
+pool_caused fault name tree files (top.File (kinds.ImportNotFound file index place n)) h = absurd h
+pool_caused fault name tree files (top.File (kinds.CircularImport file cycle)) h = absurd h
+pool_caused fault name tree files (top.File (kinds.FileNotIncluded p)) h = absurd h
+pool_caused fault name tree files (top.File (kinds.FileShadowed file asked shadow)) h = absurd h
+pool_caused fault name tree files (top.File (kinds.DuplicateImport file index place n)) h = absurd h
+pool_caused fault name tree files (top.File (kinds.Custom text is_io)) h = absurd h
+pool_caused fault name tree files (top.File (kinds.NameMismatch asked declared)) h = absurd h
+pool_caused fault name tree files (top.File (kinds.FileLimit n)) h = absurd h
+pool_caused fault name tree files (top.File (kinds.Undecodable file)) h = tt
+pool_caused fault name tree files (top.File kinds.NoMemory) h = absurd h
+pool_caused fault name tree files (top.JsonNames message key) h = tt
+pool_caused fault name tree files (top.WellKnownShape message) h = tt
+pool_caused fault name tree files (top.TypeNotFound n) h = tt
+pool_caused fault name tree files top.TooDeep h = tt
+pool_caused fault name tree files top.NoMemory h = tt
+pool_caused fault name tree files (top.Json e) h = h.2.2.0

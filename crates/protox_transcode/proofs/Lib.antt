@@ -1,0 +1,4 @@
+pub mod Judged
+pub mod SetOf
+pub mod Transcoding
+pub mod Determined

@@ -1,0 +1,5 @@
+pub mod Json
+pub mod Top
+pub mod Input
+pub mod Parts
+pub mod Laws

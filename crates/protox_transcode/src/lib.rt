@@ -1,0 +1,14 @@
+//! From files, a type's name and a JSON tree to the set of the files, the wire bytes and the canonical tree.
+#![tactic(auto)]
+
+mod error;
+mod input_tree;
+mod json_line;
+mod laws;
+mod set;
+mod transcode;
+
+pub use error::{TopError, file_error};
+pub use input_tree::InputTree;
+pub use laws::transcoded_is_determined;
+pub use transcode::{Attempt, Transcoded, compile_and_transcode, transcode_files};

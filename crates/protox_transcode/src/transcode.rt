@@ -1,0 +1,270 @@
+//! From files, a type's name and a tree to the set of the files, the wire bytes and the canonical tree.
+
+ghost use Rattle.std.specs.Prelude.{◌≡◌, ◌≤◌, ◌⊎◌, [], IfOk, IfErr, OnOk, IsTrue, List};
+ghost use Rattle.serde_json.specs.View.{view};
+ghost use Rattle.pbx_json_meaning.specs.Canonical.{canonical};
+ghost use Rattle.pbx_json_meaning.specs.Options.{default_reading, default_writing};
+ghost use Rattle.pbx_json_meaning.specs.Trees.{HasTexts};
+ghost use Rattle.pbx_pool_laws.specs.Pool.{ArePooled};
+ghost use Rattle.pbx_described.specs.Descriptors.{message_of_name};
+ghost use Rattle.pbx_described.specs.Shapes.{shape_of, place_of};
+ghost use Rattle.pbx_message.specs.Trees.{IsRead};
+ghost use Rattle.protox_io.specs.Count.{Later};
+ghost use Rattle.protox_file.specs.Causes.{FaultCause};
+ghost use Rattle.protox_walk.specs.Walk.{Done, records};
+ghost use Rattle.protox_walk.specs.Compiled.{IsOrdered};
+ghost use Rattle.protox_transcode.specs.Input.{data_of};
+ghost use Rattle.protox_transcode.specs.Parts.{IsClear, IsNotClear, IsNotTold, IsNamed, IsNotNamed, IsNotWritten, IsWire, IsWritten};
+ghost use Rattle.protox_transcode.specs.Top.{ForFiles, HaveClearNames, IsTranscoded, IsRefused, Refuses, IsCaused, Transcodes};
+
+use crate::error::{TopError, file_error, json_error, names_error};
+use crate::input_tree::InputTree;
+use crate::set::set_of;
+use pbx_desc::Message;
+use pbx_json::{JsonMessage, check_names, fits_levels};
+use pbx_json_laws::{canonical_stands, fitting_is_written, values_have_texts};
+use pbx_json_shape_laws::shapes_are_well_named;
+use pbx_link::{DescriptorPool, MessageDescriptor};
+use pbx_meaning::encoding_decodes;
+use pbx_message::DynamicMessage;
+use pbx_message_laws::kinds_have_types;
+use pbx_wire::{Blob, NoMemory, Text, Texts};
+use protox_compile::Compiler;
+use protox_file::FileResolver;
+use serde_json::Value;
+use std::alloc::Global;
+
+/// The set of the files, the wire bytes and the canonical tree.
+#[derive(Drop)]
+pub struct Transcoded {
+    /// The `google.protobuf.FileDescriptorSet` of the files, each behind all that it imports.
+    pub set: Blob,
+    /// The message's bytes on the wire.
+    pub wire: Blob,
+    /// The message in canonical JSON.
+    pub tree: Value,
+}
+
+/// What a transcoding leaves: the resolver, and what came of it.
+#[derive(Drop)]
+pub struct Attempt<R> {
+    pub resolver: R,
+    pub result: Result<Transcoded, TopError>,
+}
+
+fn type_not_found(alloc: Global, type_name: &str) -> TopError
+    ensures { (result ≡ TopError.NoMemory) ⊎ (result ≡ TopError.TypeNotFound type_name.now) }
+{
+    match Text::from_str(alloc, type_name) {
+        Ok(name) => TopError::TypeNotFound { name },
+        Err(NoMemory) => TopError::NoMemory,
+    }
+}
+
+/// The bytes of the message.
+fn wire_of(alloc: Global, message: &DynamicMessage) -> Result<Blob, NoMemory>
+    ensures { IfOk result (IsWire message.now) }
+{
+    let bytes = message.encode_to_vec(alloc)?;
+    Blob::from_slice(alloc, bytes.as_slice())
+}
+
+/// The wire bytes of the message, and its canonical tree.
+fn write_both(alloc: Global, message: &DynamicMessage) -> Result<(Blob, Value), TopError>
+    ensures ok { IfOk result (λ done. IsWritten message.now.of message.now.content done.0 (view done.1)) }
+    ensures stop { IfErr result (IsNotWritten
+        (canonical (shape_of message.now.of.pool) (place_of message.now.of) message.now.content default_writing)) }
+{
+    let Ok(wire) = wire_of(alloc, message) else {
+        return Err(TopError::NoMemory);
+    };
+    match message.serialize(alloc) {
+        Ok(tree) => Ok((wire, tree)),
+        Err(error) => Err(json_error(error)),
+    }
+}
+
+/// The message of the type that the tree stands for; an own tree is let go.
+fn message_of(
+    alloc: Global,
+    desc: MessageDescriptor,
+    tree: InputTree<'_>,
+) -> Result<DynamicMessage, TopError>
+    ensures texts { HasTexts (data_of tree.entry) }
+    ensures of { IfOk result (λ m. m.of ≡ desc) }
+    ensures read { IfOk result (λ m. IsRead desc default_reading (data_of tree.entry) m.content) }
+    ensures err { IfErr result (IsNotTold desc (data_of tree.entry)) }
+{
+    let value = tree.as_value();
+    values_have_texts(value);
+    match DynamicMessage::deserialize(alloc, desc, value) {
+        Ok(message) => Ok(message),
+        Err(error) => Err(json_error(error)),
+    }
+}
+
+/// The wire bytes of the message of the type that the tree stands for, and its canonical tree.
+fn transcode_as(
+    alloc: Global,
+    desc: MessageDescriptor,
+    tree: InputTree<'_>,
+) -> Result<(Blob, Value), TopError>
+    ensures ok { IsClear (shape_of desc.pool) →
+        IfOk result (λ done. Transcodes (shape_of desc.pool) (place_of desc) (data_of tree.entry) done.0 (view done.1)) }
+    ensures err { IsClear (shape_of desc.pool) → IfErr result (IsNotTold desc (data_of tree.entry)) }
+{
+    // What the message is written as stands for it, and decodes to it.
+    canonical_stands();
+    fitting_is_written();
+    encoding_decodes();
+    let message = match message_of(alloc, desc, tree) {
+        Ok(message) => message,
+        Err(error) => return Err(error),
+    };
+    // What it holds may be held by a message of its type.
+    let _sound = message.descriptor();
+    match fits_levels(alloc, &message) {
+        Ok(true) => write_both(alloc, &message),
+        Ok(false) => Err(TopError::TooDeep),
+        Err(NoMemory) => Err(TopError::NoMemory),
+    }
+}
+
+/// Refuses a pool of which a message's JSON has a key with two meanings, or a message of a well-known name has not its shape.
+fn check_clear(alloc: Global, pool: &DescriptorPool) -> Result<(), TopError>
+    ensures ok { OnOk result (IsClear (shape_of pool.now)) }
+    ensures err { IfErr result (IsNotClear pool.now) }
+{
+    shapes_are_well_named();
+    let _pooled = pool.files();
+    let Ok(schema) = pool.schema() else {
+        return Err(TopError::NoMemory);
+    };
+    let _proper = schema.as_ref().shape();
+    match check_names(alloc, pool) {
+        Ok(()) => Ok(()),
+        Err(fault) => Err(names_error(fault)),
+    }
+}
+
+/// The tree as a message of a type of the pool's.
+fn transcode_named(
+    alloc: Global,
+    pool: &DescriptorPool,
+    type_name: &str,
+    tree: InputTree<'_>,
+) -> Result<(Blob, Value), TopError>
+    ensures ok { IsClear (shape_of pool.now) → IfOk result (λ done. IsNamed pool.now type_name.now (data_of tree.entry) done.0 (view done.1)) }
+    ensures err { IsClear (shape_of pool.now) → IfErr result (IsNotNamed pool.now type_name.now (data_of tree.entry)) }
+{
+    // The message is one of this pool's.
+    kinds_have_types();
+    let _pooled = pool.files();
+    match pool.get_message_by_name(type_name) {
+        Some(desc) => transcode_as(alloc, desc, tree),
+        None => Err(type_not_found(alloc, type_name)),
+    }
+}
+
+/// The tree as a message of a type of the pool's, and the set of the pool's files.
+fn transcode_in(
+    alloc: Global,
+    pool: &DescriptorPool,
+    type_name: &str,
+    tree: InputTree<'_>,
+) -> Result<Transcoded, TopError>
+    ensures ok { IfOk result (λ done. IsTranscoded type_name.now (data_of tree.entry) pool.now done.set done.wire (view done.tree)) }
+    ensures err { IfErr result (IsRefused type_name.now (data_of tree.entry) pool.now) }
+{
+    let set = match set_of(alloc, pool) {
+        Ok(set) => set,
+        Err(error) => return Err(error),
+    };
+    match check_clear(alloc, pool) {
+        Ok(()) => {}
+        Err(error) => return Err(error),
+    }
+    match transcode_named(alloc, pool, type_name, tree) {
+        Ok((wire, tree)) => Ok(Transcoded { set, wire, tree }),
+        Err(error) => Err(error),
+    }
+}
+
+/// As `compile_and_transcode`; an own tree is let go once it is read.
+pub fn transcode_files<R: FileResolver>(
+    alloc: Global,
+    resolver: R,
+    paths: &Texts,
+    type_name: &str,
+    tree: InputTree<'_>,
+) -> Attempt<R>
+    // Over a resolver that tells, the files are the closure of the paths.
+    ensures ok { IsTrue (R.library resolver).tells → IfOk result.result (λ done. ForFiles (R.library resolver).files (R.library resolver).resolves paths.now
+        (λ files. IsTranscoded type_name.now (data_of tree.entry) files done.set done.wire (view done.tree))) }
+    ensures err { IsTrue (R.library resolver).tells → IfErr result.result (Refuses (R.library resolver).files (R.library resolver).resolves paths.now type_name.now (data_of tree.entry)) }
+    ensures cause { IfErr result.result (IsCaused (FaultCause (R.library resolver) (R.count resolver) (R.count result.resolver))) }
+
+    // Over every resolver, the files stand in order, each once and behind its imports, and each is linked among those before it.
+    ensures ordered { IfOk result.result
+        (λ done. (files : List Done) × IsOrdered [] files × ArePooled [] (records files)
+        × IsTranscoded type_name.now (data_of tree.entry) (records files) done.set done.wire (view done.tree)) }
+    ensures later { Later (R.count resolver) (R.count result.resolver) }
+    ensures keeps { R.library result.resolver ≡ R.library resolver }
+{
+    let mut compiler = match Compiler::with_file_resolver(alloc, resolver) {
+        Ok(compiler) => compiler,
+        Err(resolver) => {
+            return Attempt {
+                resolver,
+                result: Err(TopError::NoMemory),
+            };
+        }
+    };
+    match compiler.open_files(paths) {
+        Ok(()) => {}
+        Err(error) => {
+            return Attempt {
+                resolver: compiler.into_resolver(),
+                result: Err(file_error(error)),
+            };
+        }
+    }
+    let pool = compiler.descriptor_pool();
+    let result = transcode_in(alloc, &pool, type_name, tree);
+    Attempt {
+        resolver: compiler.into_resolver(),
+        result,
+    }
+}
+
+/// Compiles the files at the paths with all that they import, and transcodes a tree as a message of the type of that
+/// full name: into the set of the files, each behind all that it imports, the wire bytes and the canonical tree.
+/// At most 65,536 files are taken, and none that nests more than 100 levels, since no reader of the set would take it;
+/// neither is a message that nests so deep, or has a payload that does. The resolver is handed back.
+///
+/// The names of the paths are as those of `Compiler::open_file`. The tree is read last: refused are, in this order, a
+/// file, a key with two meanings in the JSON of any message of the files, a message of a well-known name without its
+/// shape, the type's name, a tree that stands for no message of the type, and a message that nests too deep, itself or in
+/// a payload.
+pub fn compile_and_transcode<R: FileResolver>(
+    alloc: Global,
+    resolver: R,
+    paths: &Texts,
+    type_name: &str,
+    tree: &Value,
+) -> Attempt<R>
+    // Over a resolver that tells, the files are the closure of the paths.
+    ensures ok { IsTrue (R.library resolver).tells → IfOk result.result (λ done. ForFiles (R.library resolver).files (R.library resolver).resolves paths.now
+        (λ files. IsTranscoded type_name.now (view tree.now) files done.set done.wire (view done.tree))) }
+    ensures err { IsTrue (R.library resolver).tells → IfErr result.result (Refuses (R.library resolver).files (R.library resolver).resolves paths.now type_name.now (view tree.now)) }
+    ensures cause { IfErr result.result (IsCaused (FaultCause (R.library resolver) (R.count resolver) (R.count result.resolver))) }
+
+    // Over every resolver, the files stand in order, each once and behind its imports, and each is linked among those before it.
+    ensures ordered { IfOk result.result
+        (λ done. (files : List Done) × IsOrdered [] files × ArePooled [] (records files)
+        × IsTranscoded type_name.now (view tree.now) (records files) done.set done.wire (view done.tree)) }
+    ensures later { Later (R.count resolver) (R.count result.resolver) }
+    ensures keeps { R.library result.resolver ≡ R.library resolver }
+{
+    transcode_files(alloc, resolver, paths, type_name, InputTree::Borrowed(tree))
+}

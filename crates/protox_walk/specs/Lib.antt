@@ -1,0 +1,10 @@
+pub mod Places
+pub mod Walk
+pub mod Opening
+pub mod Refusals
+pub mod Resume
+pub mod Closures
+pub mod Compiled
+pub mod Opens
+pub mod Indexes
+pub mod Laws

@@ -1,0 +1,19 @@
+//! The walk over imports: opening a path finishes its file behind all that it imports.
+#![tactic(auto)]
+
+mod finished;
+mod frame;
+mod indexes;
+mod known;
+mod laws;
+mod opening;
+mod place;
+mod refusal;
+mod root;
+mod stack;
+mod step;
+mod walk;
+
+pub use finished::FinishedFiles;
+pub use laws::{opening_again_marks, opens_by_all, opens_once};
+pub use root::open_path;
