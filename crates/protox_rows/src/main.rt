@@ -1,12 +1,10 @@
-//! Rows of what `protox` and `protox_records` write, print and refuse, over files, input and output in memory.
+//! Rows of what `protox` writes, prints and refuses, over files, input and output in memory.
 //!
 //! What is asked is one of these; each file is two fields, its name and its source, and the source `oversized` stands for
 //! a file of too many bytes:
 //!
 //! - `run`: words, input, which object fails (`disk`, `input`, `out` or `err`; or none), the number of its call that fails,
-//!   and the files. The answer is status, output, error output and the file `w` in hexadecimal digits, `-` where it is absent.
-//! - `records`: the same, where the words are names of files and the input is unused. The answer is status, error output
-//!   and the output in hexadecimal digits.
+//!   and the files. The answer is status, output, error output and the files `w` and `s` in hexadecimal digits, `-` where one is absent.
 //! - `set`: names of files, input, a type's name, and the files. The answer is the set of the files in hexadecimal digits.
 //! - `deep`: a type's name, and files, each by its name and how many messages stand in one another there. The answer is `ok`, or what is
 //!   refused.
@@ -28,7 +26,6 @@ use test_rows::{Row, answer_line};
 fn answer(alloc: Global, row: &Row) -> Result<String, NoMemory> {
     match row.asked() {
         "run" => runs::run(alloc, row),
-        "records" => runs::records(alloc, row),
         "set" => sets::set(alloc, row),
         "deep" => deep::deep(alloc, row),
         "built-in" => built_in::built_in(alloc, row),

@@ -15,13 +15,21 @@ const CALL: usize = 3;
 
 const FILES: usize = 4;
 
-/// The words of a row, a blank between each two.
-pub(crate) fn words(alloc: Global, row: &Row) -> Result<Texts, NoMemory> {
+/// The words of a text, a blank between each two.
+fn split(alloc: Global, text: &str) -> Result<Texts, NoMemory> {
     let mut words = Texts::new(alloc);
-    for word in row.text(WORDS).split(' ') {
+    for word in text.split(' ') {
         words.add(Text::from_str(alloc, word)?)?;
     }
     Ok(words)
+}
+
+/// The words of a row, none where it has no text for them.
+pub(crate) fn words(alloc: Global, row: &Row) -> Result<Texts, NoMemory> {
+    match row.text(WORDS) {
+        "" => Ok(Texts::new(alloc)),
+        text => split(alloc, text),
+    }
 }
 
 /// The number of the object's call that fails, if the row has that object fail.

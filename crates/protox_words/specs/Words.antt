@@ -234,13 +234,17 @@ folders_among includes = if length includes == 0 then codes "." ∷ [] else incl
 abbrev pub folders : Args → List (List ℕ)
 folders a = folders_among a.includes
 
--- the line of a fault
+-- the line of a fault, as the pieces that stand in it one after another
+abbrev pub fault_pieces : WordFault → List (List ℕ)
+fault_pieces (Unknown word) = codes "unknown option '" ∷ word ∷ codes "'" ∷ []
+fault_pieces (Twice option) = codes "option '" ∷ option ∷ codes "' given twice" ∷ []
+fault_pieces (NeedsValue option) = codes "option '" ∷ option ∷ codes "' needs a value" ∷ []
+fault_pieces (TakesNoValue option) = codes "option '" ∷ option ∷ codes "' takes no value" ∷ []
+fault_pieces (NeedsNumber option) = codes "option '" ∷ option ∷ codes "' needs a number from 1 to 2000" ∷ []
+fault_pieces NotAlone = codes "--generate stands alone" ∷ []
+fault_pieces NoFile = codes "no file given" ∷ []
+fault_pieces NeedsType = codes "--wire needs --type" ∷ []
+
+-- the same in one
 abbrev pub fault_line : WordFault → List ℕ
-fault_line (Unknown word) = concat (codes "unknown option '" ∷ word ∷ codes "'" ∷ [])
-fault_line (Twice option) = concat (codes "option '" ∷ option ∷ codes "' given twice" ∷ [])
-fault_line (NeedsValue option) = concat (codes "option '" ∷ option ∷ codes "' needs a value" ∷ [])
-fault_line (TakesNoValue option) = concat (codes "option '" ∷ option ∷ codes "' takes no value" ∷ [])
-fault_line (NeedsNumber option) = concat (codes "option '" ∷ option ∷ codes "' needs a number from 1 to 2000" ∷ [])
-fault_line NotAlone = codes "--generate stands alone"
-fault_line NoFile = codes "no file given"
-fault_line NeedsType = codes "--wire needs --type"
+fault_line fault = concat (fault_pieces fault)

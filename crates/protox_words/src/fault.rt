@@ -62,9 +62,9 @@ impl WordFault<'_> {
             WordFault::NeedsNumber { option } => {
                 between(alloc, "option '", option, "' needs a number from 1 to 2000")
             }
-            WordFault::NotAlone => Text::from_str(alloc, "--generate stands alone"),
-            WordFault::NoFile => Text::from_str(alloc, "no file given"),
-            WordFault::NeedsType => Text::from_str(alloc, "--wire needs --type"),
+            WordFault::NotAlone => Text::joined(alloc, &["--generate stands alone"]),
+            WordFault::NoFile => Text::joined(alloc, &["no file given"]),
+            WordFault::NeedsType => Text::joined(alloc, &["--wire needs --type"]),
         }
     }
 }

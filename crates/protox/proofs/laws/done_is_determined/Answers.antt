@@ -1,8 +1,0 @@
-use Rattle.protox.proofs.Determined.{done_alone, done_once}
-use Rattle.protox.proofs.laws.done_is_determined.Goals as goal
-
-pub returns-clause-alone : goal.returns-clause-alone
-returns-clause-alone c = done_alone c.opens_once.ensures.paths
-
-pub returns-clause-once : goal.returns-clause-once
-returns-clause-once c = done_once c.opens_once.ensures.paths

@@ -1,0 +1,38 @@
+use Rattle.std.proofs.Common.{IfOk, IfErr, string_bytes, option_map}
+use Rattle.protox_io.specs.Count.{Rose}
+use Rattle.protox_compile.proofs.Standard.{of_folders}
+use Rattle.protox_words.specs.Words.{folders}
+use Rattle.protox_words.specs.Told.{args_told}
+use Rattle.protox_run.specs.Class.{Compiled}
+use Rattle.protox_run.specs.Parts.{IsSetRefusal}
+use Rattle.protox_run.specs.Told.{stop_told, writes_told, line_told}
+use Rattle.protox_run.proofs.Judged.{ok_of, err_of, set_stop, file_caused, of_disk}
+use Rattle.protox_run.proofs.plan.compile.Goals as goal
+
+pub returns-in-Ok-result-clause-done : goal.returns-in-Ok-result-clause-done
+returns-in-Ok-result-clause-done g c tells =
+    let a = args_told c.args.args.now in
+    let told = of_folders g.D.Disk.volume c.in-Ok.files c.args.disk (folders a)
+    (λ l. IfOk c.compile_files-resolver.result.1 (λ ready. Compiled a l (writes_told ready) (line_told (option_map string_bytes ready.line))))
+    c.in-Ok.ensures.ok c.compile_files-resolver.ensures.ok tells in
+    ok_of _ c.compile_files-resolver.result.1 c.in-Ok-result.ready c.in-Ok-result.is told
+
+pub returns-in-Err-result-clause-stop : goal.returns-in-Err-result-clause-stop
+returns-in-Err-result-clause-stop g c tells =
+    let a = args_told c.args.args.now in
+    let told = of_folders g.D.Disk.volume c.in-Ok.files c.args.disk (folders a) (λ l. IfErr c.compile_files-resolver.result.1 (IsSetRefusal a l))
+    c.in-Ok.ensures.ok c.compile_files-resolver.ensures.err tells in
+    set_stop a (g.D.Disk.volume c.args.disk) c.in-Err-result.error
+    (Rose (g.D.Disk.count c.args.disk) (g.D.Disk.count c.into_disk-disk.result)) (stop_told c.stop_of.result) c.stop_of.ensures
+    (of_disk g.D.Disk.volume g.D.Disk.count a c.in-Ok.files c.compile_files-resolver.result.0 c.args.disk c.into_disk-disk.result c.in-Err-result.error
+    c.in-Ok.ensures.ok c.into_disk-disk.ensures
+    (err_of _ c.compile_files-resolver.result.1 c.in-Err-result.error c.in-Err-result.is c.compile_files-resolver.ensures.cause))
+    (err_of _ c.compile_files-resolver.result.1 c.in-Err-result.error c.in-Err-result.is told)
+
+pub returns-in-Err-result-clause-cause : goal.returns-in-Err-result-clause-cause
+returns-in-Err-result-clause-cause g c =
+    let a = args_told c.args.args.now in
+    file_caused a c.in-Err-result.error (Rose (g.D.Disk.count c.args.disk) (g.D.Disk.count c.into_disk-disk.result)) (stop_told c.stop_of.result) c.stop_of.ensures
+    (of_disk g.D.Disk.volume g.D.Disk.count a c.in-Ok.files c.compile_files-resolver.result.0 c.args.disk c.into_disk-disk.result c.in-Err-result.error
+    c.in-Ok.ensures.ok c.into_disk-disk.ensures
+    (err_of _ c.compile_files-resolver.result.1 c.in-Err-result.error c.in-Err-result.is c.compile_files-resolver.ensures.cause))

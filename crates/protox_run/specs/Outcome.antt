@@ -1,0 +1,43 @@
+-- What a run leaves, on plain values: the status, the bytes on out, the disk and the line on err.
+use Rattle.std.specs.Prelude.{◌≡◌, ◌∷◌, [], ℕ, List, Result, Ok, Err, codes}
+use Rattle.protox_io.specs.Disk.{Volume, Stands, SameBut}
+use Rattle.protox_io.specs.Paths.{disk_key}
+use Rattle.protox_io.specs.Shown.{shown_line}
+use Rattle.protox_words.specs.Words.{Args, WordFault, args_of, fault_pieces}
+use Rattle.protox_run.specs.Class.{Write, Ending, Ready, Refusing, Judges}
+use Rattle.protox_run.specs.declared.stop.Refusal.{Refusal}
+use Rattle.protox_run.specs.declared.stop.Refusal.TheVariants.{TooLong, NotJson, Top}
+
+-- a line, as the pieces that stand in it one after another
+abbrev pub Pieces : Type 0
+Pieces = List (List ℕ)
+
+-- the line of a refusal
+abbrev pub refusal_line : Refusal → Pieces
+refusal_line TooLong = codes "input is longer than 1073741824 bytes" ∷ []
+refusal_line NotJson = codes "input is not JSON" ∷ []
+refusal_line (Top line) = line ∷ []
+
+-- what err holds: `error: ` and the line, with control characters as escapes, and a line feed
+unfoldable pub error_line : Pieces → List ℕ
+error_line pieces = shown_line (codes "error: " ∷ pieces)
+
+-- the writes were done one after another: each sets its key, and leaves all others
+abbrev pub Wrote : List Write → Volume → Volume → Type 0
+Wrote [] old new = new ≡ old
+Wrote (w ∷ ws) old new =
+    (middle : Volume) × Stands (disk_key w.path) w.bytes middle × SameBut (disk_key w.path) old middle × Wrote ws middle new
+
+-- what an ending leaves: status 0, the writes and the text; or status 1, nothing, and a line
+abbrev pub Leaves : Volume → Ending → ℕ → List ℕ → Volume → List ℕ → Type 0
+Leaves disk (Ready writes text) status out later line = (status ≡ 0) × (out ≡ text) × Wrote writes disk later × (line ≡ [])
+Leaves disk (Refusing refusal) status out later line = (status ≡ 1) × (out ≡ []) × (later ≡ disk) × (line ≡ error_line (refusal_line refusal))
+
+-- what words that were read come to: a fault is status 2
+abbrev pub Obeys : Result Args WordFault → Volume → List ℕ → ℕ → List ℕ → Volume → List ℕ → Type 0
+Obeys (Err fault) disk input status out later line = (status ≡ 2) × (out ≡ []) × (later ≡ disk) × (line ≡ error_line (fault_pieces fault))
+Obeys (Ok args) disk input status out later line = (ending : Ending) × Judges args disk input ending × Leaves disk ending status out later line
+
+-- words, a disk and an input come to this status, these bytes on out, this disk and this line on err
+abbrev pub Outcome : List (List ℕ) → Volume → List ℕ → ℕ → List ℕ → Volume → List ℕ → Type 0
+Outcome words disk input status out later line = Obeys (args_of words) disk input status out later line

@@ -1,0 +1,13 @@
+//! The program: what words ask for is read, made, written and printed.
+#![tactic(auto)]
+
+mod carry;
+mod laws;
+mod plan;
+mod report;
+mod stop;
+mod top;
+
+pub use laws::done_is_determined;
+pub use stop::Refusal;
+pub use top::{Ran, run};
