@@ -1,25 +1,29 @@
 //! protox: compiles Protocol Buffers source files with all that they import into descriptor sets, and carries messages
 //! from JSON to the wire format and to canonical JSON.
 //!
-//! The public items of each crate stand in a module of its name, since two crates have a `Value`.
+//! The public items of the other crates stand in modules of the crates' names, since two crates have a `Value`; `file` has
+//! those of files, resolvers and errors together.
 #![tactic(auto)]
 
 pub mod file;
-pub mod pbx_desc;
-pub mod pbx_json;
-pub mod pbx_link;
-pub mod pbx_message;
-pub mod pbx_parse;
-pub mod pbx_text;
-pub mod pbx_types;
-pub mod pbx_wire;
-pub mod pbx_wkt;
-pub mod protox_compile;
-pub mod protox_file;
-pub mod protox_io;
 
+pub use pbx_desc;
+pub use pbx_desc_decoding;
+pub use pbx_json;
+pub use pbx_link;
+pub use pbx_message;
+pub use pbx_parse;
+pub use pbx_reflection;
+pub use pbx_text;
+pub use pbx_types;
+pub use pbx_wire;
+pub use pbx_wkt;
+pub use protox_compile;
 pub use protox_compile::{Compiled, Compiler, compile};
+pub use protox_file;
 pub use protox_file::Error;
+pub use protox_io;
+pub use protox_resolvers;
 pub use protox_run::{Ran, Refusal, done_is_determined, run};
 pub use protox_transcode::{
     Attempt, TopError, Transcoded, compile_and_transcode, transcoded_is_determined,
