@@ -39,6 +39,13 @@ impl DescriptorPool {
 }
 
 impl FileDescriptor {
+    /// The linked record.
+    pub fn record(&self) -> &FileDescriptorProto
+        ensures { result.now ≡ self.now.file }
+    {
+        self.table.as_ref().file()
+    }
+
     /// A copy of the linked record. The only error is want of memory.
     pub fn file_descriptor_proto(&self, alloc: Global) -> Result<FileDescriptorProto, NoMemory>
         ensures { IfOk result (λ file. file ≡ self.now.file) }

@@ -17,7 +17,7 @@ mod values;
 
 use fields::{clear_field, field_said, set_field};
 use pbx_link::{DescriptorPool, MessageDescriptor};
-use pbx_message::DynamicMessage;
+use pbx_message::{DynamicMessage, Value};
 use pbx_wire::DecodeError;
 use records::{from_file, to_file};
 use said::add_message;
@@ -54,20 +54,33 @@ fn message_of(
     name: &str,
     digits: &str,
 ) -> Result<DynamicMessage, Stop> {
-    let desc = type_of(pool, name)?;
     let bytes = hex::decode(alloc, digits)?;
+    let desc = type_of(pool, name)?;
     DynamicMessage::decode(alloc, desc, bytes.as_slice()).map_err(|error| fault(alloc, error))
 }
 
+/// The message, as text.
+fn message_said(alloc: Global, message: &DynamicMessage) -> Result<String, Stop> {
+    let mut text = String::new(alloc);
+    add_message(alloc, &mut text, message)?;
+    Ok(text)
+}
+
 /// What came of merging the bytes of the row, and the message then.
-fn merged(alloc: Global, row: &Row, mut message: DynamicMessage) -> Result<String, Stop> {
+fn merged(alloc: Global, row: &Row, message: &mut DynamicMessage) -> Result<String, Stop> {
     let bytes = hex::decode(alloc, row.text(3))?;
     let mut text = String::new(alloc);
     if let Err(error) = message.merge(bytes.as_slice()) {
         write!(text, "{error}; ")?;
     }
-    add_message(alloc, &mut text, &message)?;
+    add_message(alloc, &mut text, message)?;
     Ok(text)
+}
+
+/// The value of a field of the other message of the row.
+fn value_of(alloc: Global, pool: &DescriptorPool, row: &Row) -> Result<Value, Stop> {
+    let source = message_of(alloc, pool, row.text(4), row.text(5))?;
+    fields::value_of(alloc, pool, &source, row.text(6))
 }
 
 /// What came of setting a field to the value of a field of another message, and the message then.
@@ -75,14 +88,24 @@ fn set(
     alloc: Global,
     pool: &DescriptorPool,
     row: &Row,
-    mut message: DynamicMessage,
+    message: &mut DynamicMessage,
 ) -> Result<String, Stop> {
     let mut text = String::new(alloc);
-    let source = message_of(alloc, pool, row.text(4), row.text(5))?;
-    let value = fields::value_of(alloc, pool, &source, row.text(6))?;
-    set_field(&mut text, pool, &mut message, row.text(3), value)?;
-    add_message(alloc, &mut text, &message)?;
+    let value = value_of(alloc, pool, row)?;
+    set_field(&mut text, pool, message, row.text(3), value)?;
+    add_message(alloc, &mut text, message)?;
     Ok(text)
+}
+
+/// The message without the field of the row.
+fn cleared(
+    alloc: Global,
+    pool: &DescriptorPool,
+    row: &Row,
+    message: &mut DynamicMessage,
+) -> Result<String, Stop> {
+    clear_field(pool, message, row.text(3))?;
+    message_said(alloc, message)
 }
 
 /// What is told of the message of the row.
@@ -90,27 +113,24 @@ fn of_message(
     alloc: Global,
     pool: &DescriptorPool,
     row: &Row,
-    mut message: DynamicMessage,
+    message: &mut DynamicMessage,
 ) -> Result<String, Stop> {
     match row.asked() {
-        "merge" => return merged(alloc, row, message),
-        "set" => return set(alloc, pool, row, message),
-        "get" => return field_said(alloc, pool, &message, row.text(3)),
-        "to-file" => return to_file(alloc, &message),
-        "from-file" => return from_file(alloc, row, message),
-        "clear" => clear_field(pool, &mut message, row.text(3))?,
-        "read" => {}
-        _ => return Err(Stop::NoSuchWord),
+        "merge" => merged(alloc, row, message),
+        "set" => set(alloc, pool, row, message),
+        "get" => field_said(alloc, pool, message, row.text(3)),
+        "to-file" => to_file(alloc, message),
+        "from-file" => from_file(alloc, row, message),
+        "clear" => cleared(alloc, pool, row, message),
+        "read" => message_said(alloc, message),
+        _ => Err(Stop::NoSuchWord),
     }
-    let mut text = String::new(alloc);
-    add_message(alloc, &mut text, &message)?;
-    Ok(text)
 }
 
 fn answer(alloc: Global, row: &Row) -> Result<String, Stop> {
     let pool = pool_of(alloc, row)?;
-    let message = message_of(alloc, &pool, row.text(1), row.text(2))?;
-    of_message(alloc, &pool, row, message)
+    let mut message = message_of(alloc, &pool, row.text(1), row.text(2))?;
+    of_message(alloc, &pool, row, &mut message)
 }
 
 /// The line for a row.

@@ -1,6 +1,6 @@
 //! Messages as descriptor records and back.
 
-use crate::said::{add_bytes, add_message};
+use crate::said::add_message;
 use crate::stop::Stop;
 use pbx_desc::Message;
 use pbx_desc_decoding::DecodeMessage;
@@ -9,16 +9,31 @@ use pbx_message::DynamicMessage;
 use std::alloc::Global;
 use test_rows::Row;
 
+/// The bytes of the record of a file.
+fn file_said(alloc: Global, file: &FileDescriptorProto) -> Result<String, Stop> {
+    let bytes = file.encode_to_vec(alloc)?;
+    Ok(hex::encode(alloc, bytes.as_slice())?)
+}
+
 /// The bytes of the record of a file that the message is; or why it is none.
 pub(crate) fn to_file(alloc: Global, message: &DynamicMessage) -> Result<String, Stop> {
-    let mut text = String::new(alloc);
     match message.transcode_to::<FileDescriptorProto>(alloc) {
-        Ok(file) => {
-            let bytes = file.encode_to_vec(alloc)?;
-            add_bytes(alloc, &mut text, bytes.as_slice())?;
-        }
-        Err(error) => write!(text, "{error}")?,
+        Ok(file) => file_said(alloc, &file),
+        Err(error) => Ok(format!(in alloc; "{error}")?),
     }
+}
+
+/// The message with what the record holds behind it.
+fn with_file(
+    alloc: Global,
+    message: &mut DynamicMessage,
+    file: &FileDescriptorProto,
+) -> Result<String, Stop> {
+    let mut text = String::new(alloc);
+    if let Err(error) = message.transcode_from(alloc, file) {
+        write!(text, "{error}; ")?;
+    }
+    add_message(alloc, &mut text, message)?;
     Ok(text)
 }
 
@@ -26,16 +41,11 @@ pub(crate) fn to_file(alloc: Global, message: &DynamicMessage) -> Result<String,
 pub(crate) fn from_file(
     alloc: Global,
     row: &Row,
-    mut message: DynamicMessage,
+    message: &mut DynamicMessage,
 ) -> Result<String, Stop> {
-    let mut text = String::new(alloc);
     let bytes = hex::decode(alloc, row.text(3))?;
-    let Ok(file) = FileDescriptorProto::decode(alloc, bytes.as_slice()) else {
-        return Err(Stop::NoSuchWord);
-    };
-    if let Err(error) = message.transcode_from(alloc, &file) {
-        write!(text, "{error}; ")?;
+    match FileDescriptorProto::decode(alloc, bytes.as_slice()) {
+        Ok(file) => with_file(alloc, message, &file),
+        Err(_) => Err(Stop::NoSuchWord),
     }
-    add_message(alloc, &mut text, &message)?;
-    Ok(text)
 }

@@ -62,19 +62,29 @@ pub(crate) fn add_message(alloc: Global, text: &mut String, message: &DynamicMes
     add_rest(alloc, text, message)
 }
 
+/// The records that no field reads.
+fn add_unknown(alloc: Global, text: &mut String, message: &DynamicMessage) -> Done {
+    let mut unknown = Blob::new(alloc);
+    write_recs(&mut unknown, message.unknown_fields())?;
+    text.push_str("unknown ")?;
+    add_bytes(alloc, text, unknown.as_slice())
+}
+
+/// The bytes, and how many levels there are.
+fn add_encoded(alloc: Global, text: &mut String, message: &DynamicMessage) -> Done {
+    text.push_str(" bytes ")?;
+    let bytes = message.encode_to_vec(alloc)?;
+    add_bytes(alloc, text, bytes.as_slice())?;
+    write!(text, " levels {}", message.depth())?;
+    Ok(())
+}
+
 /// The same without the fields.
 fn add_rest(alloc: Global, text: &mut String, message: &DynamicMessage) -> Done {
     let desc = message.descriptor();
     for extension in desc.extensions() {
         add_extension(alloc, text, message, &extension)?;
     }
-    let mut unknown = Blob::new(alloc);
-    write_recs(&mut unknown, message.unknown_fields())?;
-    text.push_str("unknown ")?;
-    add_bytes(alloc, text, unknown.as_slice())?;
-    text.push_str(" bytes ")?;
-    let bytes = message.encode_to_vec(alloc)?;
-    add_bytes(alloc, text, bytes.as_slice())?;
-    write!(text, " levels {}", message.depth())?;
-    Ok(())
+    add_unknown(alloc, text, message)?;
+    add_encoded(alloc, text, message)
 }

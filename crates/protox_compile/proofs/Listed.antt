@@ -13,7 +13,6 @@ use Rattle.protox_error.specs.declared.error.ErrorKind.TheVariants as kinds
 use Rattle.protox_file.specs.Metadata.{Metadata}
 use Rattle.protox_walk.specs.Walk.{Done, records}
 use Rattle.protox_walk.specs.Compiled.{done_by, done_of, metadata_of}
-use Rattle.protox_compile.proofs.Found.{none_found, no_place}
 use Rattle.protox_compile.specs.Sets.{with_info, listed, next_done, is_undecodable, AreDecodable, IsUndecodable, IsUnencodable}
 
 -- the record of a file of a pool
@@ -112,83 +111,13 @@ listed_next imports info ms i m files more next front later whole lt is step bef
 
 -- ---- files that cannot be read again
 
--- the first such file among more files
-pub decodable_both : (xs ys : List FileDescriptorProto) → AreDecodable xs → AreDecodable ys → AreDecodable (xs ++ ys)
-decodable_both xs ys first second = find-append is_undecodable xs ys ∙ ap (λ o. option_or o (find is_undecodable ys)) first ∙ second
-
-found_among : (xs ys zs : List FileDescriptorProto) (g : FileDescriptorProto) → AreDecodable xs → find is_undecodable ys ≡ Some g
-    → find is_undecodable (xs ++ (ys ++ zs)) ≡ Some g
-found_among xs ys zs g before found =
-    find-append is_undecodable xs (ys ++ zs) ∙ ap (λ o. option_or o (find is_undecodable (ys ++ zs))) before
-    ∙ find-append is_undecodable ys zs ∙ ap (λ o. option_or o (find is_undecodable zs)) found
-
-pub unencodable_among : (xs ys zs : List FileDescriptorProto) (error : ErrorKind) → AreDecodable xs → IsUnencodable ys error
-    → IsUnencodable (xs ++ (ys ++ zs)) error
-unencodable_among xs ys zs (kinds.Undecodable name) before h = (h.0, found_among xs ys zs h.0 before h.1, h.2)
-unencodable_among xs ys zs kinds.NoMemory before h = tt
-unencodable_among xs ys zs (kinds.Parse e) before h = absurd h
-unencodable_among xs ys zs (kinds.Check e) before h = absurd h
-unencodable_among xs ys zs (kinds.OpenFile a b c) before h = absurd h
-unencodable_among xs ys zs (kinds.FileTooLarge a) before h = absurd h
-unencodable_among xs ys zs (kinds.FileInvalidUtf8 a) before h = absurd h
-unencodable_among xs ys zs (kinds.FileNotFound a) before h = absurd h
-unencodable_among xs ys zs (kinds.ImportNotFound a b c d) before h = absurd h
-unencodable_among xs ys zs (kinds.CircularImport a b) before h = absurd h
-unencodable_among xs ys zs (kinds.FileNotIncluded a) before h = absurd h
-unencodable_among xs ys zs (kinds.FileShadowed a b c) before h = absurd h
-unencodable_among xs ys zs (kinds.DuplicateImport a b c d) before h = absurd h
-unencodable_among xs ys zs (kinds.Custom a b) before h = absurd h
-unencodable_among xs ys zs (kinds.NameMismatch a b) before h = absurd h
-unencodable_among xs ys zs (kinds.FileLimit a) before h = absurd h
-
--- one more file behind those that can be read again
-pub last_decodable : (files : List FileDescriptorProto) (f : FileDescriptorProto) (place : Option ℕ) → AreDecodable files
-    → place ≡ position is_undecodable (files ++ f ∷ []) → place ≡ None → AreDecodable (f ∷ [])
-last_decodable files f place h e none =
-    let both : find is_undecodable (files ++ f ∷ []) ≡ None = none_found is_undecodable (files ++ f ∷ []) (sym e ∙ none) in
-    sym (find-append is_undecodable files (f ∷ []) ∙ ap (λ o. option_or o (find is_undecodable (f ∷ []))) h) ∙ both
-
-pub last_undecodable : (files : List FileDescriptorProto) (f : FileDescriptorProto) (place : Option ℕ) (i : ℕ) → AreDecodable files
-    → place ≡ position is_undecodable (files ++ f ∷ []) → place ≡ Some i → find is_undecodable (f ∷ []) ≡ Some f
-last_undecodable files f place i h e some = at (is_undecodable f) refl
-  where
-    at : (b : Bool) → is_undecodable f ≡ b → cond b (Some f) None ≡ Some f
-    at true k = refl
-    at false k =
-        let alone : find is_undecodable (f ∷ []) ≡ None = ap (λ b. cond b (Some f) None) k in
-        let none : position is_undecodable (files ++ f ∷ []) ≡ None =
-        no_place is_undecodable (files ++ f ∷ []) (find-append is_undecodable files (f ∷ []) ∙ ap (λ o. option_or o (find is_undecodable (f ∷ []))) h ∙ alone) in
-        let no : None ≡ Some i = sym none ∙ sym e ∙ some in absurd (cc)
-
--- ---- one more file
-
-name_kept : (info : Bool) (f : FileDescriptorProto) → (with_info info f).name ≡ f.name
-name_kept true f = refl
-name_kept false f = refl
-
-pub one_undecodable : (info : Bool) (files : List FileDescriptorProto) (f r : FileDescriptorProto) (place : Option ℕ) (error : ErrorKind) → r ≡ with_info info f → AreDecodable files
-    → place ≡ position is_undecodable (files ++ r ∷ []) → is_some place ≡ true → (error ≡ kinds.NoMemory) ⊎ (error ≡ kinds.Undecodable (text_or_empty f.name))
-    → IsUnencodable (with_info info f ∷ []) error
-one_undecodable info files f r place error same fit e given (inl memory) = let P : ErrorKind → Type 0 = λ x. IsUnencodable (with_info info f ∷ []) x in subst P (sym memory) tt
-one_undecodable info files f r place error same fit e given (inr deep) =
-    let P : ErrorKind → Type 0 = λ x. IsUnencodable (with_info info f ∷ []) x in
-    subst P (sym deep) (with_info info f, at place e given, ap text_or_empty (sym (name_kept info f)))
-  where
-    at : (place : Option ℕ) → place ≡ position is_undecodable (files ++ r ∷ []) → is_some place ≡ true → find is_undecodable (with_info info f ∷ []) ≡ Some (with_info info f)
-    at None e given = absurd (cc)
-    at (Some i) e given =
-        let Q : FileDescriptorProto → Type 0 = λ x. Some i ≡ position is_undecodable (files ++ x ∷ []) in
-        last_undecodable files (with_info info f) (Some i) i fit (subst Q same e) refl
-
-pub one_decodable : (info : Bool) (files : List FileDescriptorProto) (f r : FileDescriptorProto) (place : Option ℕ) → r ≡ with_info info f → AreDecodable files
-    → place ≡ position is_undecodable (files ++ r ∷ []) → is_some place ≡ false → AreDecodable (with_info info f ∷ [])
-one_decodable info files f r place same fit e none = at place e none
-  where
-    at : (place : Option ℕ) → place ≡ position is_undecodable (files ++ r ∷ []) → is_some place ≡ false → AreDecodable (with_info info f ∷ [])
-    at None e none =
-        let Q : FileDescriptorProto → Type 0 = λ x. None ≡ position is_undecodable (files ++ x ∷ []) in
-        last_decodable files (with_info info f) None fit (subst Q same e) refl
-    at (Some i) e none = absurd (cc)
+-- the error of the file that was found
+pub undecodable_is : (files : List FileDescriptorProto) (f : FileDescriptorProto) (error : ErrorKind) → find is_undecodable files ≡ Some f
+    → (error ≡ kinds.NoMemory) ⊎ (error ≡ kinds.Undecodable (text_or_empty f.name)) → IsUnencodable files error
+undecodable_is files f error found (inl memory) = let P : ErrorKind → Type 0 = λ x. IsUnencodable files x in subst P (sym memory) tt
+undecodable_is files f error found (inr told) =
+    let P : ErrorKind → Type 0 = λ x. IsUnencodable files x in
+    subst P (sym told) (f, found, refl)
 
 -- ---- facts of results
 

@@ -1,11 +1,8 @@
 -- The sets of compiled files.
-use Rattle.std.specs.Prelude.{◌≡◌, ◌∷◌, [], ◌||◌, ℕ, List, Bool, map, find, Option, Some, None, if◌then◌else◌}
+use Rattle.std.specs.Prelude.{◌≡◌, ◌∷◌, [], ◌||◌, List, Bool, map, find, Option, Some, None, if◌then◌else◌}
 use Rattle.std.specs.List.{filter}
-use Rattle.pbx_meaning.specs.Encoding.{encoded}
 use Rattle.pbx_desc_records.specs.declared.file.FileDescriptorProto.{FileDescriptorProto}
-use Rattle.pbx_desc.specs.Content.{files_content}
-use Rattle.pbx_desc.specs.Sets.{DecodesSet, is_deep_file}
-use Rattle.pbx_desc_shape.specs.Shape.{descriptor_shape}
+pub use Rattle.pbx_decodable.specs.Sets.{is_undecodable, AreDecodable, IsSet}
 use Rattle.pbx_described.specs.Descriptors.{FileDescribed}
 use Rattle.pbx_definitions.specs.Names.{text_or_empty}
 use Rattle.protox_error.specs.declared.error.ErrorKind.{ErrorKind}
@@ -27,19 +24,6 @@ listed imports info done = map (with_info info) (records (filter (λ (d : Done).
 abbrev pub next_done : Metadata → Option FileDescribed → List Done
 next_done m None = []
 next_done m (Some d) = done_by m d.file ∷ []
-
--- the encoding of the file is not read again: it nests more than 100 levels
-abbrev pub is_undecodable : FileDescriptorProto → Bool
-is_undecodable f = is_deep_file f
-
--- the bytes are the canonical encoding of the set of the files, and decode to it file by file (Protocol Buffers `descriptor.proto`:
--- FileDescriptorSet)
-abbrev pub IsSet : List FileDescriptorProto → List ℕ → Type 0
-IsSet files set = (set ≡ encoded descriptor_shape 0 (files_content files)) × DecodesSet set (files_content files)
-
--- each file can be read again from their set
-abbrev pub AreDecodable : List FileDescriptorProto → Type 0
-AreDecodable files = find is_undecodable files ≡ None
 
 -- the error tells the first file that cannot be read again
 abbrev pub IsUndecodable : List FileDescriptorProto → ErrorKind → Type 0

@@ -15,7 +15,7 @@ ghost use Rattle.protox_walk.specs.Compiled.{IsOrdered, metadata_of};
 ghost use Rattle.protox_compile.specs.State.{fresh, most_files};
 ghost use Rattle.protox_compile.specs.Sets.{listed as listed_of, IsSet, AreDecodable, IsUnencodable};
 
-use crate::sets::{encode, listed, listed_set};
+use crate::sets::{encode_listed, listed};
 use pbx_desc_records::FileDescriptorSet;
 use pbx_link::DescriptorPool;
 use pbx_wire::{NoMemory, Recs, Texts};
@@ -185,23 +185,20 @@ impl<R: FileResolver> Compiler<R> {
     }
 
     /// The bytes of that set. `Undecodable` comes exactly where one of its files cannot be read again, since it nests more
-    /// than 100 levels, and names the first such file.
+    /// than 100 levels or has options that do not decode, and names the first such file.
     pub fn encode_file_descriptor_set(&self) -> Result<Vec<u8>, Error>
         ensures ok { IfOk result (λ bytes. IsSet (listed_of self.now.imports self.now.info self.now.done) bytes.items) }
         ensures decodable { OnOk result (AreDecodable (listed_of self.now.imports self.now.info self.now.done)) }
         ensures err { IfErr result (IsUnencodable (listed_of self.now.imports self.now.info self.now.done)) }
     {
         let pool = self.finished.pool();
-        match listed_set(
+        encode_listed(
             self.alloc,
             self.finished.metadata(),
             &pool,
             self.imports,
             self.source_info,
-        ) {
-            Ok(set) => encode(self.alloc, set),
-            Err(error) => Err(error),
-        }
+        )
     }
 
     /// What is known of each file, in order; takes no memory.

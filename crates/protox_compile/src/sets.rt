@@ -9,13 +9,13 @@ ghost use Rattle.protox_error.specs.declared.error.ErrorKind.TheVariants as kind
 ghost use Rattle.protox_walk.specs.Compiled.{done_by, done_of};
 ghost use Rattle.protox_compile.specs.Sets.{with_info, listed as listed_of, next_done, IsSet, AreDecodable, IsUnencodable};
 
+use pbx_decodable::{encode_decodable, first_undecodable};
 use pbx_desc::FileSet;
 use pbx_desc_records::FileDescriptorProto;
 use pbx_link::{DescriptorPool, FileDescriptor};
 use pbx_wire::{List, NoMemory, Text};
 use protox_file::{Error, ErrorKind, FileMetadata};
 use std::alloc::Global;
-use std::mem::drop;
 
 /// The linked record of a file, without its source information unless that is kept.
 fn record_of(
@@ -84,41 +84,21 @@ pub(crate) fn listed(
     Ok(listed)
 }
 
-fn undecodable(alloc: Global, file: &FileDescriptor) -> Error
-    ensures { (result ≡ kinds.NoMemory) ⊎ (result ≡ kinds.Undecodable (text_or_empty file.now.file.name)) }
-{
-    match Text::from_str(alloc, file.name()) {
-        Ok(file) => Error::from_kind(ErrorKind::Undecodable { file }),
-        Err(NoMemory) => Error::from(NoMemory),
-    }
-}
-
-/// The set with one more file, unless that cannot be read again.
+/// The set with the linked record of one more file, without its source information unless that is kept.
 fn with_record(
     alloc: Global,
     set: FileSet,
     file: &FileDescriptor,
     info: bool,
-) -> Result<FileSet, Error>
-    ensures ok { IfOk result (λ more. (files : ListOf AFile) → IsSetOf set files → AreDecodable files →
-        IsSetOf more (files ++ with_info info file.now.file ∷ []) × AreDecodable (with_info info file.now.file ∷ [])) }
-    ensures err { IfErr result (λ e. (files : ListOf AFile) → IsSetOf set files → AreDecodable files →
-        IsUnencodable (with_info info file.now.file ∷ []) e) }
+) -> Result<FileSet, NoMemory>
+    ensures { IfOk result (λ more. (files : ListOf AFile) → IsSetOf set files → IsSetOf more (files ++ with_info info file.now.file ∷ [])) }
 {
-    let Ok(record) = record_of(alloc, file, info) else {
-        drop(set);
-        return Err(Error::from(NoMemory));
-    };
-    let Ok(more) = set.with_file(alloc, &record) else {
-        drop(record);
-        return Err(Error::from(NoMemory));
-    };
-    drop(record);
-    if more.deep_file().is_some() {
-        drop(more);
-        return Err(undecodable(alloc, file));
+    if info {
+        set.with_file(alloc, file.record())
+    } else {
+        let record = record_of(alloc, file, false)?;
+        set.with_file(alloc, &record)
     }
-    Ok(more)
 }
 
 /// The set with one more file, where a set has it.
@@ -129,12 +109,9 @@ fn with_listed(
     file: &FileDescriptor,
     imports: bool,
     info: bool,
-) -> Result<FileSet, Error>
-    ensures ok { IfOk result (λ more. (files : ListOf AFile) → IsSetOf set files → AreDecodable files →
-        IsSetOf more (files ++ listed_of imports info (done_by known.now file.now.file ∷ []))
-        × AreDecodable (listed_of imports info (done_by known.now file.now.file ∷ []))) }
-    ensures err { IfErr result (λ e. (files : ListOf AFile) → IsSetOf set files → AreDecodable files →
-        IsUnencodable (listed_of imports info (done_by known.now file.now.file ∷ [])) e) }
+) -> Result<FileSet, NoMemory>
+    ensures { IfOk result (λ more. (files : ListOf AFile) → IsSetOf set files →
+        IsSetOf more (files ++ listed_of imports info (done_by known.now file.now.file ∷ []))) }
 {
     if imports || !known.is_import() {
         with_record(alloc, set, file, info)
@@ -151,11 +128,9 @@ fn with_next(
     file: Option<FileDescriptor>,
     imports: bool,
     info: bool,
-) -> Result<FileSet, Error>
-    ensures ok { IfOk result (λ more. (files : ListOf AFile) → IsSetOf set files → AreDecodable files →
-        IsSetOf more (files ++ listed_of imports info (next_done known.now file)) × AreDecodable (listed_of imports info (next_done known.now file))) }
-    ensures err { IfErr result (λ e. (files : ListOf AFile) → IsSetOf set files → AreDecodable files →
-        IsUnencodable (listed_of imports info (next_done known.now file)) e) }
+) -> Result<FileSet, NoMemory>
+    ensures { IfOk result (λ more. (files : ListOf AFile) → IsSetOf set files →
+        IsSetOf more (files ++ listed_of imports info (next_done known.now file))) }
 {
     match file {
         Some(file) => with_listed(alloc, set, known, &file, imports, info),
@@ -163,39 +138,74 @@ fn with_next(
     }
 }
 
-/// The set of these records, to be written, unless one of them cannot be read again.
-pub(crate) fn listed_set(
+/// The set of these records, to be written. Records with their source information are not copied.
+fn listed_set(
     alloc: Global,
     known: &[FileMetadata],
     pool: &DescriptorPool,
     imports: bool,
     info: bool,
-) -> Result<FileSet, Error>
-    ensures ok { IfOk result (λ set. IsSetOf set (listed_of imports info (done_of known.now pool.now))) }
-    ensures decodable { OnOk result (AreDecodable (listed_of imports info (done_of known.now pool.now))) }
-    ensures err { IfErr result (IsUnencodable (listed_of imports info (done_of known.now pool.now))) }
+) -> Result<FileSet, NoMemory>
+    ensures { IfOk result (λ set. IsSetOf set (listed_of imports info (done_of known.now pool.now))) }
 {
-    let Ok(mut set) = FileSet::new(alloc) else {
-        return Err(Error::from(NoMemory));
-    };
+    let mut set = FileSet::new(alloc)?;
     let mut files = pool.files();
     for metadata in known {
-        set = match with_next(alloc, set, metadata, files.next(), imports, info) {
-            Ok(more) => more,
-            Err(error) => return Err(error),
-        };
+        set = with_next(alloc, set, metadata, files.next(), imports, info)?;
     }
     Ok(set)
 }
 
-/// The bytes of a set of which each file can be read again.
-pub(crate) fn encode(alloc: Global, set: FileSet) -> Result<Vec<u8>, Error>
-    ensures ok { IfOk result (λ bytes. (files : ListOf AFile) → IsSetOf set files → AreDecodable files → IsSet files bytes.items) }
-    ensures err { IfErr result (λ e. e ≡ kinds.NoMemory) }
+fn undecodable(alloc: Global, file: &FileDescriptorProto) -> Error
+    ensures { (result ≡ kinds.NoMemory) ⊎ (result ≡ kinds.Undecodable (text_or_empty file.now.name)) }
 {
-    let _decodable = set.deep_file();
-    match set.encode(alloc) {
-        Ok(bytes) => Ok(bytes),
+    let name = match &file.name {
+        Some(name) => name.as_str(),
+        None => "",
+    };
+    match Text::from_str(alloc, name) {
+        Ok(file) => Error::from_kind(ErrorKind::Undecodable { file }),
+        Err(NoMemory) => Error::from(NoMemory),
+    }
+}
+
+/// The error that names the first of the records that cannot be read again, or want of memory.
+fn first_error(
+    alloc: Global,
+    known: &[FileMetadata],
+    pool: &DescriptorPool,
+    imports: bool,
+    info: bool,
+) -> Error
+    ensures { IsUnencodable (listed_of imports info (done_of known.now pool.now)) result }
+{
+    let Ok(files) = listed(alloc, known, pool, imports, info) else {
+        return Error::from(NoMemory);
+    };
+    match first_undecodable(alloc, files.as_slice()) {
+        Ok(Some(file)) => undecodable(alloc, file),
+        _ => Error::from(NoMemory),
+    }
+}
+
+/// The bytes of the set of these records, of which each can be read again.
+pub(crate) fn encode_listed(
+    alloc: Global,
+    known: &[FileMetadata],
+    pool: &DescriptorPool,
+    imports: bool,
+    info: bool,
+) -> Result<Vec<u8>, Error>
+    ensures ok { IfOk result (λ bytes. IsSet (listed_of imports info (done_of known.now pool.now)) bytes.items) }
+    ensures decodable { OnOk result (AreDecodable (listed_of imports info (done_of known.now pool.now))) }
+    ensures err { IfErr result (IsUnencodable (listed_of imports info (done_of known.now pool.now))) }
+{
+    let Ok(set) = listed_set(alloc, known, pool, imports, info) else {
+        return Err(Error::from(NoMemory));
+    };
+    match encode_decodable(alloc, set) {
+        Ok(Some(bytes)) => Ok(bytes),
+        Ok(None) => Err(first_error(alloc, known, pool, imports, info)),
         Err(NoMemory) => Err(Error::from(NoMemory)),
     }
 }

@@ -107,7 +107,7 @@ pub enum ErrorKind {
         /// How many there may be.
         limit: u32,
     },
-    /// A file nests more than 100 levels, so that no reader would take its set.
+    /// A file nests more than 100 levels, or has options that do not decode, so that no reader would take its set.
     Undecodable {
         /// The name of the file.
         file: Text,

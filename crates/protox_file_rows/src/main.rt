@@ -56,6 +56,7 @@ fn answer<R: Files + AllocGlobal>(rt: &R, row: &Row, told: &mut Told) {
         "walk over none" => untold::walk_over_none(rt.alloc(), row, told),
         "resolver" => resolvers::of_memory(rt.alloc(), row, told),
         "walk over folders" => walk::over_folders(rt.alloc(), row, told),
+        "walk over a set" => walk::over_set(rt.alloc(), row, told),
         "compiled at once" => compiled::at_once(rt.alloc(), row, told),
         "folder" => resolvers::of_folder(rt.alloc(), row, told),
         "folders" => over::of_folders(rt.alloc(), row, told),

@@ -13,7 +13,7 @@ use std::mem::drop;
 use test_rows::Row;
 
 /// Adds which rule the bytes break, and in which record.
-fn add_fault(error: DecodeError, told: &mut Told) {
+pub(crate) fn add_fault(error: DecodeError, told: &mut Told) {
     let (words, at) = match error {
         DecodeError::Varint(at) => ("varint", at),
         DecodeError::Key(at) => ("key", at),

@@ -4,6 +4,7 @@ use crate::compiled::{include, say_encoded, say_set};
 use crate::errors::{add_long_line, sort};
 use crate::over::{filled_disk, folders};
 use crate::resolvers;
+use crate::sets::add_fault;
 use crate::step::{Step, add_texts, small_number, step_at, steps};
 use crate::told::Told;
 use pbx_desc_records::FieldDescriptorProto;
@@ -11,6 +12,7 @@ use pbx_link::DescriptorPool;
 use pbx_wire::Texts;
 use protox_compile::Compiler;
 use protox_file::{Error, ErrorKind, FileResolver};
+use protox_resolvers::DescriptorSetFileResolver;
 use std::alloc::Global;
 use std::mem::drop;
 use test_rows::Row;
@@ -278,5 +280,13 @@ pub(crate) fn over_folders(alloc: Global, row: &Row, told: &mut Told) {
     match Compiler::new(alloc, disk, &folders) {
         Ok(mut compiler) => take_steps(alloc, row, &mut compiler, told),
         Err(_) => told.say("out of memory"),
+    }
+}
+
+/// The same over the files of a set, of which the first step has the bytes.
+pub(crate) fn over_set(alloc: Global, row: &Row, told: &mut Told) {
+    match DescriptorSetFileResolver::decode(alloc, step_at(row, 0).bytes) {
+        Ok(resolver) => over(alloc, row, resolver, told),
+        Err(error) => add_fault(error, told),
     }
 }

@@ -64,14 +64,11 @@ module _ (built_in : List Record) (disk : Volume) (folders : List (List ℕ)) (n
       rw (told_joined folders_of (pooled built_in ∷ []) name)
       (told_first (first_told folders_of name) (first_told (pooled built_in ∷ []) name) name result m (t tells))
 
-  -- the built-in files answer as their pool does, which a resolver of its own tells
-  pub standard_next : (own : List Record) (next : Result Entry ErrorKind) → pooled own ≡ pooled built_in → is_missing result ≡ true
-      → (IsTrue disk.tells → IsTold name (first_told folders_of name) result)
-      → IsTold name ((pooled own).files name) next → IsTrue disk.tells → IsTold name ((standard built_in disk folders).files name) next
-  standard_next own next same m t k tells =
-      let P : Library → Type 0 = λ l. IsTold name (l.files name) next in
+  pub standard_next : (next : Result Entry ErrorKind) → is_missing result ≡ true → (IsTrue disk.tells → IsTold name (first_told folders_of name) result)
+      → IsTold name ((pooled built_in).files name) next → IsTrue disk.tells → IsTold name ((standard built_in disk folders).files name) next
+  standard_next next m t k tells =
       rw (told_joined folders_of (pooled built_in ∷ []) name, or_nothing ((pooled built_in).files name))
-      (second (first_told folders_of name) ((pooled built_in).files name) name result next m (t tells) (subst P same k))
+      (second (first_told folders_of name) ((pooled built_in).files name) name result next m (t tells) k)
 
   pub standard_cause : (rose : Type 0) → IfErr result (HasCause (chained folders_of).may_fail name rose)
       → IfErr result (HasCause (standard built_in disk folders).may_fail name rose)

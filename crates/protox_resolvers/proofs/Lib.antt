@@ -2,3 +2,4 @@ pub mod Joined
 pub mod Members
 pub mod Folders
 pub mod Sets
+pub mod BuiltIn

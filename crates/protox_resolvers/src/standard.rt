@@ -6,16 +6,14 @@ ghost use Rattle.protox_io.specs.Disk.{Volume};
 ghost use Rattle.protox_paths.specs.Paths.{name_of, resolved};
 ghost use Rattle.pbx_wkt_files.specs.Files.{wkt_files};
 ghost use Rattle.protox_file.specs.Causes.{HasCause, IsTold};
-ghost use Rattle.protox_file.specs.Library.{below};
+ghost use Rattle.protox_file.specs.Library.{below, never, pooled};
 ghost use Rattle.protox_resolvers.specs.Chained.{chained, first_told, first_resolved};
 ghost use Rattle.protox_resolvers.specs.Standard.{standard};
 
 use crate::chain::is_not_found;
 use pbx_wire::{NoMemory, Text, Texts};
-use pbx_wkt::make_wkt_descriptor_pool;
-use protox_file::{
-    Disk, Error, File, FileResolver, GoogleFileResolver, join_path, path_to_file_name, strip_prefix,
-};
+use pbx_wkt_files::wkt_file;
+use protox_file::{Disk, Error, File, FileResolver, join_path, path_to_file_name, strip_prefix};
 use std::alloc::Global;
 use std::marker::Model;
 
@@ -27,36 +25,26 @@ use std::marker::Model;
 pub struct StandardResolver<D> {
     folders: Texts,
     disk: D,
-    built_in: GoogleFileResolver,
 }
 
 impl<D> Model for StandardResolver<D> {
-    ghost use Rattle.std.specs.Prelude.{◌≡◌};
-    ghost use Rattle.pbx_wkt_files.specs.Files.{wkt_files};
-    ghost use Rattle.protox_file.specs.Library.{pooled};
     ghost use Rattle.protox_resolvers.specs.Standard.{Folders};
 
     ghost Value = { Folders D };
 
     ghost view = { λ r. record { folders = r.folders; disk = r.disk } };
-
-    ghost invariant = { λ r. pooled r.built_in ≡ pooled wkt_files };
 }
 
 impl<D: Disk> StandardResolver<D> {
-    /// The files of the folders at these paths, and the built-in files, whose pool it makes. It is refused for want of
-    /// memory alone, and then the disk is handed back. No file is opened yet.
+    /// The files of the folders at these paths, and the built-in files. It is refused for want of memory alone, and then
+    /// the disk is handed back. No file is opened yet.
     pub fn new(alloc: Global, disk: D, includes: &Texts) -> Result<Self, D>
         ensures made { IfOk result (λ r. r ≡ record { folders = includes.now; disk = disk }) }
         ensures back { IfErr result (λ back. back ≡ disk) }
     {
-        match (copied(alloc, includes), make_wkt_descriptor_pool(alloc)) {
-            (Ok(folders), Ok(pool)) => Ok(StandardResolver {
-                folders,
-                disk,
-                built_in: GoogleFileResolver::new(pool),
-            }),
-            _ => Err(disk),
+        match copied(alloc, includes) {
+            Ok(folders) => Ok(StandardResolver { folders, disk }),
+            Err(NoMemory) => Err(disk),
         }
     }
 
@@ -138,6 +126,18 @@ fn open_in<D: Disk>(
     Err(Error::file_not_found(alloc, name))
 }
 
+/// The built-in file of a name, of which only those that are asked for are made.
+fn open_built_in(alloc: Global, name: &str) -> Result<File, Error>
+    ensures told { IsTold name.now ((pooled wkt_files).files name.now) result }
+    ensures cause { IfErr result (HasCause never name.now ⊥) }
+{
+    match wkt_file(alloc, name) {
+        Ok(Some(file)) => Ok(File::from_file_descriptor_proto(file)),
+        Ok(None) => Err(Error::file_not_found(alloc, name)),
+        Err(error) => Err(Error::from(error)),
+    }
+}
+
 impl<D: Disk> FileResolver for StandardResolver<D> {
     ghost library = { λ r. standard wkt_files (D.volume r.disk) r.folders };
 
@@ -153,7 +153,7 @@ impl<D: Disk> FileResolver for StandardResolver<D> {
             return answer;
         }
         drop(answer);
-        self.built_in.open_file(alloc, name)
+        open_built_in(alloc, name)
     }
 
     fn spent(&self) -> bool {

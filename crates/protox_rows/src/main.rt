@@ -10,6 +10,7 @@
 //!   refused.
 //! - `built-in`: names of built-in files, input and a type's name. The answer is the wire bytes in hexadecimal digits and the canonical text, or
 //!   what is refused.
+//! - `from set`: the same over the files of a set, whose bytes are the last field.
 #![tactic(auto)]
 
 mod built_in;
@@ -29,6 +30,7 @@ fn answer(alloc: Global, row: &Row) -> Result<String, NoMemory> {
         "set" => sets::set(alloc, row),
         "deep" => deep::deep(alloc, row),
         "built-in" => built_in::built_in(alloc, row),
+        "from set" => built_in::from_set(alloc, row),
         _ => Ok(String::from_str(alloc, "no such question")?),
     }
 }

@@ -7,8 +7,8 @@ use Rattle.protox_io.specs.Sink.{Appends, Prints}
 use Rattle.protox_words.specs.Words.{Args, WordFault, fault_pieces}
 use Rattle.protox_run.specs.Class.{Write, Ready, Refusing, Judges}
 use Rattle.protox_run.specs.Outcome.{Obeys, Wrote, error_line}
-use Rattle.protox_run.specs.Stops.{Object, Input, Reading, Writing, Printing, ForArgs, RoseOf, Reached, Untouched, StoppedAt, IsWriteTo, Carrying, Leftover, object_line, memory_line}
-use Rattle.protox_run.specs.Parts.{PlanStops, CarryStops, Carries, WritesOne, IsWriteStop, IsPrintStop, IsCarryStop, WorkStops, Works, Comes, Caused, CausedEnd, EndsFor}
+use Rattle.protox_run.specs.Stops.{Object, Input, Reading, Writing, Printing, ForArgs, RoseOf, Reached, Untouched, StoppedAt, IsWriteTo, StopsWriting, StopsPrinting, Carrying, LeftBy, Leftover, object_line, memory_line}
+use Rattle.protox_run.specs.Parts.{PlanStops, CarryStops, Carries, WriteStops, WritesOne, IsWriteStop, IsPrintStop, IsCarryStop, WorkStops, Works, Comes, Caused, CausedEnd, EndsFor}
 use Rattle.protox_run.specs.Run.{ReadsInput}
 use Rattle.protox_run.specs.Told.{Stop, Words, Refused, Broken, NoMemory, write_told, stop_told, ended, line_of, status_of}
 use Rattle.protox_run.specs.declared.carry.Write.{Write as WriteHeld}
@@ -52,10 +52,31 @@ stopped_second first second old middle new h k = record {
     joined [] b c = refl
     joined (x ∷ xs) b c = ap (λ ys. x ∷ ys) (joined xs b c)
 
+-- one of the first ones was refused
+pub write_first : (first second : List Write) (old new : Volume) (stop : Stop) → WriteStops first old new stop → WriteStops (first ++ second) old new stop
+unfolding stopped_first
+write_first first second old new (Words fault) h = absurd h
+write_first first second old new (Refused refusal) h = absurd h
+write_first first second old new (Broken Input) h = absurd h
+write_first first second old new (Broken (Reading line)) h = absurd h
+write_first first second old new (Broken (Writing path)) h = (stopped_first first second old new h.0, h.1)
+write_first first second old new (Broken Printing) h = absurd h
+write_first first second old new NoMemory h = stopped_first first second old new h
+
 -- behind the first ones, the second ones are done, or one of them is refused
-pub wrote_after : {T E : Type 0} (first second : List Write) (old middle new : Volume) (r : Result T E) → Wrote first old middle → WritesOne second middle new r → WritesOne (first ++ second) old new r
+pub wrote_after : {T : Type 0} (first second : List Write) (old middle new : Volume) (r : Result T StopHeld) → Wrote first old middle → WritesOne second middle new r → WritesOne (first ++ second) old new r
+unfolding stopped_second
 wrote_after first second old middle new (Ok x) h k = wrote_both first second old middle new h k
-wrote_after first second old middle new (Err e) h k = stopped_second first second old middle new h k
+wrote_after first second old middle new (Err stop) h k = at (stop_told stop) k
+  where
+    at : (x : Stop) → WriteStops second middle new x → WriteStops (first ++ second) old new x
+    at (Words fault) s = absurd s
+    at (Refused refusal) s = absurd s
+    at (Broken Input) s = absurd s
+    at (Broken (Reading line)) s = absurd s
+    at (Broken (Writing path)) s = (stopped_second first second old middle new h s.0, s.1)
+    at (Broken Printing) s = absurd s
+    at NoMemory s = stopped_second first second old middle new h s
 
 -- one write
 pub wrote_one : (w : Write) (old new : Volume) → Stands (disk_key w.path) w.bytes new → SameBut (disk_key w.path) old new → Wrote (w ∷ []) old new
@@ -70,6 +91,14 @@ pub stopped_told : (held : Option WriteHeld) (w : WriteHeld) (old new : Volume) 
 stopped_told held w old new e h =
     let P : Option WriteHeld → Type 0 = λ o. StoppedAt (write_told o) old new in
     subst P (sym e) (stopped_one (record { path = w.path.now; bytes = w.bytes }) old new h.0 h.1)
+
+-- the same with its path
+pub stopped_path : (held : Option WriteHeld) (w : WriteHeld) (old new : Volume) → held ≡ Some w → IsOpen (disk_key w.path.now) old new × SameBut (disk_key w.path.now) old new
+    → WriteStops (write_told held) old new (Broken (Writing w.path.now))
+unfolding stopped_one
+stopped_path held w old new e h =
+    let P : Option WriteHeld → Type 0 = λ o. WriteStops (write_told o) old new (Broken (Writing w.path.now)) in
+    subst P (sym e) (stopped_one (record { path = w.path.now; bytes = w.bytes }) old new h.0 h.1, refl)
 
 -- a path that the first writes go to is one of all, and so is one of the second
 pub first_path : (path : List ℕ) (first second : List Write) → IsWriteTo path first → IsWriteTo path (first ++ second)
@@ -107,17 +136,17 @@ nothing_more (x ∷ xs) = ap (λ ys. x ∷ ys) (nothing_more xs)
 
 -- a refused write
 pub write_stops : (writes : List Write) (text : List ℕ) (disk later : Volume) (rose refused : Type 0) (stop : Stop) (held : List ℕ) → IsWriteStop writes stop
-    → IsCarryStop rose ⊥ stop → StoppedAt writes disk later → Appends held held (λ out. CarryStops writes text disk later out rose refused stop)
-write_stops writes text disk later rose refused stop held h c s = record { added = []; is = nothing_more held; so = at stop h c }
+    → IsCarryStop rose ⊥ stop → WriteStops writes disk later stop → Appends held held (λ out. CarryStops writes text disk later out rose refused stop)
+write_stops writes text disk later rose refused stop held h c s = record { added = []; is = nothing_more held; so = at stop h c s }
   where
-    at : (x : Stop) → IsWriteStop writes x → IsCarryStop rose ⊥ x → CarryStops writes text disk later [] rose refused x
-    at (Words fault) h c = absurd h
-    at (Refused refusal) h c = absurd h
-    at (Broken Input) h c = absurd h
-    at (Broken (Reading line)) h c = absurd h
-    at (Broken (Writing path)) h c = (h, inl (c, s, refl))
-    at (Broken Printing) h c = absurd h
-    at NoMemory h c = inl (tt, s, refl)
+    at : (x : Stop) → IsWriteStop writes x → IsCarryStop rose ⊥ x → WriteStops writes disk later x → CarryStops writes text disk later [] rose refused x
+    at (Words fault) h c s = absurd h
+    at (Refused refusal) h c s = absurd h
+    at (Broken Input) h c s = absurd h
+    at (Broken (Reading line)) h c s = absurd h
+    at (Broken (Writing path)) h c s = (h, c, (s.0, s.1, refl))
+    at (Broken Printing) h c s = absurd h
+    at NoMemory h c s = inl (tt, s, refl)
 
 -- the print behind all writes
 pub prints : {T : Type 0} (writes : List Write) (text : List ℕ) (disk later : Volume) (rose refused : Type 0) (r : Result T StopHeld) (old new : List ℕ) → Wrote writes disk later
@@ -131,7 +160,7 @@ prints writes text disk later rose refused (Err stop) old new w p n h = record {
     at (Broken Input) q = absurd q
     at (Broken (Reading line)) q = absurd q
     at (Broken (Writing path)) q = absurd q
-    at (Broken Printing) q = inr (w, n, h.so)
+    at (Broken Printing) q = (w, n, h.so)
     at NoMemory q = inr (w, n, h.so)
 
 -- ---- the work of a run with arguments
@@ -148,9 +177,11 @@ carry_stops args disk before later input writes text out rose risen refused (Ref
 carry_stops args disk before later input writes text out rose risen refused (Broken Input) ends e k h = absurd h
 carry_stops args disk before later input writes text out rose risen refused (Broken (Reading line)) ends e k h = absurd h
 carry_stops args disk before later input writes text out rose risen refused (Broken (Writing path)) ends e k h =
-    (writes, text, ends, (h.0, carrying_in writes text disk before later out rose risen refused e k h.1))
+    let P : Volume → Type 0 = λ d. StopsWriting path writes d later out in
+    (writes, text, ends, (h.0, k h.1, subst P e h.2))
 carry_stops args disk before later input writes text out rose risen refused (Broken Printing) ends e k h =
-    (writes, text, ends, carrying_in writes text disk before later out rose risen refused e k h)
+    let P : Volume → Type 0 = λ d. StopsPrinting writes text d later out refused in
+    (writes, text, ends, subst P e h)
 carry_stops args disk before later input writes text out rose risen refused NoMemory ends e k h =
     inr (writes, text, ends, carrying_in writes text disk before later out (Unit {0}) (Unit {0}) refused e (λ u. u) h)
 
@@ -316,6 +347,19 @@ reached read disk later input rose refused object e old new is h =
     let P : Option Stop → Type 0 = λ x. Comes read disk input later rose refused x h.added in
     reached_by read disk later input rose refused object h.added (subst P is h.so)
 
+left_by : (read : Result Args WordFault) (disk later : Volume) (input : List ℕ) (rose refused : Type 0) (object : Object) (out : List ℕ) → Comes read disk input later rose refused (Some (Broken object)) out → LeftBy read disk input later out refused object
+left_by (Err fault) disk later input rose refused object out h = absurd h
+left_by (Ok args) disk later input rose refused Input out h = h.1
+left_by (Ok args) disk later input rose refused (Reading line) out h = h.1
+left_by (Ok args) disk later input rose refused (Writing path) out h = (h.0, h.1, h.2, h.3.2)
+left_by (Ok args) disk later input rose refused Printing out h = h
+
+pub ran_left : (read : Result Args WordFault) (disk later : Volume) (input : List ℕ) (rose refused : Type 0) (object : Object) (e : Option Stop) (old new : List ℕ) → IsObject e object
+    → Appends old new (Comes read disk input later rose refused e) → Appends old new (λ out. LeftBy read disk input later out refused object)
+ran_left read disk later input rose refused object e old new is h =
+    let P : Option Stop → Type 0 = λ x. Comes read disk input later rose refused x h.added in
+    record { added = h.added; is = h.is; so = left_by read disk later input rose refused object h.added (subst P is h.so) }
+
 module _ (disk later : Volume) (input : List ℕ) (rose refused : Type 0) where
   obeys : (read : Result Args WordFault) (e : Option Stop) (out : List ℕ) → status_of e ≤ 2 → Comes read disk input later rose refused e out → Obeys read disk input (status_of e) out later (line_of e)
   obeys (Err fault) None out few h = absurd h
@@ -347,8 +391,8 @@ module _ (disk later : Volume) (input : List ℕ) (rose refused : Type 0) where
   stands (Ok args) (Some (Refused r)) out many h = absurd (omega arith)
   stands (Ok args) (Some (Broken Input)) out many h = inl h.1
   stands (Ok args) (Some (Broken (Reading line))) out many h = inl h.1
-  stands (Ok args) (Some (Broken (Writing path))) out many h = inr (h.0, h.1, h.2, carrying_in _ _ _ _ _ _ _ _ _ refl (λ r. inl r) h.3.1)
-  stands (Ok args) (Some (Broken Printing)) out many h = inr (h.0, h.1, h.2, carrying_in _ _ _ _ _ _ _ _ _ refl (λ r. inl r) h.3)
+  stands (Ok args) (Some (Broken (Writing path))) out many h = inr (h.0, h.1, h.2, inl (inl h.3.1, h.3.2.0, h.3.2.2))
+  stands (Ok args) (Some (Broken Printing)) out many h = inr (h.0, h.1, h.2, inr h.3)
   stands (Ok args) (Some NoMemory) out many (inl h) = inl h
   stands (Ok args) (Some NoMemory) out many (inr h) = inr (h.0, h.1, h.2, carrying_in _ _ _ _ _ _ _ _ _ refl (λ u. inr refl) h.3)
 

@@ -11,7 +11,7 @@ use Rattle.protox_transcode.specs.declared.error.TopError.TheVariants as top
 use Rattle.protox_words.specs.Words.{Args, WordFault}
 use Rattle.protox_run.specs.Class.{limit, json_of, ForTree, Write, Refusing, Judges, RefusedWith, RefusesSet, Transcoding, Compiling, Generating, library_of, reads_input}
 use Rattle.protox_run.specs.Outcome.{Wrote}
-use Rattle.protox_run.specs.Stops.{Input, Reading, Writing, Printing, IsToldFaultLine, IsFaultLine, IsWriteTo, RoseOf, Reached, StoppedAt, Untouched, Carrying, ForReady}
+use Rattle.protox_run.specs.Stops.{Input, Reading, Writing, Printing, IsToldFaultLine, IsFaultLine, IsWriteTo, RoseOf, Reached, StoppedAt, Untouched, Carrying, ForReady, StopsWriting, StopsPrinting}
 use Rattle.protox_run.specs.Told.{Stop, Words, Refused, Broken, NoMemory, stop_told}
 use Rattle.protox_run.specs.declared.stop.Refusal.TheVariants.{TooLong, NotJson, Top}
 use Rattle.protox_run.specs.declared.stop.Stop.{Stop as StopHeld}
@@ -123,15 +123,21 @@ IsCarryStop disk out (Broken Printing) = out
 IsCarryStop disk out NoMemory = Unit {0}
 IsCarryStop disk out stop = ⊥
 
+-- one of the writes was refused, that of the path of the stop
+abbrev pub WriteStops : List Write → Volume → Volume → Stop → Type 0
+WriteStops writes old new (Broken (Writing path)) = (s : StoppedAt writes old new) × (s.next.path ≡ path)
+WriteStops writes old new NoMemory = StoppedAt writes old new
+WriteStops writes old new stop = ⊥
+
 -- the writes were done, or one of them was refused
-abbrev pub WritesOne : {T E : Type 0} → List Write → Volume → Volume → Result T E → Type 0
+abbrev pub WritesOne : {T : Type 0} → List Write → Volume → Volume → Result T StopHeld → Type 0
 WritesOne writes old new (Ok done) = Wrote writes old new
-WritesOne writes old new (Err stop) = StoppedAt writes old new
+WritesOne writes old new (Err stop) = WriteStops writes old new (stop_told stop)
 
 -- what a stop while writing leaves, and how far the writing had come
 abbrev pub CarryStops : List Write → List ℕ → Volume → Volume → List ℕ → Type 0 → Type 0 → Stop → Type 0
-CarryStops writes text disk later out rose refused (Broken (Writing path)) = IsWriteTo path writes × Carrying writes text disk later out rose refused
-CarryStops writes text disk later out rose refused (Broken Printing) = Carrying writes text disk later out rose refused
+CarryStops writes text disk later out rose refused (Broken (Writing path)) = IsWriteTo path writes × rose × StopsWriting path writes disk later out
+CarryStops writes text disk later out rose refused (Broken Printing) = StopsPrinting writes text disk later out refused
 CarryStops writes text disk later out rose refused NoMemory = Carrying writes text disk later out (Unit {0}) refused
 CarryStops writes text disk later out rose refused stop = ⊥
 
@@ -155,9 +161,9 @@ WorkStops args disk input later out rose refused (Refused refusal) = Judges args
 WorkStops args disk input later out rose refused (Broken Input) = IsTrue (reads_input args) × Untouched disk later out
 WorkStops args disk input later out rose refused (Broken (Reading line)) = Reached disk input (Reading line) args × Untouched disk later out
 WorkStops args disk input later out rose refused (Broken (Writing path)) =
-    ForReady args disk input (λ writes text. IsWriteTo path writes × Carrying writes text disk later out rose refused)
+    ForReady args disk input (λ writes text. IsWriteTo path writes × rose × StopsWriting path writes disk later out)
 WorkStops args disk input later out rose refused (Broken Printing) =
-    ForReady args disk input (λ writes text. Carrying writes text disk later out rose refused)
+    ForReady args disk input (λ writes text. StopsPrinting writes text disk later out refused)
 WorkStops args disk input later out rose refused NoMemory =
     Untouched disk later out ⊎ ForReady args disk input (λ writes text. Carrying writes text disk later out (Unit {0}) refused)
 

@@ -8,7 +8,7 @@ use Rattle.protox_words.specs.Words.{Args, WordFault, args_of, fault_pieces}
 use Rattle.protox_run.specs.Class.{reads_input}
 use Rattle.protox_run.specs.Outcome.{Outcome, error_line}
 use Rattle.protox_run.specs.Told.{Lasts}
-use Rattle.protox_run.specs.Stops.{Object, ForArgs, RoseOf, Reached, Leftover, object_line, memory_line}
+use Rattle.protox_run.specs.Stops.{Object, ForArgs, RoseOf, Reached, LeftBy, Leftover, object_line, memory_line}
 
 -- an object around a run, and its counts of faults
 pub record Around (T : Type 0) : Type 0 where
@@ -48,11 +48,12 @@ Tells run line = Says run.err.old.tells (Refuses run.err) run.err.old.held run.e
 abbrev pub ForPrinted : Run → (List ℕ → Type 0) → Type 0
 ForPrinted run P = Appends run.out.old.held run.out.new.held P
 
--- why the status is 3: the count of an object rose, which the run had come to, and err has its line
+-- why the status is 3: the count of an object rose, which the run had come to, what that leaves, and err has its line
 pub record Fails (run : Run) : Type 0 where
   pub object : Object
   pub rose : ForArgs (args_of run.words) (RoseOf (Raised run.disk) (Raised run.input) (Raised run.out) object)
   pub reached : AllTell run → ForArgs (args_of run.words) (Reached run.disk.old run.input.old.left object)
+  pub left : AllTell run → ForPrinted run (λ printed. LeftBy (args_of run.words) run.disk.old run.input.old.left run.disk.new printed (Refuses run.out) object)
   pub line : Tells run (error_line (object_line object))
 
 -- the words are faulty exactly where the status says so, want of memory aside, and err has the first fault

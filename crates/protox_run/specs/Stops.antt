@@ -85,10 +85,27 @@ pub record StoppedAt (writes : List Write) (disk later : Volume) : Type 0 where
   pub own : IsOpen (disk_key next.path) middle later
   pub others : SameBut (disk_key next.path) middle later
 
+-- the write under this path was refused, and nothing is printed
+abbrev pub StopsWriting : List ℕ → List Write → Volume → Volume → List ℕ → Type 0
+StopsWriting path writes disk later out = (s : StoppedAt writes disk later) × (s.next.path ≡ path) × (out ≡ [])
+
+-- all was written, and out refused a write and holds the first bytes
+abbrev pub StopsPrinting : List Write → List ℕ → Volume → Volume → List ℕ → Type 0 → Type 0
+StopsPrinting writes text disk later out out_refused = Wrote writes disk later × out_refused × Begins out text
+
 -- A write was refused, and nothing is printed; or all was written, and out refused a write and holds the first bytes.
 abbrev pub Carrying : List Write → List ℕ → Volume → Volume → List ℕ → Type 0 → Type 0 → Type 0
 Carrying writes text disk later out path_refused out_refused =
-    (path_refused × StoppedAt writes disk later × (out ≡ [])) ⊎ (Wrote writes disk later × out_refused × Begins out text)
+    (path_refused × StoppedAt writes disk later × (out ≡ [])) ⊎ StopsPrinting writes text disk later out out_refused
+
+-- Where the object that failed leaves a run: of the input and of reading, nothing was written; of a write or a print, all was read and accepted, and what
+-- comes before it was done.
+abbrev pub LeftBy : Result Args WordFault → Volume → List ℕ → Volume → List ℕ → Type 0 → Object → Type 0
+LeftBy read disk input later out out_refused (Writing path) =
+    ForArgs read (λ args. ForReady args disk input (λ writes text. StopsWriting path writes disk later out))
+LeftBy read disk input later out out_refused Printing =
+    ForArgs read (λ args. ForReady args disk input (λ writes text. StopsPrinting writes text disk later out out_refused))
+LeftBy read disk input later out out_refused object = Untouched disk later out
 
 -- where a stop leaves a run: nothing was written, or all was read and accepted and the writing was begun
 abbrev pub Leftover : Result Args WordFault → Volume → List ℕ → Volume → List ℕ → Type 0 → Type 0 → Type 0

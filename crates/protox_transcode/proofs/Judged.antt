@@ -13,10 +13,10 @@ use Rattle.protox_walk.specs.Walk.{Done, records}
 use Rattle.protox_walk.specs.Opening.{Accepted, closure}
 use Rattle.protox_walk.specs.Closures.{StopsAt}
 use Rattle.protox_walk.specs.Compiled.{IsOrdered}
-use Rattle.protox_walk.specs.Refusals.{HasOpeningCause}
+use Rattle.protox_walk.specs.Refusals.{HasOpeningCause, HasOpeningsCause}
 use Rattle.protox_compile.specs.State.{State, fresh, most_files}
 use Rattle.protox_compile.specs.Sets.{IsUndecodable}
-use Rattle.protox_transcode.specs.Top.{ForFiles, IsCaused, IsRefused, IsTranscoded, Refuses, is_memory, of_error}
+use Rattle.protox_transcode.specs.Top.{ForFiles, IsCaused, IsJudged, IsRefused, IsStopped, IsTranscoded, Refuses, is_memory, of_error}
 use Rattle.protox_transcode.specs.declared.error.TopError.{TopError}
 use Rattle.protox_transcode.specs.declared.error.TopError.TheVariants as top
 
@@ -138,3 +138,28 @@ pool_caused fault name tree files (top.TypeNotFound n) h = tt
 pool_caused fault name tree files top.TooDeep h = tt
 pool_caused fault name tree files top.NoMemory h = tt
 pool_caused fault name tree files (top.Json e) h = h.2.2.0
+
+-- ---- over every resolver
+
+-- why the walk stopped, of the resolver that is handed back
+pub walk_judged : {R : Type 0} (library : R → Library) (count : R → Count) (a b : R) (s t : State R) (paths : List (List ℕ)) (name : List ℕ) (tree : Data)
+    (error : ErrorKind) → s ≡ fresh a → b ≡ t.resolver
+    → HasOpeningsCause s.limit paths t.done (FaultCause (library s.resolver) (count s.resolver) (count t.resolver)) error
+    → IsJudged paths name tree (FaultCause (library a) (count a) (count b)) (of_error error)
+walk_judged {R = R} library count a b s t paths name tree error e k h =
+    let P : State R → Type 0 = λ c. HasOpeningsCause c.limit paths t.done (FaultCause (library c.resolver) (count c.resolver) (count t.resolver)) error in
+    let Q : R → Type 0 = λ r. HasOpeningsCause most_files paths t.done (FaultCause (library a) (count a) (count r)) error in
+    inl (at (is_memory error) (subst Q (sym k) (subst P e h)))
+  where
+    at : (b' : Bool) → HasOpeningsCause most_files paths t.done (FaultCause (library a) (count a) (count b)) error
+        → IsStopped paths (FaultCause (library a) (count a) (count b)) (if b' then top.NoMemory else top.File error)
+    at true h = tt
+    at false h = (t.done, h)
+
+-- why the files are refused that the compiler holds
+pub pool_judged : (paths : List (List ℕ)) (fault : ErrorKind → Type 0) (name : List ℕ) (tree : Data) (later : List Done) (files : List FileDescriptorProto)
+    (error : TopError) → files ≡ records later → IsOrdered [] later → ArePooled [] (records later) → IsRefused name tree files error
+    → IsJudged paths name tree fault error
+pool_judged paths fault name tree later files error e ordered pooled h =
+    let P : List FileDescriptorProto → Type 0 = λ fs. IsRefused name tree fs error in
+    inr (later, ordered, pooled, subst P e h)

@@ -27,7 +27,7 @@ use Rattle.pbx_json_meaning.specs.declared.place.Step.{Step}
 use Rattle.pbx_json_meaning.specs.Fits.{fits, payloads_fit}
 use Rattle.pbx_message.specs.Trees as read_specs
 use Rattle.protox_transcode.specs.Parts.{IsClear, IsNamed, IsNoSet, IsNotClear, IsNotNamed, IsNotTold, IsNotWritten, IsWritten}
-use Rattle.protox_compile.proofs.Found.{has_place, found_at}
+use Rattle.pbx_decodable.proofs.Found.{has_place, found_at}
 use Rattle.protox_compile.specs.Sets.{AreDecodable}
 use Rattle.protox_transcode.specs.Top.{ForType, HaveClearNames, IsRefused, IsTooDeep, IsUnread, Transcodes, of_json}
 use Rattle.protox_transcode.specs.declared.error.TopError.{TopError}

@@ -26,7 +26,7 @@ pub record IsClear (shape : Shape) : Type 0 where
   pub named : IsWellNamed shape
   pub clear : name_fault false shape ≡ None
 
--- one of the files nests too many levels, or want of memory
+-- one of the files cannot be read again, or want of memory
 abbrev pub IsNoSet : List FileDescriptorProto → TopError → Type 0
 IsNoSet files (top.File error) = IsUndecodable files error
 IsNoSet files top.NoMemory = Unit {0}

@@ -20,6 +20,7 @@ use Rattle.pbx_json_meaning.specs.declared.kind.JsonKind.TheVariants as json
 use Rattle.pbx_json_meaning.specs.declared.names_fault.NameFault.{NameFault}
 use Rattle.pbx_json_meaning.specs.declared.names_fault.NameFault.TheVariants as names
 use Rattle.pbx_json_meaning.specs.Fits.{fits}
+use Rattle.pbx_pool_laws.specs.Pool.{ArePooled}
 use Rattle.protox_error.specs.Lines.{long_line_of}
 use Rattle.protox_file.specs.Told.{Told, ByLookups}
 use Rattle.protox_error.specs.declared.error.ErrorKind.{ErrorKind}
@@ -27,6 +28,8 @@ use Rattle.protox_error.specs.declared.error.ErrorKind.TheVariants as kinds
 use Rattle.protox_walk.specs.Walk.{Done, records}
 use Rattle.protox_walk.specs.Opening.{Accepted, closure}
 use Rattle.protox_walk.specs.Closures.{StopsAt}
+use Rattle.protox_walk.specs.Compiled.{IsOrdered}
+use Rattle.protox_walk.specs.Refusals.{HasOpeningsCause}
 use Rattle.protox_compile.specs.Sets.{IsSet, AreDecodable, IsUndecodable}
 use Rattle.protox_compile.specs.State.{most_files}
 use Rattle.protox_transcode.specs.Json.{json_line}
@@ -82,7 +85,7 @@ abbrev pub ForFiles : (List ℕ → Told) → (List ℕ → Option (List ℕ)) �
 ForFiles told resolves paths P =
     ByLookups told (λ lookups. (files : List Done) × (closure lookups resolves most_files paths [] ≡ (files, Accepted)) × P (records files))
 
--- why the files of paths are refused: a fault of the walk, or else a file that nests more than 100 levels
+-- why the files of paths are refused: a fault of the walk, or else a file that cannot be read again
 abbrev pub RefusesFiles : (List ℕ → Told) → (List ℕ → Option (List ℕ)) → List (List ℕ) → ErrorKind → Type 0
 RefusesFiles told resolves paths error =
     ByLookups told (λ lookups. (later : List Done) × StopsAt lookups resolves most_files paths [] later error)
@@ -115,6 +118,18 @@ IsCaused fault (File kinds.NoMemory) = ⊥
 IsCaused fault (File error) = Unit {0}
 IsCaused fault (Json error) = ¬ (error.kind ≡ json.NoMemory)
 IsCaused fault error = Unit {0}
+
+-- why the walk stopped, over every resolver: one of the paths was refused, and what is known of that; or want of memory
+abbrev pub IsStopped : List (List ℕ) → (ErrorKind → Type 0) → TopError → Type 0
+IsStopped paths fault (File error) = (later : List Done) × HasOpeningsCause most_files paths later fault error
+IsStopped paths fault NoMemory = Unit {0}
+IsStopped paths fault error = ⊥
+
+-- Over every resolver: why the walk stopped, or else why files in order, each once and behind its imports and linked among those before it, are refused.
+abbrev pub IsJudged : List (List ℕ) → List ℕ → Data → (ErrorKind → Type 0) → TopError → Type 0
+IsJudged paths name tree fault error =
+    IsStopped paths fault error
+    ⊎ ((files : List Done) × IsOrdered [] files × ArePooled [] (records files) × IsRefused name tree (records files) error)
 
 -- the line of an error, as the pieces that stand in it one after another
 abbrev pub top_line : TopError → List (List ℕ)

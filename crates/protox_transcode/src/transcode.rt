@@ -15,7 +15,7 @@ ghost use Rattle.protox_walk.specs.Walk.{Done, records};
 ghost use Rattle.protox_walk.specs.Compiled.{IsOrdered};
 ghost use Rattle.protox_transcode.specs.Input.{data_of};
 ghost use Rattle.protox_transcode.specs.Parts.{IsClear, IsNotClear, IsNotTold, IsNamed, IsNotNamed, IsNotWritten, IsWire, IsWritten};
-ghost use Rattle.protox_transcode.specs.Top.{ForFiles, HaveClearNames, IsTranscoded, IsRefused, Refuses, IsCaused, Transcodes};
+ghost use Rattle.protox_transcode.specs.Top.{ForFiles, HaveClearNames, IsTranscoded, IsRefused, Refuses, IsCaused, IsJudged, Transcodes};
 
 use crate::error::{TopError, file_error, json_error, names_error};
 use crate::input_tree::InputTree;
@@ -204,10 +204,12 @@ pub fn transcode_files<R: FileResolver>(
     ensures err { IsTrue (R.library resolver).tells → IfErr result.result (Refuses (R.library resolver).files (R.library resolver).resolves paths.now type_name.now (data_of tree.entry)) }
     ensures cause { IfErr result.result (IsCaused (FaultCause (R.library resolver) (R.count resolver) (R.count result.resolver))) }
 
-    // Over every resolver, the files stand in order, each once and behind its imports, and each is linked among those before it.
+    // Over every resolver, the files stand in order, each once and behind its imports, and each is linked among those before it;
+    // and an error is one of the walk or of such files.
     ensures ordered { IfOk result.result
         (λ done. (files : List Done) × IsOrdered [] files × ArePooled [] (records files)
         × IsTranscoded type_name.now (data_of tree.entry) (records files) done.set done.wire (view done.tree)) }
+    ensures judged { IfErr result.result (IsJudged paths.now type_name.now (data_of tree.entry) (FaultCause (R.library resolver) (R.count resolver) (R.count result.resolver))) }
     ensures later { Later (R.count resolver) (R.count result.resolver) }
     ensures keeps { R.library result.resolver ≡ R.library resolver }
 {
@@ -239,8 +241,9 @@ pub fn transcode_files<R: FileResolver>(
 
 /// Compiles the files at the paths with all that they import, and transcodes a tree as a message of the type of that
 /// full name: into the set of the files, each behind all that it imports, the wire bytes and the canonical tree.
-/// At most 65,536 files are taken, and none that nests more than 100 levels, since no reader of the set would take it;
-/// neither is a message that nests so deep, or has a payload that does. The resolver is handed back.
+/// At most 65,536 files are taken, and none that nests more than 100 levels or has options that do not decode, since no
+/// reader of the set would take it; neither is a message that nests so deep, or has a payload that does. The resolver is
+/// handed back.
 ///
 /// The names of the paths are as those of `Compiler::open_file`. The tree is read last: refused are, in this order, a
 /// file, a key with two meanings in the JSON of any message of the files, a message of a well-known name without its
@@ -259,10 +262,12 @@ pub fn compile_and_transcode<R: FileResolver>(
     ensures err { IsTrue (R.library resolver).tells → IfErr result.result (Refuses (R.library resolver).files (R.library resolver).resolves paths.now type_name.now (view tree.now)) }
     ensures cause { IfErr result.result (IsCaused (FaultCause (R.library resolver) (R.count resolver) (R.count result.resolver))) }
 
-    // Over every resolver, the files stand in order, each once and behind its imports, and each is linked among those before it.
+    // Over every resolver, the files stand in order, each once and behind its imports, and each is linked among those before it;
+    // and an error is one of the walk or of such files.
     ensures ordered { IfOk result.result
         (λ done. (files : List Done) × IsOrdered [] files × ArePooled [] (records files)
         × IsTranscoded type_name.now (view tree.now) (records files) done.set done.wire (view done.tree)) }
+    ensures judged { IfErr result.result (IsJudged paths.now type_name.now (view tree.now) (FaultCause (R.library resolver) (R.count resolver) (R.count result.resolver))) }
     ensures later { Later (R.count resolver) (R.count result.resolver) }
     ensures keeps { R.library result.resolver ≡ R.library resolver }
 {

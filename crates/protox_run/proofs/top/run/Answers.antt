@@ -3,7 +3,7 @@ use Rattle.protox_io.specs.Count.{Rose}
 use Rattle.protox_io.specs.Sink.{Says, SinkRefuses}
 use Rattle.protox_words.specs.Words.{args_of}
 use Rattle.protox_run.specs.Told.{ended, line_of}
-use Rattle.protox_run.proofs.Endings.{small, ran_words, ran_outcome, ran_memory, ran_stopped, ran_input, failed, rose_of, reached, line_is}
+use Rattle.protox_run.proofs.Endings.{small, ran_words, ran_outcome, ran_memory, ran_stopped, ran_input, failed, rose_of, reached, ran_left, line_is}
 use Rattle.protox_run.proofs.top.run.Goals as goal
 
 pub returns : goal.returns
@@ -25,6 +25,7 @@ returns g c =
             object = it.0;
             rose = rose_of read _ _ _ it.0 e it.1 c.obey-worked.ensures.cause;
             reached = λ all. reached read _ _ _ _ _ it.0 e _ _ it.1 (c.obey-worked.ensures.told all.disk all.input all.out);
+            left = λ all. ran_left read _ _ _ _ _ it.0 e _ _ it.1 (c.obey-worked.ensures.told all.disk all.input all.out);
             line = line_is it.0 e T it.1 c.report-status.ensures.said;
           };
       memory = ran_memory e _ T is c.report-status.ensures.said;

@@ -1,10 +1,10 @@
 use Rattle.serde_json.specs.View.{view}
 use Rattle.protox_file.specs.Causes.{FaultCause}
 use Rattle.protox_transcode.specs.Input.{data_of}
-use Rattle.protox_transcode.proofs.Judged.{stopped, accepted, all_refused, all_given, all_pooled, of_resolver, resolver_kept, walk_caused, pool_caused}
+use Rattle.protox_transcode.proofs.Judged.{stopped, accepted, all_refused, all_given, all_pooled, of_resolver, resolver_kept, walk_caused, pool_caused, walk_judged, pool_judged}
 use Rattle.protox_transcode.proofs.Transcoding.{ok_then, err_then}
 use Rattle.std.proofs.Common.{ap, subst, sym}
-use Rattle.protox_transcode.specs.Top.{IsCaused, Refuses, of_error}
+use Rattle.protox_transcode.specs.Top.{IsCaused, IsJudged, Refuses, of_error}
 use Rattle.protox_transcode.specs.declared.error.TopError.{TopError}
 use Rattle.protox_transcode.proofs.transcode.transcode_files.Goals as goal
 
@@ -63,3 +63,17 @@ returns-clause-ordered g c =
     (λ done h. all_pooled c.args.type_name.now (data_of c.args.tree) c.open_files.new.self.done c.descriptor_pool-pool.result done.set done.wire (view done.tree) c.descriptor_pool-pool.ensures.pool
     c.descriptor_pool-pool.ensures.ordered c.descriptor_pool-pool.ensures.pooled h)
     c.transcode_in-result.ensures.ok
+
+pub returns-in-Err-open_files-clause-judged : goal.returns-in-Err-open_files-clause-judged
+returns-in-Err-open_files-clause-judged g c =
+    let P : TopError → Type 0 = λ e. IsJudged c.args.paths.now c.args.type_name.now (data_of c.args.tree) (FaultCause (g.R.FileResolver.library c.args.resolver) (g.R.FileResolver.count c.args.resolver) (g.R.FileResolver.count c.into_resolver.result)) e in
+    subst P (sym c.file_error.ensures)
+    (walk_judged g.R.FileResolver.library g.R.FileResolver.count c.args.resolver c.into_resolver.result c.in-Ok.compiler c.open_files.new.self c.args.paths.now c.args.type_name.now (data_of c.args.tree)
+    c.in-Err-open_files.error c.in-Ok.ensures.ok c.into_resolver.ensures c.in-Err-open_files.ensures.cause)
+
+pub returns-clause-judged : goal.returns-clause-judged
+returns-clause-judged g c =
+    err_then c.transcode_in-result.result
+    (λ error h. pool_judged c.args.paths.now (FaultCause (g.R.FileResolver.library c.args.resolver) (g.R.FileResolver.count c.args.resolver) (g.R.FileResolver.count c.into_resolver-2.result)) c.args.type_name.now (data_of c.args.tree) c.open_files.new.self.done c.descriptor_pool-pool.result
+    error c.descriptor_pool-pool.ensures.pool c.descriptor_pool-pool.ensures.ordered c.descriptor_pool-pool.ensures.pooled h)
+    c.transcode_in-result.ensures.err

@@ -1,4 +1,4 @@
-use Rattle.std.proofs.Common.{◌∙◌, sym, refl}
+use Rattle.std.proofs.Common.{◌∙◌, sym}
 use Rattle.pbx_wkt_files.specs.Files.{wkt_files}
 use Rattle.protox_resolvers.proofs.Folders.{standard_here, standard_next, standard_cause}
 use Rattle.protox_resolvers.proofs.standard.StandardResolverFileResolver.open_file.Goals as goal
@@ -16,5 +16,5 @@ returns-then-not-is_not_found-clause-cause g c =
 pub returns-clause-told : goal.returns-clause-told
 returns-clause-told g c =
     rw (← c.self.view_is) (standard_next wkt_files (g.D.Disk.volume c.self.inside.disk) c.self.inside.folders c.args.name.now c.open_in-answer.result
-    c.self.inside.built_in c.open_file.result c.self.invariant (sym c.is_not_found.ensures ∙ c.if-not-is_not_found.false)
-    (rw c.as_slice.ensures at c.open_in-answer.ensures.told) (c.open_file.ensures.told refl))
+    c.open_built_in.result (sym c.is_not_found.ensures ∙ c.if-not-is_not_found.false)
+    (rw c.as_slice.ensures at c.open_in-answer.ensures.told) c.open_built_in.ensures.told)

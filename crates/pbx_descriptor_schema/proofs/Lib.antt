@@ -1,0 +1,4 @@
+pub mod Shaped
+pub mod Opened
+pub mod Proper
+pub mod Parts
