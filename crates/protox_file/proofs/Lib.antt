@@ -1,3 +1,3 @@
 pub mod Lookups
-pub mod Puts
 pub mod Readings
+mod Texts

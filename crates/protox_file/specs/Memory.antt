@@ -1,12 +1,16 @@
 -- What a resolver in memory holds.
-use Rattle.std.specs.Prelude.{◌≡◌, ℕ, ◌==◌, List, [], ◌∷◌, Bool, true, false, ◌&&◌, Option, Some, None, Result, Err, codes, if◌then◌else◌}
+use Rattle.std.specs.Prelude.{◌≡◌, ℕ, ◌==◌, List, [], map, Bool, true, false, ◌&&◌, Option, Some, None, Result, Err, codes}
+use Rattle.std.specs.Prelude.{String, string_bytes, IfSome}
+use Rattle.std.specs.BTreeMap.{BTreeMap}
 use Rattle.std.specs.List.{list_any}
+use Rattle.std.specs.Map.{lookup}
 use Rattle.std.specs.Str.{bytes_eq}
 use Rattle.protox_error.specs.declared.error.ErrorKind.{ErrorKind}
 use Rattle.protox_error.specs.declared.error.ErrorKind.TheVariants.{OpenFile, Custom, NoMemory}
 use Rattle.protox_file.specs.declared.memory.Put.{Put}
 use Rattle.protox_file.specs.declared.memory.Put.TheVariants.{Source, File}
 use Rattle.protox_file.specs.Library.{Library}
+use Rattle.protox_paths.specs.Paths.{name_of}
 use Rattle.protox_file.specs.Told.{Entry, Told, Absent, Recorded, told_source}
 
 -- what a source, or a file, tells that was put under a name
@@ -14,8 +18,12 @@ abbrev pub told_put : Put → Told
 told_put (Source source) = told_source source None
 told_put (File entry) = Recorded entry
 
--- The state of a resolver in memory: what was put under each name, and the names of paths, the latest first; the calls that fail; the
--- calls that were made; and those of them that were listed.
+-- the values under texts, in the order of the texts
+abbrev pub by_text : {X Y : Type 0} → BTreeMap (String Y) X → List (List ℕ × X)
+by_text values = map (λ e. (string_bytes e.0, e.1)) values.entries
+
+-- The state of a resolver in memory: what was put last under each name, and the name that each path was mapped to last; the calls that
+-- fail; the calls that were made; and those of them that were listed.
 pub record ResolverState : Type 0 where
   pub files : List (List ℕ × Put)
   pub names : List (List ℕ × List ℕ)
@@ -23,15 +31,22 @@ pub record ResolverState : Type 0 where
   pub calls : ℕ
   pub faults : ℕ
 
--- what was put last under a name
-abbrev pub stored_as : List (List ℕ × Put) → List ℕ → Told
-stored_as [] name = Absent
-stored_as (f ∷ fs) name = if bytes_eq f.0 name then told_put f.1 else stored_as fs name
+-- what was put under a name, if anything, tells
+abbrev pub told_of : Option Put → Told
+told_of None = Absent
+told_of (Some put) = told_put put
 
--- the name that a path was mapped to last
+-- what stands under a name
+abbrev pub stored_as : List (List ℕ × Put) → List ℕ → Told
+stored_as files name = told_of (lookup (bytes_eq name) files)
+
+-- the name of a path
 abbrev pub named_by : List (List ℕ × List ℕ) → List ℕ → Option (List ℕ)
-named_by [] path = None
-named_by (n ∷ ns) path = if bytes_eq n.0 path then Some n.1 else named_by ns path
+named_by names path = lookup (bytes_eq path) names
+
+-- the name of each path names itself
+abbrev pub AreNames : List (List ℕ × List ℕ) → Type 0
+AreNames names = (path : List ℕ) → IfSome (named_by names path) (λ name. name_of name ≡ Some name)
 
 -- the fault of a call that is listed
 abbrev pub is_injected : ErrorKind → Bool

@@ -1,10 +1,12 @@
-ghost use Rattle.std.specs.Prelude.{◌≡◌, ◌≤◌, ◌∷◌, ◌++◌, ◌==◌, ◌^◌, ◌-◌, [], ℕ, List, Some, None, All, OnOk, OnErr, IfOk, IfErr, IfSome};
-ghost use Rattle.std.specs.Prelude.{IsTrue, IsFalse, MatchOption, true, if◌then◌else◌};
+ghost use Rattle.std.specs.Prelude.{◌≡◌, ◌≤◌, ◌∷◌, ◌++◌, ◌==◌, ◌^◌, ◌-◌, [], ℕ, List, Some, None, OnOk, OnErr, IfOk, IfErr, IfSome};
+ghost use Rattle.std.specs.Prelude.{IsTrue, IsFalse, MatchOption, true, cond, if◌then◌else◌};
+ghost use Rattle.std.specs.BTreeMap.{get_by_text};
 ghost use Rattle.std.specs.Option.{option_copied};
+ghost use Rattle.std.specs.Str.{bytes_eq};
 ghost use Rattle.protox_io.specs.Count.{Rose, Later, raised, counted};
 ghost use Rattle.protox_file.specs.Library.{never};
 ghost use Rattle.protox_file.specs.Causes.{HasCause, IsTold};
-ghost use Rattle.protox_file.specs.Memory.{library, told_put, stored_as, named_by, is_listed, IsFault, NoFault};
+ghost use Rattle.protox_file.specs.Memory.{library, by_text, told_put, stored_as, named_by, is_listed, IsFault, NoFault};
 ghost use Rattle.protox_paths.specs.Paths.{name_of};
 ghost use Rattle.protox_file.specs.Told.{Absent, Recorded, told_source};
 
@@ -13,6 +15,7 @@ use crate::resolver::FileResolver;
 use pbx_wire::{NoMemory, Text};
 use protox_error::Error;
 use std::alloc::Global;
+use std::collections::BTreeMap;
 use std::marker::Model;
 
 /// What was put under a name.
@@ -25,10 +28,11 @@ enum Put {
 /// Files by name and names of paths, in memory, and the opens that fail.
 #[derive(Drop)]
 pub struct MemoryResolver {
-    // The latest stands first.
-    files: Vec<(Text, Put)>,
-    // The names of paths, the latest first.
-    names: Vec<(Text, Text)>,
+    // What was put last under each name.
+    files: BTreeMap<String, Put>,
+    // The name that each path was mapped to last.
+    names: BTreeMap<String, Text>,
+    // The calls that fail. Its allocator is that of all, since a tree does not tell its own.
     failing: Vec<u64>,
     calls: u64,
     faults: u64,
@@ -36,18 +40,16 @@ pub struct MemoryResolver {
 
 impl Model for MemoryResolver {
     ghost use Rattle.std.specs.Coded.{codes};
-    ghost use Rattle.std.specs.Prelude.{◌≡◌, Some, All};
     ghost use Rattle.pbx_desc_records.specs.contracts.file.FileDescriptorProto as proto;
-    ghost use Rattle.protox_file.specs.Memory.{ResolverState};
-    ghost use Rattle.protox_paths.specs.Paths.{name_of};
+    ghost use Rattle.protox_file.specs.Memory.{ResolverState, by_text, AreNames};
 
     ghost Value = { ResolverState };
 
     ghost coded = { Prim.hlevel (codes, proto.the_row.coded) };
 
-    ghost view = { λ r. record { files = r.files.items; names = r.names.items; listed = r.failing.items; calls = r.calls; faults = r.faults } };
+    ghost view = { λ r. record { files = by_text r.files; names = by_text r.names; listed = r.failing.items; calls = r.calls; faults = r.faults } };
 
-    ghost invariant = { λ r. All (λ n. name_of n.1 ≡ Some n.1) r.names.items };
+    ghost invariant = { λ r. AreNames (by_text r.names) };
 }
 
 impl MemoryResolver {
@@ -60,8 +62,8 @@ impl MemoryResolver {
         ensures faults { result.faults ≡ 0 }
     {
         MemoryResolver {
-            files: Vec::new(alloc),
-            names: Vec::new(alloc),
+            files: BTreeMap::new(alloc),
+            names: BTreeMap::new(alloc),
             failing: Vec::new(alloc),
             calls: 0,
             faults: 0,
@@ -78,11 +80,9 @@ impl MemoryResolver {
         ensures calls { self.new.calls ≡ self.old.calls }
         ensures faults { self.new.faults ≡ self.old.faults }
     {
-        let alloc = *self.files.allocator();
-        let name = Text::from_str(alloc, name)?;
+        let alloc = *self.failing.allocator();
         let source = Text::from_str(alloc, source)?;
-        self.files.insert(0, (name, Put::Source(source)))?;
-        Ok(())
+        put_under(alloc, &mut self.files, name, Put::Source(source))
     }
 
     /// Lets a file stand under a name, in place of what stood there. The record may declare another name.
@@ -95,17 +95,8 @@ impl MemoryResolver {
         ensures calls { self.new.calls ≡ self.old.calls }
         ensures faults { self.new.faults ≡ self.old.faults }
     {
-        let alloc = *self.files.allocator();
-        match Text::from_str(alloc, name) {
-            Ok(name) => {
-                self.files.insert(0, (name, Put::File(file)))?;
-                Ok(())
-            }
-            Err(error) => {
-                drop(file);
-                Err(error)
-            }
-        }
+        let alloc = *self.failing.allocator();
+        put_under(alloc, &mut self.files, name, Put::File(file))
     }
 
     /// Lets a path resolve to a name, in place of the name that it resolved to.
@@ -120,11 +111,9 @@ impl MemoryResolver {
         ensures calls { self.new.calls ≡ self.old.calls }
         ensures faults { self.new.faults ≡ self.old.faults }
     {
-        let alloc = *self.files.allocator();
-        let path = Text::from_str(alloc, path)?;
+        let alloc = *self.failing.allocator();
         let name = Text::from_str(alloc, name)?;
-        self.names.insert(0, (path, name))?;
-        Ok(())
+        put_under(alloc, &mut self.names, path, name)
     }
 
     /// Lets that open fail. Opens are counted from 0; past `u64::MAX` each has that number.
@@ -161,29 +150,39 @@ impl MemoryResolver {
     }
 }
 
-/// What was put last under the name.
-fn find<'a>(files: &'a [(Text, Put)], name: &str) -> Option<&'a Put>
-    ensures { MatchOption result (stored_as files.now name.now ≡ Absent)
-        (λ put. stored_as files.now name.now ≡ told_put put.now) }
+/// Puts the value under the text, in place of what was there. A refused call changes nothing.
+fn put_under<V: Drop>(
+    alloc: Global,
+    values: &mut BTreeMap<String, V>,
+    text: &str,
+    value: V,
+) -> Result<(), NoMemory>
+    ensures ok { OnOk result ((q : List ℕ) → get_by_text values.new q ≡ cond (bytes_eq text.now q) (Some value) (get_by_text values.old q)) }
+    ensures err { OnErr result (by_text values.new ≡ by_text values.old) }
 {
-    for (stored, put) in files {
-        if stored.as_str() == name {
-            return Some(put);
-        }
+    let Ok(key) = String::from_str(alloc, text) else {
+        drop(value);
+        return Err(NoMemory);
+    };
+    match values.insert(key, value) {
+        Ok(_) => Ok(()),
+        Err(_) => Err(NoMemory),
     }
-    None
 }
 
-/// The name that the path was mapped to last.
-fn find_name<'a>(names: &'a [(Text, Text)], path: &str) -> Option<&'a Text>
-    ensures { option_copied result ≡ named_by names.now path.now }
+/// What was put last under the name, by log n comparisons.
+fn find<'a>(files: &'a BTreeMap<String, Put>, name: &str) -> Option<&'a Put>
+    ensures { MatchOption result (stored_as (by_text files.now) name.now ≡ Absent)
+        (λ put. stored_as (by_text files.now) name.now ≡ told_put put.now) }
 {
-    for (mapped, name) in names {
-        if mapped.as_str() == path {
-            return Some(name);
-        }
-    }
-    None
+    files.get(name)
+}
+
+/// The name that the path was mapped to last, by log n comparisons.
+fn find_name<'a>(names: &'a BTreeMap<String, Text>, path: &str) -> Option<&'a Text>
+    ensures { option_copied result ≡ named_by (by_text names.now) path.now }
+{
+    names.get(path)
 }
 
 /// The file of what was put under the name.

@@ -15,7 +15,7 @@ pub use disk::{Disk, DiskAnswer, DiskError};
 pub use memory_disk::MemoryDisk;
 pub use memory_stream::{MemorySink, MemorySource};
 pub use read::{ReadFault, read_to_end};
-pub use real::{RealDisk, RealSink, RealSource};
+pub use real::{RealDisk, RealError, RealSink, RealSource};
 pub use shown::{shown_is_plain, write_line, write_shown};
 pub use stream::{Failed, Sink, SinkError, Source};
 pub use write::{write_all, write_pieces};

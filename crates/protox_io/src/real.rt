@@ -63,6 +63,7 @@ fn describe(kind: ErrorKind) -> &'static str {
         ErrorKind::NotFound => "no such folder",
         ErrorKind::ReadOnlyFilesystem => "the file system is read only",
         ErrorKind::StorageFull => "no space is left",
+        ErrorKind::FilesystemLoop => "a loop of links",
         _ => "the system refused",
     }
 }
@@ -141,6 +142,9 @@ pub struct RealSink<W> {
     stream: W,
     faults: u64,
 }
+
+/// The stream that a program says its errors to, which is a sink as any other.
+pub type RealError<W> = RealSink<W>;
 
 impl<W> Model for RealSink<W> {
     ghost use Rattle.std.specs.Prelude.{ℕ};

@@ -4,7 +4,7 @@
 
 use pbx_wire::{NoMemory, Text, Texts};
 use protox::run;
-use protox_io::{RealDisk, RealSink, RealSource, Sink, write_all};
+use protox_io::{RealDisk, RealError, RealSink, RealSource, Sink, write_all};
 use std::process::ExitCode;
 use std::rt::Env;
 use std::{env, io};
@@ -37,7 +37,7 @@ fn without_words<E: Sink>(err: &mut E, kind: io::ErrorKind) -> u8 {
 }
 
 fn main(rt: HostRuntime) -> ExitCode {
-    let mut err = RealSink::new(rt.stderr());
+    let mut err = RealError::new(rt.stderr());
     let words = match arguments(&rt) {
         Ok(words) => words,
         Err(error) => return ExitCode::from(without_words(&mut err, error.kind())),

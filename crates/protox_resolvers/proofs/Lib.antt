@@ -3,3 +3,4 @@ pub mod Members
 pub mod Folders
 pub mod Sets
 pub mod BuiltIn
+mod Indexes

@@ -1,12 +1,19 @@
 -- Resolvers that are asked in turn.
 use Rattle.std.specs.Prelude.{ℕ, ◌+◌, ◌||◌, List, [], ◌∷◌, Bool, true, false, Option, None, Result, Err}
 use Rattle.std.specs.List.{list_all, list_any, flat_map}
+use Rattle.std.specs.declared.dyn_box.DynBox.{DynBox}
+use Rattle.std.specs.Global.{Global}
 use Rattle.std.specs.Option.{option_or}
 use Rattle.protox_io.specs.Count.{Count}
 use Rattle.protox_file.specs.Library.{Library}
 use Rattle.protox_error.specs.declared.error.ErrorKind.{ErrorKind}
 use Rattle.protox_error.specs.declared.error.ErrorKind.TheVariants.{FileNotFound}
 use Rattle.protox_file.specs.Told.{Entry, Told, Absent}
+use Rattle.protox_resolvers.specs.declared.chain.ChainFileResolver.{ChainFileResolver}
+
+-- the members of a chain, in the order in which they are asked
+abbrev pub members_of : {X : Type 0} {P : X → Type 0} → ChainFileResolver X P → List (DynBox X Global P)
+members_of chain = chain.members.items
 
 -- what the first has under a name, and else the second
 abbrev pub or_told : Told → Told → Told

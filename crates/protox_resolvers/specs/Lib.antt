@@ -3,3 +3,4 @@ pub mod Listed
 pub mod Standard
 pub mod Laws
 pub mod Sets
+pub mod Indexes

@@ -5,7 +5,7 @@ ghost use Rattle.std.specs.Prelude.{IsTrue, IfOk, IfErr, IfSome, OnOk, OnErr};
 ghost use Rattle.protox_io.specs.Count.{Rose, Later};
 ghost use Rattle.protox_paths.specs.Paths.{name_of};
 ghost use Rattle.protox_file.specs.Causes.{HasCause, IsTold};
-ghost use Rattle.protox_resolvers.specs.Chained.{chained, count_of_all, is_missing};
+ghost use Rattle.protox_resolvers.specs.Chained.{chained, count_of_all, is_missing, members_of};
 
 use pbx_wire::{NoMemory, Text};
 use protox_file::{Error, ErrorKind, File, FileResolver};
@@ -27,7 +27,7 @@ pub struct ChainFileResolver {
 impl ChainFileResolver {
     /// A chain without members, which has no file and resolves no path. It takes no memory.
     pub fn new(alloc: Global) -> Self
-        ensures { result.members.items ≡ [] }
+        ensures { members_of result ≡ [] }
     {
         ChainFileResolver {
             members: Vec::new(alloc),
@@ -39,8 +39,8 @@ impl ChainFileResolver {
         &mut self,
         resolver: Box<dyn FileResolver + Drop>,
     ) -> Result<(), Box<dyn FileResolver + Drop>>
-        ensures ok { OnOk result (self.new.members.items ≡ self.old.members.items ++ resolver ∷ []) }
-        ensures err { OnErr result (self.new.members.items ≡ self.old.members.items) }
+        ensures ok { OnOk result (members_of self.new ≡ members_of self.old ++ resolver ∷ []) }
+        ensures err { OnErr result (members_of self.new ≡ members_of self.old) }
         ensures back { IfErr result (λ back. back ≡ resolver) }
     {
         match self.members.push(resolver) {
@@ -105,9 +105,9 @@ fn open_at(
 }
 
 impl FileResolver for ChainFileResolver {
-    ghost library = { λ c. chained (map (λ b. (FileResolver-box b).library b.value) c.members.items) };
+    ghost library = { λ c. chained (map (λ b. (FileResolver-box b).library b.value) (members_of c)) };
 
-    ghost count = { λ c. count_of_all (map (λ b. (FileResolver-box b).count b.value) c.members.items) };
+    ghost count = { λ c. count_of_all (map (λ b. (FileResolver-box b).count b.value) (members_of c)) };
 
     fn resolve_path(&self, alloc: Global, path: &str) -> Result<Option<Text>, NoMemory> {
         for member in &self.members {

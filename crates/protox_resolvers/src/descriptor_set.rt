@@ -1,18 +1,20 @@
 //! The files of a descriptor set.
 
-ghost use Rattle.std.specs.Prelude.{◌≡◌, [], map, unwrap_or, OnOk, IfOk, IfErr, MatchOption};
+ghost use Rattle.std.specs.Prelude.{◌≡◌, [], Some, map, unwrap_or, option_map, slice_get, OnOk, IfOk, IfErr};
+ghost use Rattle.std.specs.Option.{option_copied};
 ghost use Rattle.pbx_wire.specs.View.{rec_of};
 ghost use Rattle.pbx_meaning.specs.Faults.{IsToldFault};
 ghost use Rattle.pbx_desc.specs.Sets.{set_meaning_of, IsSetFault};
 ghost use Rattle.pbx_link.specs.Bytes.{DecodesFiles};
 ghost use Rattle.protox_io.specs.Count.{counted};
 ghost use Rattle.protox_file.specs.Library.{alone};
-ghost use Rattle.protox_file.specs.Told.{Absent, Recorded};
-ghost use Rattle.protox_resolvers.specs.Listed.{first_declared, listed_files};
+ghost use Rattle.protox_resolvers.specs.Listed.{declared_name, first_declared, listed_files};
 ghost use Rattle.protox_resolvers.specs.Sets.{entries_of, records_of, AreFilesIn, IsAdded};
+ghost use Rattle.protox_resolvers.specs.Indexes.{indexed_from, told_entry, told_at, AreIndexesOf};
 
 use pbx_desc_decoding::DecodeMessage;
 use pbx_desc_records::{FileDescriptorProto, FileDescriptorSet};
+use pbx_names::NameMap;
 use pbx_wire::{DecodeError, List, NoMemory, RecRef, Text, read_rec_ref};
 use protox_error::Error;
 use protox_file::{File, FileResolver};
@@ -32,10 +34,13 @@ enum Files {
 }
 
 /// The files of a `google.protobuf.FileDescriptorSet`, each under the name that it declares. The first file of a name
-/// answers. It resolves no path, and never fails but for want of memory.
+/// answers, and is found by log n comparisons: the names are put in order when a file is asked for the first time. It
+/// resolves no path, and never fails but for want of memory.
 #[derive(Drop)]
 pub struct DescriptorSetFileResolver {
     files: Files,
+    // The index of the first file of each name, from the first open on.
+    indexes: Option<NameMap<usize>>,
 }
 
 impl Model for DescriptorSetFileResolver {
@@ -44,12 +49,15 @@ impl Model for DescriptorSetFileResolver {
     ghost use Rattle.pbx_desc_records.specs.contracts.file.FileDescriptorProto as proto;
     ghost use Rattle.protox_file.specs.Told.{Entry};
     ghost use Rattle.protox_resolvers.specs.Sets.{entries_of};
+    ghost use Rattle.protox_resolvers.specs.Indexes.{AreIndexesOf};
 
     ghost Value = { List Entry };
 
     ghost coded = { Prim.hlevel (codes, proto.the_row.coded) };
 
     ghost view = { λ r. entries_of r.files };
+
+    ghost invariant = { λ r. AreIndexesOf (entries_of r.files) r.indexes };
 }
 
 impl DescriptorSetFileResolver {
@@ -59,6 +67,7 @@ impl DescriptorSetFileResolver {
     {
         DescriptorSetFileResolver {
             files: Files::Records(set.file),
+            indexes: None,
         }
     }
 
@@ -75,8 +84,34 @@ impl DescriptorSetFileResolver {
         match files_in(alloc, bytes) {
             Ok(files) => Ok(DescriptorSetFileResolver {
                 files: Files::Decoded(files),
+                indexes: None,
             }),
             Err(_) => Err(fault_of(alloc, bytes)),
+        }
+    }
+
+    /// The index of the first file that declares the name. The only error is want of memory.
+    fn index_of(&mut self, alloc: Global, name: &str) -> Result<Option<usize>, NoMemory>
+        ensures found { IfOk result (λ index. told_at self.old index ≡ first_declared self.old name.now) }
+        ensures keeps { self.new ≡ self.old }
+    {
+        if let Some(indexes) = &self.indexes {
+            return Ok(indexes.get(name).copied());
+        }
+        let indexes = self.files.indexes(alloc)?;
+        let index = indexes.get(name).copied();
+        self.indexes = Some(indexes);
+        Ok(index)
+    }
+
+    /// The first file that declares the name. The only error is want of memory.
+    fn first(&mut self, alloc: Global, name: &str) -> Result<Option<File>, NoMemory>
+        ensures found { IfOk result (λ file. told_entry file ≡ first_declared self.old name.now) }
+        ensures keeps { self.new ≡ self.old }
+    {
+        match self.index_of(alloc, name)? {
+            Some(index) => self.files.file_at(alloc, index),
+            None => Ok(None),
         }
     }
 }
@@ -127,38 +162,6 @@ fn add_file(alloc: Global, files: &mut List<File>, rec: RecRef<'_>) -> Result<()
     }
 }
 
-impl Files {
-    /// The first file that declares the name. The only error is want of memory.
-    fn first(&self, alloc: Global, name: &str) -> Result<Option<File>, NoMemory>
-        ensures { IfOk result (λ file. MatchOption file (first_declared (entries_of self.now) name.now ≡ Absent)
-            (λ entry. first_declared (entries_of self.now) name.now ≡ Recorded entry)) }
-    {
-        match self {
-            Files::Records(files) => match first_record(files.as_slice(), name) {
-                Some(file) => Ok(Some(File::from_file_descriptor_proto(file.copy(alloc)?))),
-                None => Ok(None),
-            },
-            Files::Decoded(files) => match first_file(files.as_slice(), name) {
-                Some(file) => Ok(Some(file.copy(alloc)?)),
-                None => Ok(None),
-            },
-        }
-    }
-}
-
-/// The first of the records that declares the name.
-fn first_record<'a>(files: &'a [FileDescriptorProto], name: &str) -> Option<&'a FileDescriptorProto>
-    ensures { MatchOption result (first_declared (map alone files.now) name.now ≡ Absent)
-        (λ file. first_declared (map alone files.now) name.now ≡ Recorded (alone file.now)) }
-{
-    for file in files {
-        if name_in(file) == name {
-            return Some(file);
-        }
-    }
-    None
-}
-
 /// The name that the record declares, which is empty where it declares none.
 fn name_in(file: &FileDescriptorProto) -> &str
     ensures { result.now ≡ unwrap_or file.now.name [] }
@@ -169,17 +172,67 @@ fn name_in(file: &FileDescriptorProto) -> &str
     }
 }
 
-/// The first of the files that declares the name.
-fn first_file<'a>(files: &'a [File], name: &str) -> Option<&'a File>
-    ensures { MatchOption result (first_declared files.now name.now ≡ Absent)
-        (λ file. first_declared files.now name.now ≡ Recorded file.now) }
+/// The item of this index.
+fn item<T>(items: &[T], index: usize) -> Option<&T>
+    ensures { option_copied result ≡ slice_get items.now index }
 {
-    for file in files {
-        if file.name() == name {
-            return Some(file);
+    items.get(index)
+}
+
+impl Files {
+    /// The name that the file of this index declares.
+    fn name_at(&self, index: usize) -> Option<&str>
+        ensures { option_copied result ≡ option_map declared_name (slice_get (entries_of self.now) index) }
+    {
+        match self {
+            Files::Records(files) => match item(files.as_slice(), index) {
+                Some(file) => Some(name_in(file)),
+                None => None,
+            },
+            Files::Decoded(files) => match item(files.as_slice(), index) {
+                Some(file) => Some(file.name()),
+                None => None,
+            },
         }
     }
-    None
+
+    /// The names that the files declare, each with the index of its file. The only error is want of memory.
+    fn names(&self, alloc: Global) -> Result<List<(Text, usize)>, NoMemory>
+        ensures { IfOk result (λ names. names ≡ indexed_from 0 (entries_of self.now)) }
+    {
+        let mut names = List::new(alloc);
+        while let Some(name) = self.name_at(names.len()) {
+            let index = names.len();
+            names.add((Text::from_str(alloc, name)?, index))?;
+        }
+        Ok(names)
+    }
+
+    /// The index of the first file of each name. The only error is want of memory.
+    fn indexes(&self, alloc: Global) -> Result<NameMap<usize>, NoMemory>
+        ensures { IfOk result (λ indexes. AreIndexesOf (entries_of self.now) (Some indexes)) }
+    {
+        let names = self.names(alloc)?;
+        let mut indexes = NameMap::new(alloc);
+        indexes.add_all(alloc, names.as_slice())?;
+        Ok(indexes)
+    }
+
+    /// The file of this index. The only error is want of memory.
+    fn file_at(&self, alloc: Global, index: usize) -> Result<Option<File>, NoMemory>
+        ensures { IfOk result (λ file. file ≡ slice_get (entries_of self.now) index) }
+    {
+        match self {
+            Files::Records(files) => match item(files.as_slice(), index) {
+                Some(file) => Ok(Some(File::from_file_descriptor_proto(file.copy(alloc)?))),
+                None => Ok(None),
+            },
+            Files::Decoded(files) => match item(files.as_slice(), index) {
+                Some(file) => Ok(Some(file.copy(alloc)?)),
+                None => Ok(None),
+            },
+        }
+    }
 }
 
 impl FileResolver for DescriptorSetFileResolver {
@@ -192,7 +245,7 @@ impl FileResolver for DescriptorSetFileResolver {
     }
 
     fn open_file(&mut self, alloc: Global, name: &str) -> Result<File, Error> {
-        match self.files.first(alloc, name)? {
+        match self.first(alloc, name)? {
             Some(file) => Ok(file),
             None => Err(Error::file_not_found(alloc, name)),
         }

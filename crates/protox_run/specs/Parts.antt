@@ -9,9 +9,11 @@ use Rattle.protox_transcode.specs.Top.{is_fault, is_refusal, top_line}
 use Rattle.protox_transcode.specs.declared.error.TopError.{TopError}
 use Rattle.protox_transcode.specs.declared.error.TopError.TheVariants as top
 use Rattle.protox_words.specs.Words.{Args, WordFault}
-use Rattle.protox_run.specs.Class.{limit, json_of, ForTree, Write, Refusing, Judges, RefusedWith, RefusesSet, Transcoding, Compiling, Generating, library_of, reads_input}
+use Rattle.protox_run.specs.Class.{limit, json_of, ForTree, Write, Refusing, Judges, RefusedWith}
+use Rattle.protox_run.specs.Class.{RefusesSet, Transcoding, Compiling, Generating, library_of, reads_input}
 use Rattle.protox_run.specs.Outcome.{Wrote}
-use Rattle.protox_run.specs.Stops.{Input, Reading, Writing, Printing, IsToldFaultLine, IsFaultLine, IsWriteTo, RoseOf, Reached, StoppedAt, Untouched, Carrying, ForReady, StopsWriting, StopsPrinting}
+use Rattle.protox_run.specs.Stops.{Input, Reading, Writing, Printing, IsToldFaultLine, IsFaultLine, IsWriteTo}
+use Rattle.protox_run.specs.Stops.{RoseOf, Reached, StoppedAt, Untouched, Carrying, ForReady, StopsWriting, StopsPrinting}
 use Rattle.protox_run.specs.Told.{Stop, Words, Refused, Broken, NoMemory, stop_told}
 use Rattle.protox_run.specs.declared.stop.Refusal.TheVariants.{TooLong, NotJson, Top}
 use Rattle.protox_run.specs.declared.stop.Stop.{Stop as StopHeld}

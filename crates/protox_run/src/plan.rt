@@ -1,6 +1,7 @@
 //! Reading what a run is asked for, and making what it writes.
 
-ghost use Rattle.std.specs.Prelude.{◌≡◌, ◌≤◌, ◌++◌, [], IfOk, IfErr, OnOk, IsTrue, IsFalse, length, string_bytes, codes, Some, true, false, is_some, option_map};
+ghost use Rattle.std.specs.Prelude.{◌≡◌, ◌≤◌, ◌++◌, [], IfOk, IfErr, OnOk, IsTrue, IsFalse};
+ghost use Rattle.std.specs.Prelude.{length, string_bytes, codes, Some, true, false, is_some, option_map};
 ghost use Rattle.std.specs.Option.{option_copied};
 ghost use Rattle.protox_io.specs.Count.{Rose, Later};
 ghost use Rattle.serde_json.specs.View.{view};

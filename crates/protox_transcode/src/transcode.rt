@@ -201,7 +201,8 @@ pub fn transcode_files<R: FileResolver>(
     // Over a resolver that tells, the files are the closure of the paths.
     ensures ok { IsTrue (R.library resolver).tells → IfOk result.result (λ done. ForFiles (R.library resolver).files (R.library resolver).resolves paths.now
         (λ files. IsTranscoded type_name.now (data_of tree.entry) files done.set done.wire (view done.tree))) }
-    ensures err { IsTrue (R.library resolver).tells → IfErr result.result (Refuses (R.library resolver).files (R.library resolver).resolves paths.now type_name.now (data_of tree.entry)) }
+    ensures err { IsTrue (R.library resolver).tells → IfErr result.result
+        (Refuses (R.library resolver).files (R.library resolver).resolves paths.now type_name.now (data_of tree.entry)) }
     ensures cause { IfErr result.result (IsCaused (FaultCause (R.library resolver) (R.count resolver) (R.count result.resolver))) }
 
     // Over every resolver, the files stand in order, each once and behind its imports, and each is linked among those before it;
@@ -209,7 +210,8 @@ pub fn transcode_files<R: FileResolver>(
     ensures ordered { IfOk result.result
         (λ done. (files : List Done) × IsOrdered [] files × ArePooled [] (records files)
         × IsTranscoded type_name.now (data_of tree.entry) (records files) done.set done.wire (view done.tree)) }
-    ensures judged { IfErr result.result (IsJudged paths.now type_name.now (data_of tree.entry) (FaultCause (R.library resolver) (R.count resolver) (R.count result.resolver))) }
+    ensures judged { IfErr result.result (IsJudged paths.now type_name.now (data_of tree.entry)
+        (FaultCause (R.library resolver) (R.count resolver) (R.count result.resolver))) }
     ensures later { Later (R.count resolver) (R.count result.resolver) }
     ensures keeps { R.library result.resolver ≡ R.library resolver }
 {
@@ -259,7 +261,8 @@ pub fn compile_and_transcode<R: FileResolver>(
     // Over a resolver that tells, the files are the closure of the paths.
     ensures ok { IsTrue (R.library resolver).tells → IfOk result.result (λ done. ForFiles (R.library resolver).files (R.library resolver).resolves paths.now
         (λ files. IsTranscoded type_name.now (view tree.now) files done.set done.wire (view done.tree))) }
-    ensures err { IsTrue (R.library resolver).tells → IfErr result.result (Refuses (R.library resolver).files (R.library resolver).resolves paths.now type_name.now (view tree.now)) }
+    ensures err { IsTrue (R.library resolver).tells → IfErr result.result
+        (Refuses (R.library resolver).files (R.library resolver).resolves paths.now type_name.now (view tree.now)) }
     ensures cause { IfErr result.result (IsCaused (FaultCause (R.library resolver) (R.count resolver) (R.count result.resolver))) }
 
     // Over every resolver, the files stand in order, each once and behind its imports, and each is linked among those before it;
@@ -267,7 +270,8 @@ pub fn compile_and_transcode<R: FileResolver>(
     ensures ordered { IfOk result.result
         (λ done. (files : List Done) × IsOrdered [] files × ArePooled [] (records files)
         × IsTranscoded type_name.now (view tree.now) (records files) done.set done.wire (view done.tree)) }
-    ensures judged { IfErr result.result (IsJudged paths.now type_name.now (view tree.now) (FaultCause (R.library resolver) (R.count resolver) (R.count result.resolver))) }
+    ensures judged { IfErr result.result (IsJudged paths.now type_name.now (view tree.now)
+        (FaultCause (R.library resolver) (R.count resolver) (R.count result.resolver))) }
     ensures later { Later (R.count resolver) (R.count result.resolver) }
     ensures keeps { R.library result.resolver ≡ R.library resolver }
 {

@@ -54,7 +54,8 @@ pub(crate) fn open_frame<R: FileResolver>(
     ensures stopped { IsTrue (R.library resolver.old).tells →
         IfErr result (λ e. ByLookup name.now ((R.library resolver.old).files name.now)
         (λ lookup. StopsOpening lookup name.now (asked_path resolved path.now) e)) }
-    ensures cause { IfErr result (HasOpenCause (asked_path resolved path.now) (FaultCause (R.library resolver.old) (R.count resolver.old) (R.count resolver.new))) }
+    ensures cause { IfErr result (HasOpenCause (asked_path resolved path.now)
+        (FaultCause (R.library resolver.old) (R.count resolver.old) (R.count resolver.new))) }
     ensures later { Later (R.count resolver.old) (R.count resolver.new) }
     ensures keeps { R.library resolver.new ≡ R.library resolver.old }
 {

@@ -116,7 +116,8 @@ pub fn open_path<R: FileResolver>(
         (λ lookups. RefusesOpening lookups (R.library resolver.old).resolves limit path.now done.old done.new e)) }
     ensures opens { OnOk result (Opens done.old done.new) }
     ensures grows { OnErr result (Grows done.old done.new) }
-    ensures again { IsTrue (R.library resolver.old).tells → is_settled (root_of (R.library resolver.old).resolves path.now) done.old ≡ true → resolver.new ≡ resolver.old }
+    ensures again { IsTrue (R.library resolver.old).tells → is_settled (root_of (R.library resolver.old).resolves path.now) done.old ≡ true
+        → resolver.new ≡ resolver.old }
     ensures unread { OnOk result (length done.new ≡ length done.old → resolver.new ≡ resolver.old) }
     ensures cause { IfErr result (HasOpeningCause limit path.now done.new (FaultCause (R.library resolver.old) (R.count resolver.old) (R.count resolver.new))) }
     ensures later { Later (R.count resolver.old) (R.count resolver.new) }

@@ -83,7 +83,8 @@ pub(crate) fn open_import<R: FileResolver>(
         (child ∷ past current.now ∷ parents.now) done.now) }
     ensures fresh { IfOk result (λ child. (child.name ≡ name.now) × (child.next ≡ 0) × (length (imports_of child.entry) < 2 ^ 64)) }
     ensures room { OnOk result (length done.now + length parents.now + 2 ≤ limit) }
-    ensures err { IsTrue (R.library resolver.old).tells → IfErr result (λ e. EndsWalks (R.library resolver.old).files limit (current.now ∷ parents.now) done.now e done.now) }
+    ensures err { IsTrue (R.library resolver.old).tells → IfErr result
+        (λ e. EndsWalks (R.library resolver.old).files limit (current.now ∷ parents.now) done.now e done.now) }
     ensures cause { IfErr result (HasStepCause limit done.now (FaultCause (R.library resolver.old) (R.count resolver.old) (R.count resolver.new))) }
     ensures later { Later (R.count resolver.old) (R.count resolver.new) }
     ensures keeps { R.library resolver.new ≡ R.library resolver.old }
