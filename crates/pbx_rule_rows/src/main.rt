@@ -1,83 +1,99 @@
 //! Asks of `pbx_field_rules` and `pbx_record_rules`, as rows of data: a file's record, and where it breaks a rule of linking.
 //!
 //! A row asks by the name of a rule, and its third field is the bytes of a `FileDescriptorProto` in hexadecimal digits. The answer is the
-//! place at which the record breaks the rule, its numbers with points between them, or `none`.
+//! place at which the record breaks the rule, its numbers with points between them, or `none`. A row that names no rule, or whose third
+//! field holds no record, is answered by a line that says so.
 #![tactic(auto)]
 
-mod stop;
+mod rule;
 
 use pbx_definitions::FileParts;
 use pbx_desc_decoding::DecodeMessage;
 use pbx_desc_records::FileDescriptorProto;
-use pbx_field_rules::{bad_field_numbers, bad_labels, bad_oneofs, bad_types};
-use pbx_record_rules::{
-    bad_entries, bad_enums, bad_names, bad_ranges, message_sets, uninterpreted_options,
-    unknown_syntax,
-};
-use pbx_wire::List;
+use pbx_wire::{List, NoMemory};
+use rule::{Rule, breach, rule_named};
 use std::alloc::{AllocError, Global};
 use std::io;
-use stop::Stop;
 use test_rows::{Row, answer_line};
 
-/// The place of a breach of the rule of this name.
-fn breach(alloc: Global, rule: &str, parts: &FileParts<'_>) -> Result<Option<List<i32>>, Stop> {
-    match rule {
-        "field_numbers" => Ok(bad_field_numbers(alloc, parts)?),
-        "types" => Ok(bad_types(alloc, parts)?),
-        "oneofs" => Ok(bad_oneofs(alloc, parts)?),
-        "labels" => Ok(bad_labels(alloc, parts)?),
-        "syntax" => Ok(unknown_syntax(alloc, parts)?),
-        "names" => Ok(bad_names(alloc, parts)?),
-        "enums" => Ok(bad_enums(alloc, parts)?),
-        "options" => Ok(uninterpreted_options(alloc, parts)?),
-        "message_sets" => Ok(message_sets(alloc, parts)?),
-        "ranges" => Ok(bad_ranges(alloc, parts)?),
-        "entries" => Ok(bad_entries(alloc, parts)?),
-        _ => Err(Stop::NoSuchWord),
-    }
-}
-
-/// The numbers with points between them.
-fn place_text(alloc: Global, place: &[i32]) -> Result<String, Stop> {
-    let mut text = String::new(alloc);
+/// Adds the numbers with points between them.
+fn add_place(text: &mut String, place: &[i32]) -> Result<(), AllocError> {
     for step in place {
         if !text.is_empty() {
             text.push('.')?;
         }
-        let number = format!(in alloc; "{step}")?;
-        text.push_str(number.as_str())?;
+        write!(text, "{step}")?;
     }
-    Ok(text)
+    Ok(())
 }
 
-/// Where the record of these bytes breaks the rule that the row's word names.
-fn answer(alloc: Global, row: &Row) -> Result<String, Stop> {
-    let bytes = hex::decode(alloc, row.text(0))?;
-    let Ok(file) = FileDescriptorProto::decode(alloc, bytes.as_slice()) else {
-        return Err(Stop::NoSuchWord);
+/// The place at which the record breaks the rule.
+fn breach_of_record(
+    alloc: Global,
+    rule: Rule,
+    file: &FileDescriptorProto,
+) -> Result<Option<List<i32>>, NoMemory> {
+    let Ok(parts) = FileParts::new(alloc, file) else {
+        return Err(NoMemory);
     };
-    let parts = FileParts::new(alloc, &file)?;
-    match breach(alloc, row.asked(), &parts)? {
-        Some(place) => place_text(alloc, place.as_slice()),
-        None => Ok(String::from_str(alloc, "none")?),
+    breach(alloc, rule, &parts)
+}
+
+/// Adds where the record breaks the rule.
+fn add_breach(
+    alloc: Global,
+    text: &mut String,
+    rule: Rule,
+    file: &FileDescriptorProto,
+) -> Result<(), AllocError> {
+    match breach_of_record(alloc, rule, file) {
+        Ok(Some(place)) => add_place(text, place.as_slice()),
+        Ok(None) => text.push_str("none"),
+        Err(NoMemory) => Err(AllocError),
+    }
+}
+
+/// Adds where the record of these bytes breaks the rule.
+fn add_breach_of_bytes(
+    alloc: Global,
+    text: &mut String,
+    rule: Rule,
+    bytes: &[u8],
+) -> Result<(), AllocError> {
+    match FileDescriptorProto::decode(alloc, bytes) {
+        Ok(file) => {
+            let added = add_breach(alloc, text, rule, &file);
+            drop(file);
+            added
+        }
+        Err(_) => text.push_str("no record"),
+    }
+}
+
+/// Adds where the record of the row breaks the rule that the row's word names.
+fn add_answer(alloc: Global, text: &mut String, row: &Row) -> Result<(), AllocError> {
+    let Some(rule) = rule_named(row.asked()) else {
+        return text.push_str("no such word");
+    };
+    match hex::decode(alloc, row.text(0)) {
+        Ok(bytes) => add_breach_of_bytes(alloc, text, rule, bytes.as_slice()),
+        Err(_) => text.push_str("no bytes"),
     }
 }
 
 /// The line for a row.
 fn told(alloc: Global, line: &str) -> Result<String, AllocError> {
     let row = Row::read(alloc, line)?;
-    match answer(alloc, &row) {
-        Ok(answer) => answer_line(alloc, &row, answer.as_str()),
-        Err(Stop::NoSuchWord) => answer_line(alloc, &row, "no such word"),
-        Err(Stop::NoMemory) => Err(AllocError),
-    }
+    let mut answer = String::new(alloc);
+    add_answer(alloc, &mut answer, &row)?;
+    answer_line(alloc, &row, answer.as_str())
 }
 
+/// Prints the line for each row.
 fn main(rt: HostRuntime) -> io::Result<()> {
-    for line in rt.lines(rt.alloc()) {
-        let told = told(rt.alloc(), line?.as_str())?;
-        println!(rt; "{told}")?;
+    let rows = io::read_to_string(rt.alloc(), rt.reader())?;
+    for row in rows.lines() {
+        rt.println(told(rt.alloc(), row)?)?;
     }
     Ok(())
 }
