@@ -1,144 +1,189 @@
-//! The pool of the files of a row.
+//! Files that are added to a pool.
 
-use crate::files::add_files;
-use crate::stop::{Done, Stop};
+use crate::files::tell_names;
+use crate::told::Told;
 use pbx_desc_decoding::DecodeMessage;
 use pbx_desc_records::FileDescriptorProto;
 use pbx_link::{DescriptorError, DescriptorPool};
-use std::alloc::Global;
+use pbx_wire::DecodeError;
+use std::alloc::{AllocError, Global};
 use test_rows::Row;
 
-/// Adds the numbers with points between them.
-fn add_place(text: &mut String, place: &[i32]) -> Done {
-    for index in 0..place.len() {
-        if index > 0 {
-            text.push('.')?;
-        }
-        write!(text, "{}", place[index])?;
-    }
-    Ok(())
-}
-
-/// The record of these bytes.
-fn record_of(alloc: Global, digits: &str) -> Result<FileDescriptorProto, Stop> {
-    let bytes = hex::decode(alloc, digits)?;
-    match FileDescriptorProto::decode(alloc, bytes.as_slice()) {
-        Ok(file) => Ok(file),
-        Err(_) => Err(Stop::NoSuchWord),
+/// Tells the numbers with points between them.
+fn tell_place(told: &mut Told, place: &[i32]) {
+    let mut point = "";
+    for step in place {
+        told.add(point);
+        told.add_number(i128::from(*step));
+        point = ".";
     }
 }
 
-/// The index of the refused file, the rule and the place.
-fn refusal(alloc: Global, index: usize, error: DescriptorError) -> Result<String, Stop> {
+/// Tells the index of the refused file, the rule and the place.
+fn tell_refusal(told: &mut Told, index: usize, error: &DescriptorError) {
     match error {
         DescriptorError::Rule {
             file: _,
             place,
             rule,
         } => {
-            let mut text = format!(in alloc; "{index} {rule} ")?;
-            add_place(&mut text, place.as_slice())?;
-            Ok(text)
+            told.add_count(index);
+            told.add(" ");
+            told.add_number(i128::from(*rule));
+            told.add(" ");
+            tell_place(told, place.as_slice());
         }
-        _ => Err(Stop::NoMemory),
+        DescriptorError::Decode(_) => told.add("no record"),
+        DescriptorError::NoMemory => told.run_short(),
     }
 }
 
-/// Adds the file to the pool, where it is not refused.
-fn add_file(alloc: Global, pool: &mut DescriptorPool, index: usize, digits: &str) -> Done {
-    let file = record_of(alloc, digits)?;
-    match pool.add_file_descriptor_proto(file) {
-        Ok(()) => Ok(()),
-        Err(error) => Err(Stop::Refused(refusal(alloc, index, error)?)),
+/// Tells the fault of the bytes, or the rule, the place and the name of the refused file.
+pub(crate) fn tell_error(told: &mut Told, error: &DescriptorError) {
+    match error {
+        DescriptorError::Rule { file, place, rule } => {
+            told.add("rule ");
+            told.add_number(i128::from(*rule));
+            told.add(" at ");
+            tell_place(told, place.as_slice());
+            told.add_all(&[" of ", file.as_str(), "; "]);
+        }
+        DescriptorError::Decode(fault) => told.add_fault(*fault),
+        DescriptorError::NoMemory => told.run_short(),
     }
 }
 
-/// Adds the files of the row's fields from one to before another.
+/// Tells what came of adding a file.
+pub(crate) fn tell_added(told: &mut Told, added: &Result<(), DescriptorError>) {
+    match added {
+        Ok(()) => told.add("added; "),
+        Err(error) => tell_error(told, error),
+    }
+}
+
+/// Adds the file of the row's field of this index.
+fn add_file(
+    alloc: Global,
+    told: &mut Told,
+    pool: &mut DescriptorPool,
+    row: &Row,
+    index: usize,
+) -> Result<(), DescriptorError> {
+    let bytes = told.bytes(alloc, row.text(index));
+    match FileDescriptorProto::decode(alloc, bytes.as_slice()) {
+        Ok(file) => pool.add_file_descriptor_proto(file),
+        Err(DecodeError::NoMemory) => Err(DescriptorError::NoMemory),
+        Err(fault) => Err(DescriptorError::Decode(fault)),
+    }
+}
+
+/// Adds the files of the row's fields from one to before another, and tells the first that is refused. Whether none is.
 pub(crate) fn add_between(
     alloc: Global,
+    told: &mut Told,
     pool: &mut DescriptorPool,
     row: &Row,
     first: usize,
     end: usize,
-) -> Done {
+) -> bool {
     for index in first..end {
-        add_file(alloc, pool, index - first, row.text(index))?;
-    }
-    Ok(())
-}
-
-/// The pool of the files behind so many fields of the row.
-pub(crate) fn pool_behind(alloc: Global, row: &Row, first: usize) -> Result<DescriptorPool, Stop> {
-    let mut pool = DescriptorPool::new(alloc)?;
-    add_between(alloc, &mut pool, row, first, row.len())?;
-    Ok(pool)
-}
-
-/// What came of adding a file.
-pub(crate) fn add_said(text: &mut String, added: &Result<(), DescriptorError>) -> Done {
-    match added {
-        Ok(()) => write!(text, "added; ")?,
-        Err(DescriptorError::Rule { file, place, rule }) => {
-            write!(text, "rule {rule} at ")?;
-            add_place(text, place.as_slice())?;
-            write!(text, " of {}; ", file.as_str())?;
+        if let Err(error) = add_file(alloc, told, pool, row, index) {
+            tell_refusal(told, index - first, &error);
+            return false;
         }
-        Err(_) => return Err(Stop::NoMemory),
     }
-    Ok(())
+    true
 }
 
-/// Adds the files of the row's fields from one on, those that are not refused, and tells what came of each.
-pub(crate) fn added_from(
+/// Adds the files of the row's fields from one on. Whether none is refused.
+pub(crate) fn add_from(
     alloc: Global,
-    text: &mut String,
+    told: &mut Told,
     pool: &mut DescriptorPool,
     row: &Row,
     first: usize,
-) -> Done {
-    for index in first..row.len() {
-        let file = record_of(alloc, row.text(index))?;
-        let added = pool.add_file_descriptor_proto(file);
-        add_said(text, &added)?;
+) -> bool {
+    add_between(alloc, told, pool, row, first, row.len())
+}
+
+/// Adds so many files of the row's fields from one on. The index of the field behind them, unless one is refused.
+pub(crate) fn add_some(
+    alloc: Global,
+    told: &mut Told,
+    pool: &mut DescriptorPool,
+    row: &Row,
+    first: usize,
+    count: u64,
+) -> Option<usize> {
+    let behind = (count as usize).saturating_add(first).min(row.len());
+    if add_between(alloc, told, pool, row, first, behind) {
+        Some(behind)
+    } else {
+        None
     }
-    Ok(())
+}
+
+/// Adds the files of the row's fields from one on, those that are not refused, and tells what came of each.
+pub(crate) fn add_each(
+    alloc: Global,
+    told: &mut Told,
+    pool: &mut DescriptorPool,
+    row: &Row,
+    first: usize,
+) {
+    for index in first..row.len() {
+        let added = add_file(alloc, told, pool, row, index);
+        tell_added(told, &added);
+    }
 }
 
 /// What came of adding each file, and how many files there are.
-pub(crate) fn added(alloc: Global, row: &Row) -> Result<String, Stop> {
-    let mut text = String::new(alloc);
-    let mut pool = DescriptorPool::new(alloc)?;
-    added_from(alloc, &mut text, &mut pool, row, 0)?;
-    write!(text, "{} files", pool.files().len())?;
-    Ok(text)
+pub(crate) fn added(alloc: Global, told: &mut Told, pool: &mut DescriptorPool, row: &Row) {
+    add_each(alloc, told, pool, row, 0);
+    told.add_count(pool.files().len());
+    told.add(" files");
 }
 
-fn cloned<T: Clone>(item: &T) -> Result<T, Stop> {
-    Ok(item.clone()?)
+/// A copy, made as the bound has it.
+fn cloned<T: Clone>(item: &T) -> Result<T, AllocError> {
+    item.clone()
 }
 
-/// The pool, as it is now.
-fn copied(row: &Row, pool: &DescriptorPool) -> Result<DescriptorPool, Stop> {
-    if row.asked() == "clone" {
-        return cloned(pool);
+/// Adds the files of the row's fields from one on, and tells the files of the copy and those of the pool.
+fn tell_kept(
+    alloc: Global,
+    told: &mut Told,
+    kept: &DescriptorPool,
+    pool: &mut DescriptorPool,
+    row: &Row,
+    first: usize,
+) {
+    if add_from(alloc, told, pool, row, first) {
+        tell_names(told, kept);
+        told.add("|");
+        tell_names(told, pool);
     }
-    Ok(pool.copy())
 }
 
 /// Of a count: the files of a copy that is made where the pool has so many, and those of the pool in the end.
-pub(crate) fn kept(alloc: Global, row: &Row) -> Result<String, Stop> {
-    let count = row.number(0) as usize;
-    let mut pool = DescriptorPool::new(alloc)?;
-    let mut kept = copied(row, &pool)?;
-    for index in 1..row.len() {
-        add_file(alloc, &mut pool, index - 1, row.text(index))?;
-        if index == count {
-            kept = copied(row, &pool)?;
+pub(crate) fn copied(alloc: Global, told: &mut Told, pool: &mut DescriptorPool, row: &Row) {
+    if let Some(behind) = add_some(alloc, told, pool, row, 1, row.number(0)) {
+        let kept = pool.copy();
+        tell_kept(alloc, told, &kept, pool, row, behind);
+    }
+}
+
+/// The same of a copy that is made as the bound `Clone` has it.
+pub(crate) fn copied_as_bound(
+    alloc: Global,
+    told: &mut Told,
+    pool: &mut DescriptorPool,
+    row: &Row,
+) {
+    if let Some(behind) = add_some(alloc, told, pool, row, 1, row.number(0)) {
+        match cloned(pool) {
+            Ok(kept) => tell_kept(alloc, told, &kept, pool, row, behind),
+            Err(AllocError) => told.run_short(),
         }
     }
-    let mut text = String::new(alloc);
-    add_files(&mut text, &kept)?;
-    text.push('|')?;
-    add_files(&mut text, &pool)?;
-    Ok(text)
 }

@@ -1,9 +1,9 @@
 //! Fields and extensions of a pool.
 
-use crate::stop::{Done, Stop};
+use crate::told::Told;
 use pbx_link::{Cardinality, DescriptorPool, ExtensionDescriptor, FieldDescriptor, Kind};
-use std::alloc::Global;
 
+/// The word of a label.
 fn label_word(label: Cardinality) -> &'static str {
     match label {
         Cardinality::Optional => "optional",
@@ -12,7 +12,8 @@ fn label_word(label: Cardinality) -> &'static str {
     }
 }
 
-fn scalar_word(kind: &Kind) -> &'static str {
+/// The word of a kind.
+fn kind_word(kind: &Kind) -> &'static str {
     match kind {
         Kind::Double => "double",
         Kind::Float => "float",
@@ -28,27 +29,19 @@ fn scalar_word(kind: &Kind) -> &'static str {
         Kind::Sfixed64 => "sfixed64",
         Kind::Bool => "bool",
         Kind::String => "string",
-        _ => "bytes",
+        Kind::Bytes => "bytes",
+        Kind::Message(_) => "message ",
+        Kind::Enum(_) => "enum ",
     }
 }
 
-/// The word of a scalar, or the full name of a message or an enum.
-fn add_kind(text: &mut String, kind: Kind) -> Done {
+/// The full name of a message or an enum.
+fn type_name(kind: &Kind) -> &str {
     match kind {
-        Kind::Message(message) => add_named(text, "message", message.full_name()),
-        Kind::Enum(found) => add_named(text, "enum", found.full_name()),
-        scalar => add_word(text, scalar_word(&scalar)),
+        Kind::Message(message) => message.full_name(),
+        Kind::Enum(found) => found.full_name(),
+        _ => "",
     }
-}
-
-fn add_named(text: &mut String, word: &str, name: &str) -> Done {
-    write!(text, " {word} {name}")?;
-    Ok(())
-}
-
-fn add_word(text: &mut String, word: &str) -> Done {
-    write!(text, " {word}")?;
-    Ok(())
 }
 
 /// The word, where it holds.
@@ -56,9 +49,12 @@ fn where_it(holds: bool, word: &'static str) -> &'static str {
     if holds { word } else { "" }
 }
 
-/// What else holds of a field or an extension, in words.
+/// What is told alike of a field and of an extension.
 #[derive(Drop)]
-struct Traits {
+struct Traits<'a> {
+    number: u32,
+    full_name: &'a str,
+    json_name: &'a str,
     label: Cardinality,
     is_list: bool,
     is_map: bool,
@@ -66,26 +62,46 @@ struct Traits {
     has_presence: bool,
 }
 
-fn add_traits(text: &mut String, traits: &Traits) -> Done {
-    let list = where_it(traits.is_list, " list");
-    let map = where_it(traits.is_map, " map");
-    let packed = where_it(traits.is_packed, " packed");
-    let presence = where_it(traits.has_presence, " presence");
-    let label = label_word(traits.label);
-    write!(text, " {label}{list}{map}{packed}{presence}")?;
-    Ok(())
+/// Tells the number and the names.
+fn tell_names(told: &mut Told, traits: &Traits<'_>) {
+    told.add("(");
+    told.add_number(i128::from(traits.number));
+    told.add_all(&[" ", traits.full_name, " ", traits.json_name, " "]);
 }
 
-fn add_default(text: &mut String, default: Option<&str>) -> Done {
-    match default {
-        Some(default) => write!(text, " default={default}")?,
-        None => {}
+/// Tells what else holds, in words.
+fn tell_words(told: &mut Told, traits: &Traits<'_>) {
+    told.add_all(&[
+        " ",
+        label_word(traits.label),
+        where_it(traits.is_list, " list"),
+        where_it(traits.is_map, " map"),
+        where_it(traits.is_packed, " packed"),
+        where_it(traits.has_presence, " presence"),
+    ]);
+}
+
+/// Tells number, names, kind, label, and what else holds.
+fn tell_traits(told: &mut Told, traits: &Traits<'_>, kind: &Kind) {
+    tell_names(told, traits);
+    told.add(kind_word(kind));
+    told.add(type_name(kind));
+    tell_words(told, traits);
+}
+
+/// Tells the default, if there is one.
+fn tell_default(told: &mut Told, default: Option<&str>) {
+    if let Some(default) = default {
+        told.add_all(&[" default=", default]);
     }
-    Ok(())
 }
 
-fn traits_of_field(field: &FieldDescriptor) -> Traits {
+/// What is told of a field.
+fn traits_of_field(field: &FieldDescriptor) -> Traits<'_> {
     Traits {
+        number: field.number(),
+        full_name: field.full_name(),
+        json_name: field.json_name(),
         label: field.cardinality(),
         is_list: field.is_list(),
         is_map: field.is_map(),
@@ -94,38 +110,27 @@ fn traits_of_field(field: &FieldDescriptor) -> Traits {
     }
 }
 
-fn add_field_names(text: &mut String, field: &FieldDescriptor) -> Done {
-    let name = field.full_name();
-    let json_name = field.json_name();
-    write!(text, "({} {name} {json_name}", field.number())?;
-    Ok(())
-}
-
-/// The oneof that a field is a member of.
-fn add_oneof(text: &mut String, field: &FieldDescriptor) -> Done {
-    match field.containing_oneof() {
-        Some(oneof) => add_named(text, "in", oneof.name()),
-        None => Ok(()),
+/// Tells the oneof that a field is a member of.
+fn tell_oneof(told: &mut Told, field: &FieldDescriptor) {
+    if let Some(oneof) = field.containing_oneof() {
+        told.add_all(&[" in ", oneof.name()]);
     }
 }
 
-fn end(text: &mut String) -> Done {
-    text.push(')')?;
-    Ok(())
+/// Tells of a field of a message: numbers, names, kind and label, and what else holds of it.
+pub(crate) fn tell_field(told: &mut Told, field: &FieldDescriptor) {
+    tell_traits(told, &traits_of_field(field), &field.kind());
+    tell_oneof(told, field);
+    tell_default(told, field.default_text());
+    told.add(")");
 }
 
-/// What is told of a field of a message: numbers, names, kind and label, and what else holds of it.
-pub(crate) fn add_field(text: &mut String, field: &FieldDescriptor) -> Done {
-    add_field_names(text, field)?;
-    add_kind(text, field.kind())?;
-    add_traits(text, &traits_of_field(field))?;
-    add_oneof(text, field)?;
-    add_default(text, field.default_text())?;
-    end(text)
-}
-
-fn traits_of_extension(extension: &ExtensionDescriptor) -> Traits {
+/// What is told of an extension.
+fn traits_of_extension(extension: &ExtensionDescriptor) -> Traits<'_> {
     Traits {
+        number: extension.number(),
+        full_name: extension.full_name(),
+        json_name: extension.json_name(),
         label: extension.cardinality(),
         is_list: extension.is_list(),
         is_map: extension.is_map(),
@@ -134,39 +139,26 @@ fn traits_of_extension(extension: &ExtensionDescriptor) -> Traits {
     }
 }
 
-fn add_extension_names(text: &mut String, extension: &ExtensionDescriptor) -> Done {
-    let name = extension.full_name();
-    let json_name = extension.json_name();
-    write!(text, "({} {name} {json_name}", extension.number())?;
-    Ok(())
-}
-
-/// The message that an extension extends, and that in whose body it stands.
-fn add_messages(text: &mut String, extension: &ExtensionDescriptor) -> Done {
-    let extended = extension.containing_message();
-    add_named(text, "extends", extended.full_name())?;
-    match extension.parent_message() {
-        Some(parent) => add_named(text, "in", parent.full_name()),
-        None => Ok(()),
+/// Tells the message in whose body an extension stands.
+fn tell_parent(told: &mut Told, extension: &ExtensionDescriptor) {
+    if let Some(parent) = extension.parent_message() {
+        told.add_all(&[" in ", parent.full_name()]);
     }
 }
 
-/// What is told of an extension: as of a field, what it extends, and in what it stands.
-pub(crate) fn add_extension(text: &mut String, extension: &ExtensionDescriptor) -> Done {
-    add_extension_names(text, extension)?;
-    add_kind(text, extension.kind())?;
-    add_traits(text, &traits_of_extension(extension))?;
-    add_default(text, extension.default_text())?;
-    add_messages(text, extension)?;
-    end(text)
+/// Tells of an extension: as of a field, what it extends, and in what it stands.
+pub(crate) fn tell_extension(told: &mut Told, extension: &ExtensionDescriptor) {
+    tell_traits(told, &traits_of_extension(extension), &extension.kind());
+    tell_default(told, extension.default_text());
+    told.add_all(&[" extends ", extension.containing_message().full_name()]);
+    tell_parent(told, extension);
+    told.add(")");
 }
 
 /// Of a full name: the extension of this name.
-pub(crate) fn extension(alloc: Global, pool: &DescriptorPool, name: &str) -> Result<String, Stop> {
-    let mut text = String::new(alloc);
+pub(crate) fn extension(told: &mut Told, pool: &DescriptorPool, name: &str) {
     match pool.get_extension_by_name(name) {
-        Some(extension) => add_extension(&mut text, &extension)?,
-        None => text.push_str("none")?,
+        Some(extension) => tell_extension(told, &extension),
+        None => told.add("none"),
     }
-    Ok(text)
 }

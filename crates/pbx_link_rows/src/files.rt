@@ -1,9 +1,10 @@
 //! Files of a pool.
 
-use crate::stop::{Done, Stop};
+use crate::told::Told;
 use pbx_link::{DescriptorPool, FileDescriptor, Syntax};
 use std::alloc::Global;
 
+/// The word of a language.
 fn syntax_word(syntax: Syntax) -> &'static str {
     match syntax {
         Syntax::Proto2 => "proto2",
@@ -11,56 +12,44 @@ fn syntax_word(syntax: Syntax) -> &'static str {
     }
 }
 
-/// A file's name, its package, its syntax, and how many files its pool has.
-fn add_file(text: &mut String, file: &FileDescriptor) -> Done {
-    let name = file.name();
-    let package = file.package_name();
-    let syntax = syntax_word(file.syntax());
-    let pool = file.parent_pool();
-    write!(
-        text,
-        "({name} {package} {syntax} of {})",
-        pool.files().len()
-    )?;
-    Ok(())
+/// Tells a file's name, its package, its syntax, and how many files its pool has.
+fn tell_file(told: &mut Told, file: &FileDescriptor) {
+    told.add_all(&["(", file.name(), " ", file.package_name(), " "]);
+    told.add(syntax_word(file.syntax()));
+    told.add(" of ");
+    told.add_count(file.parent_pool().files().len());
+    told.add(")");
 }
 
-/// Of a name: the file of this name, the bytes of its record and those of a copy of its record.
-pub(crate) fn file(alloc: Global, pool: &DescriptorPool, name: &str) -> Result<String, Stop> {
-    let mut text = String::new(alloc);
-    let Some(file) = pool.get_file_by_name(name) else {
-        text.push_str("none")?;
-        return Ok(text);
-    };
-    add_file(&mut text, &file)?;
-    let bytes = file.encode_to_vec(alloc)?;
-    let digits = hex::encode(alloc, bytes.as_slice())?;
-    text.push_str(digits.as_str())?;
-    Ok(text)
+/// Of a name: the file of this name, and the bytes of its record.
+pub(crate) fn file(alloc: Global, told: &mut Told, pool: &DescriptorPool, name: &str) {
+    match pool.get_file_by_name(name) {
+        Some(file) => {
+            tell_file(told, &file);
+            told.add_bytes(alloc, file.encode_to_vec(alloc));
+        }
+        None => told.add("none"),
+    }
 }
 
 /// The names of the files of a pool.
-pub(crate) fn add_files(text: &mut String, pool: &DescriptorPool) -> Done {
+pub(crate) fn tell_names(told: &mut Told, pool: &DescriptorPool) {
     for file in pool.files() {
-        write!(text, "({})", file.name())?;
+        told.add_all(&["(", file.name(), ")"]);
     }
-    Ok(())
 }
 
-/// Each file, and how many there are.
-pub(crate) fn files(alloc: Global, pool: &DescriptorPool) -> Result<String, Stop> {
-    let mut text = String::new(alloc);
+/// How many files there are, and each of them.
+pub(crate) fn files(told: &mut Told, pool: &DescriptorPool) {
     let files = pool.files();
-    let hint = files.size_hint();
-    write!(text, "{} {hint:?} ", files.len())?;
+    told.add_count(files.len());
+    told.add_hint(files.size_hint());
     for file in files {
-        add_file(&mut text, &file)?;
+        tell_file(told, &file);
     }
-    Ok(text)
 }
 
 /// The bytes of the set of the linked records.
-pub(crate) fn linked(alloc: Global, pool: &DescriptorPool) -> Result<String, Stop> {
-    let bytes = pool.encode_to_vec()?;
-    Ok(hex::encode(alloc, bytes.as_slice())?)
+pub(crate) fn linked(alloc: Global, told: &mut Told, pool: &DescriptorPool) {
+    told.add_bytes(alloc, pool.encode_to_vec());
 }

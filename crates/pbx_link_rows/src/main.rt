@@ -18,82 +18,94 @@ mod messages;
 mod same;
 mod services;
 mod shapes;
-mod stop;
+mod told;
 
-use adding::{added, kept, pool_behind};
+use adding::{add_from, added, copied, copied_as_bound};
 use enums::enumeration;
 use fields::extension;
 use files::{file, files, linked};
 use from_bytes::{read_back, read_more, set};
-use grown::{alone, grown, late};
+use grown::grown;
 use messages::{message, messages};
-use same::same;
+use pbx_link::DescriptorPool;
+use same::{same, same_grown};
 use services::service;
 use shapes::shape;
 use std::alloc::{AllocError, Global};
 use std::io;
-use stop::Stop;
 use test_rows::{Row, answer_line};
+use told::Told;
 
 /// What is told of a name in the pool of the files behind it.
-fn of_name(alloc: Global, row: &Row) -> Result<String, Stop> {
-    let pool = pool_behind(alloc, row, 1)?;
+fn of_name(alloc: Global, told: &mut Told, pool: &DescriptorPool, row: &Row) {
     let name = row.text(0);
     match row.asked() {
-        "file" => file(alloc, &pool, name),
-        "message" => message(alloc, &pool, name),
-        "enum" => enumeration(alloc, &pool, name),
-        "extension" => extension(alloc, &pool, name),
-        "service" => service(alloc, &pool, name),
-        "shape" => shape(alloc, &pool, name),
-        _ => Err(Stop::NoSuchWord),
+        "file" => file(alloc, told, pool, name),
+        "message" => message(told, pool, name),
+        "enum" => enumeration(told, pool, name),
+        "extension" => extension(told, pool, name),
+        "service" => service(told, pool, name),
+        "shape" => shape(told, pool, name),
+        _ => told.add("no such word"),
     }
 }
 
 /// What is told of the pool of all files of the row.
-fn of_pool(alloc: Global, row: &Row) -> Result<String, Stop> {
-    let pool = pool_behind(alloc, row, 0)?;
+fn of_pool(alloc: Global, told: &mut Told, pool: &DescriptorPool, row: &Row) {
     match row.asked() {
-        "link" => Ok(String::from_str(alloc, "ok")?),
-        "linked" => linked(alloc, &pool),
-        "files" => files(alloc, &pool),
-        "messages" => messages(alloc, &pool),
-        _ => Err(Stop::NoSuchWord),
+        "link" => told.add("ok"),
+        "linked" => linked(alloc, told, pool),
+        "files" => files(told, pool),
+        "messages" => messages(told, pool),
+        _ => read_back(alloc, told, pool),
     }
 }
 
 /// What is told of the records of a row.
-fn answer(alloc: Global, row: &Row) -> Result<String, Stop> {
+fn answer(alloc: Global, told: &mut Told, pool: &mut DescriptorPool, row: &Row) {
     match row.asked() {
-        "added" => added(alloc, row),
-        "copy" | "clone" => kept(alloc, row),
-        "same" | "same-grown" => same(alloc, row),
-        "shape-alone" => alone(alloc, row),
-        "shape-late" => late(alloc, row),
-        "shape-grown" => grown(alloc, row),
-        "set" => set(alloc, row),
-        "read-back" => read_back(alloc, row),
-        "add-set" | "add-file" => read_more(alloc, row),
-        "link" | "linked" | "files" | "messages" => of_pool(alloc, row),
-        _ => of_name(alloc, row),
+        "added" => added(alloc, told, pool, row),
+        "copy" => copied(alloc, told, pool, row),
+        "clone" => copied_as_bound(alloc, told, pool, row),
+        "same" => same(alloc, told, pool, row),
+        "same-grown" => same_grown(alloc, told, pool, row),
+        "shape-alone" | "shape-late" | "shape-grown" => grown(alloc, told, pool, row),
+        "set" => set(alloc, told, row),
+        "add-set" | "add-file" => read_more(alloc, told, pool, row),
+        "link" | "linked" | "files" | "messages" | "read-back" => {
+            if add_from(alloc, told, pool, row, 0) {
+                of_pool(alloc, told, pool, row);
+            }
+        }
+        _ => {
+            if add_from(alloc, told, pool, row, 1) {
+                of_name(alloc, told, pool, row);
+            }
+        }
+    }
+}
+
+/// Tells what is told of the records of a row, in a pool that has no files yet.
+fn tell(alloc: Global, told: &mut Told, row: &Row) {
+    match DescriptorPool::new(alloc) {
+        Ok(mut pool) => answer(alloc, told, &mut pool, row),
+        Err(_) => told.run_short(),
     }
 }
 
 /// The line for a row.
-fn told(alloc: Global, line: &str) -> Result<String, AllocError> {
+fn line_of(alloc: Global, line: &str) -> Result<String, AllocError> {
     let row = Row::read(alloc, line)?;
-    match answer(alloc, &row) {
-        Ok(answer) => answer_line(alloc, &row, answer.as_str()),
-        Err(Stop::Refused(refusal)) => answer_line(alloc, &row, refusal.as_str()),
-        Err(Stop::NoSuchWord) => answer_line(alloc, &row, "no such word"),
-        Err(Stop::NoMemory) => Err(AllocError),
-    }
+    let mut told = Told::new(alloc);
+    tell(alloc, &mut told, &row);
+    answer_line(alloc, &row, told.text()?)
 }
 
+/// Prints the line for each row.
 fn main(rt: HostRuntime) -> io::Result<()> {
-    for line in rt.lines(rt.alloc()) {
-        let told = told(rt.alloc(), line?.as_str())?;
-        println!(rt; "{told}")?;
+    let rows = io::read_to_string(rt.alloc(), rt.reader())?;
+    for row in rows.lines() {
+        rt.println(line_of(rt.alloc(), row)?)?;
     }
     Ok(())
 }

@@ -1,25 +1,21 @@
 //! Messages of a pool.
 
-use crate::fields::{add_extension, add_field};
-use crate::stop::{Done, Stop};
+use crate::fields::{tell_extension, tell_field};
+use crate::told::Told;
 use pbx_link::{
     DescriptorPool, ExtensionDescriptor, FieldDescriptor, MessageDescriptor, OneofDescriptor,
 };
-use std::alloc::Global;
 
-/// The names of a message, its file, and whether it is the entry of a map.
-fn add_message(text: &mut String, message: &MessageDescriptor) -> Done {
-    let file = message.parent_file();
-    let name = message.name();
-    let full_name = message.full_name();
-    write!(text, "{name} {full_name} in {}", file.name())?;
+/// Tells the names of a message, its file, and whether it is the entry of a map.
+fn tell_names(told: &mut Told, message: &MessageDescriptor) {
+    told.add_all(&[message.name(), " ", message.full_name(), " in "]);
+    told.add(message.parent_file().name());
     if message.is_map_entry() {
-        text.push_str(" entry")?;
+        told.add(" entry");
     }
-    Ok(())
 }
 
-/// Whether the message has a field of this full name there.
+/// Whether it is a field of this full name.
 fn is_it(found: Option<FieldDescriptor>, full_name: &str) -> bool {
     match found {
         Some(field) => field.full_name() == full_name,
@@ -35,36 +31,38 @@ fn is_found(message: &MessageDescriptor, field: &FieldDescriptor) -> bool {
         && is_it(message.get_field_by_json_name(field.json_name()), name)
 }
 
-/// The fields of a message, in declared order; a mark behind one that is not found by its number and names.
-fn add_fields(text: &mut String, message: &MessageDescriptor) -> Done {
+/// Tells of a field of a message; a mark behind one that is not found by its number and names.
+fn tell_own_field(told: &mut Told, message: &MessageDescriptor, field: &FieldDescriptor) {
+    tell_field(told, field);
+    if !is_found(message, field) {
+        told.add("!");
+    }
+}
+
+/// Tells of the fields of a message, in declared order.
+fn tell_fields(told: &mut Told, message: &MessageDescriptor) {
     for field in message.fields() {
-        add_field(text, &field)?;
-        if !is_found(message, &field) {
-            text.push('!')?;
-        }
+        tell_own_field(told, message, &field);
     }
-    Ok(())
 }
 
-/// A oneof with its fields.
-fn add_oneof(text: &mut String, oneof: &OneofDescriptor) -> Done {
-    write!(text, "<{}", oneof.name())?;
+/// Tells a oneof with its fields.
+fn tell_oneof(told: &mut Told, oneof: &OneofDescriptor) {
+    told.add_all(&["<", oneof.name()]);
     for field in oneof.fields() {
-        write!(text, " {}", field.name())?;
+        told.add_all(&[" ", field.name()]);
     }
-    text.push('>')?;
-    Ok(())
+    told.add(">");
 }
 
-/// The oneofs of a message, in declared order.
-fn add_oneofs(text: &mut String, message: &MessageDescriptor) -> Done {
+/// Tells the oneofs of a message, in declared order.
+fn tell_oneofs(told: &mut Told, message: &MessageDescriptor) {
     for oneof in message.oneofs() {
-        add_oneof(text, &oneof)?;
+        tell_oneof(told, &oneof);
     }
-    Ok(())
 }
 
-/// Whether the message has an extension of this full name there.
+/// Whether it is an extension of this full name.
 fn is_that(found: Option<ExtensionDescriptor>, full_name: &str) -> bool {
     match found {
         Some(extension) => extension.full_name() == full_name,
@@ -75,43 +73,49 @@ fn is_that(found: Option<ExtensionDescriptor>, full_name: &str) -> bool {
 /// Whether the message finds the extension by its number and its JSON name.
 fn is_extension_found(message: &MessageDescriptor, extension: &ExtensionDescriptor) -> bool {
     let name = extension.full_name();
+    let json_name = extension.json_name();
     is_that(message.get_extension(extension.number()), name)
-        && is_that(
-            message.get_extension_by_json_name(extension.json_name()),
-            name,
-        )
+        && is_that(message.get_extension_by_json_name(json_name), name)
 }
 
-/// The extensions of a message, in the order of the pool; a mark behind one that is not found by its number and JSON name.
-fn add_extensions(text: &mut String, message: &MessageDescriptor) -> Done {
-    for extension in message.extensions() {
-        add_extension(text, &extension)?;
-        if !is_extension_found(message, &extension) {
-            text.push('!')?;
-        }
+/// Tells of an extension of a message; a mark behind one that is not found by its number and JSON name.
+fn tell_own_extension(
+    told: &mut Told,
+    message: &MessageDescriptor,
+    extension: &ExtensionDescriptor,
+) {
+    tell_extension(told, extension);
+    if !is_extension_found(message, extension) {
+        told.add("!");
     }
-    Ok(())
 }
 
-/// Of a full name: the message of this name, with its fields, oneofs and extensions.
-pub(crate) fn message(alloc: Global, pool: &DescriptorPool, name: &str) -> Result<String, Stop> {
-    let mut text = String::new(alloc);
-    let Some(message) = pool.get_message_by_name(name) else {
-        text.push_str("none")?;
-        return Ok(text);
-    };
-    add_message(&mut text, &message)?;
-    add_fields(&mut text, &message)?;
-    add_oneofs(&mut text, &message)?;
-    add_extensions(&mut text, &message)?;
-    Ok(text)
+/// Tells of the extensions of a message, in the order of the pool.
+fn tell_extensions(told: &mut Told, message: &MessageDescriptor) {
+    for extension in message.extensions() {
+        tell_own_extension(told, message, &extension);
+    }
+}
+
+/// Tells of a message, with its fields, oneofs and extensions.
+fn tell_message(told: &mut Told, message: &MessageDescriptor) {
+    tell_names(told, message);
+    tell_fields(told, message);
+    tell_oneofs(told, message);
+    tell_extensions(told, message);
+}
+
+/// Of a full name: the message of this name.
+pub(crate) fn message(told: &mut Told, pool: &DescriptorPool, name: &str) {
+    match pool.get_message_by_name(name) {
+        Some(message) => tell_message(told, &message),
+        None => told.add("none"),
+    }
 }
 
 /// The full name of each message.
-pub(crate) fn messages(alloc: Global, pool: &DescriptorPool) -> Result<String, Stop> {
-    let mut text = String::new(alloc);
+pub(crate) fn messages(told: &mut Told, pool: &DescriptorPool) {
     for message in pool.all_messages() {
-        write!(text, "({})", message.full_name())?;
+        told.add_all(&["(", message.full_name(), ")"]);
     }
-    Ok(text)
 }

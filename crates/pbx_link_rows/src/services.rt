@@ -1,33 +1,29 @@
 //! Services of a pool.
 
-use crate::stop::{Done, Stop};
-use pbx_link::{DescriptorPool, ServiceDescriptor};
-use std::alloc::Global;
+use crate::told::Told;
+use pbx_link::{DescriptorPool, MethodDescriptor, ServiceDescriptor};
 
-/// The methods of a service, in declared order, each with the messages that it takes and gives.
-fn add_methods(text: &mut String, service: &ServiceDescriptor) -> Done {
+/// Tells the name of a method, and the messages that it takes and gives.
+fn tell_method(told: &mut Told, method: &MethodDescriptor) {
+    told.add_all(&["(", method.name(), " "]);
+    told.add(method.input().full_name());
+    told.add(" ");
+    told.add(method.output().full_name());
+    told.add(")");
+}
+
+/// Tells the name of a service, and its methods in declared order.
+fn tell_service(told: &mut Told, service: &ServiceDescriptor) {
+    told.add(service.full_name());
     for method in service.methods() {
-        let input = method.input();
-        let output = method.output();
-        write!(
-            text,
-            "({} {} {})",
-            method.name(),
-            input.full_name(),
-            output.full_name()
-        )?;
+        tell_method(told, &method);
     }
-    Ok(())
 }
 
 /// Of a full name: the service of this name, with its methods.
-pub(crate) fn service(alloc: Global, pool: &DescriptorPool, name: &str) -> Result<String, Stop> {
-    let mut text = String::new(alloc);
-    let Some(service) = pool.get_service_by_name(name) else {
-        text.push_str("none")?;
-        return Ok(text);
-    };
-    text.push_str(service.full_name())?;
-    add_methods(&mut text, &service)?;
-    Ok(text)
+pub(crate) fn service(told: &mut Told, pool: &DescriptorPool, name: &str) {
+    match pool.get_service_by_name(name) {
+        Some(service) => tell_service(told, &service),
+        None => told.add("none"),
+    }
 }

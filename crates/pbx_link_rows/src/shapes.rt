@@ -1,32 +1,30 @@
 //! The shape of the types of a pool.
 
-use crate::stop::{Done, Stop};
+use crate::told::Told;
 use pbx_link::DescriptorPool;
 use pbx_meaning::{Cardinality, EnumShape, FieldShape, Kind, MessageShape, Schema};
 use pbx_shapes::message_place;
 use pbx_wire::Text;
-use std::alloc::Global;
 
-/// The kind's own words; a message or an enum by its place.
-fn add_kind(text: &mut String, kind: &Kind) -> Done {
+/// Tells the kind's own words; a message or an enum by its place.
+fn tell_kind(told: &mut Told, kind: Kind) {
     match kind {
-        Kind::Message(at) => write!(text, " message{at}")?,
-        Kind::Enum(at) => write!(text, " enum{at}")?,
-        scalar => write!(text, " {scalar:?}")?,
+        Kind::Message(at) => told.add_counted(" message", at),
+        Kind::Enum(at) => told.add_counted(" enum", at),
+        scalar => told.add_kind(scalar),
     }
-    Ok(())
 }
 
-fn add_cardinality(text: &mut String, cardinality: &Cardinality) -> Done {
+/// Tells how many values there are.
+fn tell_cardinality(told: &mut Told, cardinality: Cardinality) {
     match cardinality {
         Cardinality::Singular => {}
-        Cardinality::Repeated => text.push_str(" repeated")?,
+        Cardinality::Repeated => told.add(" repeated"),
         Cardinality::Map(key) => {
-            text.push_str(" map")?;
-            add_kind(text, key)?;
+            told.add(" map");
+            tell_kind(told, key);
         }
     }
-    Ok(())
 }
 
 /// The word, where it holds.
@@ -34,92 +32,83 @@ fn where_it(holds: bool, word: &'static str) -> &'static str {
     if holds { word } else { "" }
 }
 
-/// What else holds of a field, in words.
-fn add_traits(text: &mut String, field: &FieldShape) -> Done {
-    let extension = where_it(field.is_extension, " extension");
-    let presence = where_it(field.presence, " presence");
-    let packed = where_it(field.packed, " packed");
-    write!(text, "{extension}{presence}{packed}")?;
-    Ok(())
+/// Tells what else holds of a field, in words.
+fn tell_traits(told: &mut Told, field: &FieldShape) {
+    told.add_all(&[
+        where_it(field.is_extension, " extension"),
+        where_it(field.presence, " presence"),
+        where_it(field.packed, " packed"),
+    ]);
 }
 
-fn add_oneof(text: &mut String, oneof: Option<u32>) -> Done {
-    match oneof {
-        Some(oneof) => write!(text, " oneof{oneof}")?,
-        None => {}
+/// Tells the place of the oneof, if there is one.
+fn tell_oneof(told: &mut Told, oneof: Option<u32>) {
+    if let Some(oneof) = oneof {
+        told.add_counted(" oneof", oneof as usize);
     }
-    Ok(())
 }
 
-fn add_default(text: &mut String, default: &Option<Text>) -> Done {
-    match default {
-        Some(default) => write!(text, " default={}", default.as_str())?,
-        None => {}
+/// Tells the default, if there is one.
+fn tell_default(told: &mut Told, default: &Option<Text>) {
+    if let Some(default) = default {
+        told.add_all(&[" default=", default.as_str()]);
     }
-    Ok(())
 }
 
-fn add_names(text: &mut String, field: &FieldShape) -> Done {
-    let name = field.name.as_str();
-    let json_name = field.json_name.as_str();
-    write!(text, "({} {name} {json_name}", field.number)?;
-    Ok(())
+/// Tells of a field.
+fn tell_field(told: &mut Told, field: &FieldShape) {
+    told.add_counted("(", field.number as usize);
+    told.add_all(&[" ", field.name.as_str(), " ", field.json_name.as_str()]);
+    tell_kind(told, field.kind);
+    tell_cardinality(told, field.cardinality);
+    tell_traits(told, field);
+    tell_oneof(told, field.oneof);
+    tell_default(told, &field.default);
+    told.add(")");
 }
 
-fn add_field(text: &mut String, field: &FieldShape) -> Done {
-    add_names(text, field)?;
-    add_kind(text, &field.kind)?;
-    add_cardinality(text, &field.cardinality)?;
-    add_traits(text, field)?;
-    add_oneof(text, field.oneof)?;
-    add_default(text, &field.default)?;
-    text.push(')')?;
-    Ok(())
-}
-
-fn add_message(text: &mut String, message: &MessageShape) -> Done {
-    text.push_str(message.full_name.as_str())?;
+/// Tells of a message.
+fn tell_message(told: &mut Told, message: &MessageShape) {
+    told.add(message.full_name.as_str());
     for field in message.fields.as_slice() {
-        add_field(text, field)?;
+        tell_field(told, field);
     }
-    Ok(())
 }
 
-fn add_enum(text: &mut String, shape: &EnumShape) -> Done {
-    write!(text, "<{}", shape.full_name.as_str())?;
+/// Tells of an enum.
+fn tell_enum(told: &mut Told, shape: &EnumShape) {
+    told.add_all(&["<", shape.full_name.as_str()]);
     for value in shape.values.as_slice() {
-        write!(text, " {}={}", value.name.as_str(), value.number)?;
+        told.add_all(&[" ", value.name.as_str(), "="]);
+        told.add_number(i128::from(value.number));
     }
-    text.push('>')?;
-    Ok(())
+    told.add(">");
 }
 
-fn add_enums(text: &mut String, enums: &[EnumShape]) -> Done {
+/// Tells of all enums.
+fn tell_enums(told: &mut Told, enums: &[EnumShape]) {
     for shape in enums {
-        add_enum(text, shape)?;
+        tell_enum(told, shape);
     }
-    Ok(())
 }
 
-/// The place of the message of this name, its fields, and all enums.
-fn add_named(text: &mut String, schema: &Schema, name: &str) -> Done {
+/// Tells the place of the message of this name, its fields, and all enums.
+fn tell_named(told: &mut Told, schema: &Schema, name: &str) {
     let Some(at) = message_place(schema, name) else {
-        text.push_str("none")?;
-        return Ok(());
+        return told.add("none");
     };
-    write!(text, "{at} ")?;
+    told.add_count(at);
+    told.add(" ");
     if let Some(message) = schema.shape().messages.as_slice().get(at) {
-        add_message(text, message)?;
+        tell_message(told, message);
     }
-    add_enums(text, schema.shape().enums.as_slice())
+    tell_enums(told, schema.shape().enums.as_slice());
 }
 
 /// Of a full name: the place in the pool's shape of the message of this name, its fields, and all enums.
-pub(crate) fn shape(alloc: Global, pool: &DescriptorPool, name: &str) -> Result<String, Stop> {
-    let mut text = String::new(alloc);
-    let Ok(schema) = pool.schema() else {
-        return Err(Stop::NoMemory);
-    };
-    add_named(&mut text, schema.as_ref(), name)?;
-    Ok(text)
+pub(crate) fn shape(told: &mut Told, pool: &DescriptorPool, name: &str) {
+    match pool.schema() {
+        Ok(schema) => tell_named(told, schema.as_ref(), name),
+        Err(_) => told.run_short(),
+    }
 }
