@@ -6,3 +6,4 @@ pub mod Rolled
 pub mod Changed
 pub mod Defines
 pub mod FileDefines
+pub mod Places

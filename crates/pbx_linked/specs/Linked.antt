@@ -98,3 +98,7 @@ linked files f = linked_with (visible files f) f
 -- what a pool keeps of the record of a file
 abbrev pub linked_record : List FileDescriptorProto → FileDescriptorProto → FileDescriptorProto
 linked_record files f = settled_file (linked files f)
+
+-- the record of a file without the places in its source (google.protobuf.FileDescriptorProto.source_code_info)
+abbrev pub without_source_code_info : FileDescriptorProto → FileDescriptorProto
+without_source_code_info f = record f { source_code_info = None }

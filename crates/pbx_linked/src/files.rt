@@ -1,7 +1,7 @@
 // The linked record of a file.
 ghost use Rattle.std.specs.Prelude.{◌≡◌, IfOk, OnOk};
 ghost use Rattle.pbx_linked.specs.Settled.{settled_file};
-ghost use Rattle.pbx_linked.specs.Linked.{linked_with};
+ghost use Rattle.pbx_linked.specs.Linked.{linked_with, without_source_code_info};
 
 use crate::copying::copy_to;
 use crate::fields::linked_extensions;
@@ -15,7 +15,7 @@ use pbx_scope::Visible;
 use pbx_wire::NoMemory;
 use std::alloc::Global;
 
-/// Puts in what holds no names to be linked, settled.
+/// Puts in what holds no names to be linked, settled, but for the places in the source.
 fn settle_parts(
     from: &FileDescriptorProto,
     to: &mut FileDescriptorProto,
@@ -25,6 +25,7 @@ fn settle_parts(
       message_type = to.old.message_type;
       service = to.old.service;
       extension = to.old.extension;
+      source_code_info = to.old.source_code_info;
     }) }
 {
     copy_to(&from.name, &mut to.name, alloc)?;
@@ -32,7 +33,6 @@ fn settle_parts(
     copy_to(&from.dependency, &mut to.dependency, alloc)?;
     settle_to(&from.enum_type, &mut to.enum_type, alloc)?;
     settle_to(&from.options, &mut to.options, alloc)?;
-    settle_to(&from.source_code_info, &mut to.source_code_info, alloc)?;
     copy_to(&from.public_dependency, &mut to.public_dependency, alloc)?;
     copy_to(&from.weak_dependency, &mut to.weak_dependency, alloc)?;
     copy_to(&from.syntax, &mut to.syntax, alloc)?;
@@ -42,14 +42,16 @@ fn settle_parts(
     )
 }
 
-/// Puts the linked and settled record in place of the other.
+/// Puts the linked and settled record in place of the other, but for the places in the source.
 fn link_file<V: Visible>(
     alloc: Global,
     seen: &V,
     from: &FileDescriptorProto,
     to: &mut FileDescriptorProto,
 ) -> Result<(), NoMemory>
-    ensures { OnOk result (to.new ≡ settled_file (linked_with (V.files seen.now) from.now)) }
+    ensures { OnOk result (to.new ≡ record (settled_file (linked_with (V.files seen.now) from.now)) {
+      source_code_info = to.old.source_code_info;
+    }) }
 {
     let scope = text_or_empty(&from.package);
     put(
@@ -71,13 +73,14 @@ fn link_file<V: Visible>(
 /// extensions and methods the exact names of the messages and enums that names are bound to, with a leading dot; in fields and extensions
 /// the types of these (11 for a message, 14 for an enum); a JSON name in each field that has none; no unknown record that may not be written
 /// or has the number of a field, and the others by ascending number. A name that is bound to nothing stays as it is, and so does all else.
+/// The places in the source are left out: `settled_source_code_info` makes them of those of the file, which need not be copied.
 /// The only error is want of memory.
-pub fn linked_file<V: Visible>(
+pub fn linked_without_source_code_info<V: Visible>(
     alloc: Global,
     seen: &V,
     file: &FileDescriptorProto,
 ) -> Result<FileDescriptorProto, NoMemory>
-    ensures { IfOk result (λ linked. linked ≡ settled_file (linked_with (V.files seen.now) file.now)) }
+    ensures { IfOk result (λ linked. linked ≡ without_source_code_info (settled_file (linked_with (V.files seen.now) file.now))) }
 {
     let mut linked = FileDescriptorProto::new(alloc);
     if let Err(error) = link_file(alloc, seen, file, &mut linked) {

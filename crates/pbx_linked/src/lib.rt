@@ -13,5 +13,6 @@ mod services;
 mod settling;
 mod unknown;
 
-pub use files::linked_file;
+pub use files::linked_without_source_code_info;
 pub use laws::linked_is_alike;
+pub use settling::settled_source_code_info;

@@ -1,5 +1,5 @@
 // Records as their own encoding gives them back.
-ghost use Rattle.std.specs.Prelude.{◌≡◌, map, option_map, Ok, IfOk, OnOk};
+ghost use Rattle.std.specs.Prelude.{◌≡◌, map, option_map, Ok, IfOk, OnOk, IsTrue};
 ghost use Rattle.pbx_linked.specs.Settled.{written_options, settled_extension_range, settled_reserved_range, settled_field, settled_oneof};
 ghost use Rattle.pbx_linked.specs.Settled.{settled_enum, settled_enum_range, settled_value, settled_method, settled_location, settled_source};
 
@@ -262,4 +262,39 @@ impl Settle for SourceCodeInfo {
             unknown: settled_unknown(alloc, &self.unknown, RecordType::SourceCodeInfo)?,
         })
     }
+}
+
+/// Whether each of the locations is settled, as nothing in it is unknown.
+fn are_settled(locations: &List<Location>) -> bool
+    ensures { IsTrue result → map settled_location locations.now ≡ locations.now }
+{
+    for location in locations.as_slice() {
+        if !location.unknown.is_empty() {
+            return false;
+        }
+    }
+    true
+}
+
+/// Whether the record is settled, as nothing in it is unknown.
+fn is_settled(source: &SourceCodeInfo) -> bool
+    ensures { IsTrue result → settled_source source.now ≡ source.now }
+{
+    source.unknown.is_empty() && are_settled(&source.location)
+}
+
+/// The record as its own encoding gives it back. Where nothing in it is unknown, which is nearly always, it is the record itself, as a file
+/// may have some ten locations for each of its fields. The only error is want of memory.
+pub fn settled_source_code_info(
+    alloc: Global,
+    source: SourceCodeInfo,
+) -> Result<SourceCodeInfo, NoMemory>
+    ensures { IfOk result (λ settled. settled ≡ settled_source source) }
+{
+    if is_settled(&source) {
+        return Ok(source);
+    }
+    let settled = source.settle(alloc);
+    drop(source);
+    settled
 }

@@ -1,20 +1,22 @@
 // The linked record of a file among the files of a pool.
-ghost use Rattle.std.specs.Prelude.{◌≡◌, true, None, IfOk, IfErr, OnOk};
+ghost use Rattle.std.specs.Prelude.{◌≡◌, true, None, option_map, IfOk, IfErr, OnOk};
 ghost use Rattle.pbx_scope.specs.Scope.{visible};
-ghost use Rattle.pbx_linked.specs.Linked.{linked_record};
+ghost use Rattle.pbx_linked.specs.Settled.{settled_source};
+ghost use Rattle.pbx_linked.specs.Linked.{linked_record, without_source_code_info};
 ghost use Rattle.pbx_rules.specs.Breaches.{keeps_rules, IsFirstOf};
 ghost use Rattle.pbx_pool.specs.Refused.{IsRefused};
 
 use crate::pool::Pool;
 use crate::refusal::Refusal;
 use pbx_definitions::FileParts;
-use pbx_desc_records::FileDescriptorProto;
-use pbx_linked::linked_file;
+use pbx_desc_records::{FileDescriptorProto, SourceCodeInfo};
+use pbx_linked::{linked_without_source_code_info, settled_source_code_info};
 use pbx_rules::{breach_is_first, first_breach, first_breach_alone, rules_are_kept};
 use pbx_visible::VisibleFiles;
+use pbx_wire::NoMemory;
 use std::alloc::Global;
 
-/// The linked record of the file that sees these files, or the first of the rules 6 to 16 that it breaks.
+/// The linked record, without places in the source, of the file that sees these files, or the first of the rules 6 to 16 that it breaks.
 fn linked_seeing(
     alloc: Global,
     pool: &Pool,
@@ -24,13 +26,13 @@ fn linked_seeing(
     requires alone { IsFirstOf pool.now (visible pool.now parts.now) parts.now 1 5 None }
     requires seen { seen.now ≡ visible pool.now parts.now }
     ensures kept { OnOk result (keeps_rules pool.now parts.now ≡ true) }
-    ensures linked { IfOk result (λ linked. linked ≡ linked_record pool.now parts.now) }
+    ensures linked { IfOk result (λ linked. linked ≡ without_source_code_info (linked_record pool.now parts.now)) }
     ensures refused { IfErr result (IsRefused pool.now parts.now) }
 {
     breach_is_first();
     rules_are_kept();
     match first_breach(alloc, pool, seen, parts) {
-        Ok(None) => match linked_file(alloc, seen, parts.file()) {
+        Ok(None) => match linked_without_source_code_info(alloc, seen, parts.file()) {
             Ok(linked) => Ok(linked),
             Err(_) => Err(Refusal::NoMemory),
         },
@@ -47,7 +49,7 @@ fn linked_behind(
 ) -> Result<FileDescriptorProto, Refusal>
     requires { IsFirstOf pool.now (visible pool.now parts.now) parts.now 1 5 None }
     ensures kept { OnOk result (keeps_rules pool.now parts.now ≡ true) }
-    ensures linked { IfOk result (λ linked. linked ≡ linked_record pool.now parts.now) }
+    ensures linked { IfOk result (λ linked. linked ≡ without_source_code_info (linked_record pool.now parts.now)) }
     ensures refused { IfErr result (IsRefused pool.now parts.now) }
 {
     match VisibleFiles::new(alloc, pool, parts) {
@@ -63,7 +65,7 @@ fn linked_parts(
     parts: &FileParts<'_>,
 ) -> Result<FileDescriptorProto, Refusal>
     ensures kept { OnOk result (keeps_rules pool.now parts.now ≡ true) }
-    ensures linked { IfOk result (λ linked. linked ≡ linked_record pool.now parts.now) }
+    ensures linked { IfOk result (λ linked. linked ≡ without_source_code_info (linked_record pool.now parts.now)) }
     ensures refused { IfErr result (IsRefused pool.now parts.now) }
 {
     breach_is_first();
@@ -74,18 +76,65 @@ fn linked_parts(
     }
 }
 
-/// The linked record of the file among those of the pool, or the first rule that it breaks.
-pub(crate) fn linked(
+/// The same of a file among those of the pool.
+fn linked_without(
     alloc: Global,
     pool: &Pool,
     file: &FileDescriptorProto,
 ) -> Result<FileDescriptorProto, Refusal>
     ensures kept { OnOk result (keeps_rules pool.now file.now ≡ true) }
-    ensures linked { IfOk result (λ linked. linked ≡ linked_record pool.now file.now) }
+    ensures linked { IfOk result (λ linked. linked ≡ without_source_code_info (linked_record pool.now file.now)) }
     ensures refused { IfErr result (IsRefused pool.now file.now) }
 {
     match FileParts::new(alloc, file) {
         Ok(parts) => linked_parts(alloc, pool, &parts),
         Err(_) => Err(Refusal::NoMemory),
+    }
+}
+
+/// The record with these places in the source, settled.
+fn with_places(
+    alloc: Global,
+    mut file: FileDescriptorProto,
+    source: Option<SourceCodeInfo>,
+) -> Result<FileDescriptorProto, NoMemory>
+    ensures { IfOk result (λ made. made ≡ record file { source_code_info = option_map settled_source source }) }
+{
+    let Some(source) = source else {
+        file.source_code_info = None;
+        return Ok(file);
+    };
+    match settled_source_code_info(alloc, source) {
+        Ok(settled) => {
+            file.source_code_info = Some(settled);
+            Ok(file)
+        }
+        Err(error) => {
+            drop(file);
+            Err(error)
+        }
+    }
+}
+
+/// The linked record of the file among those of the pool, or the first rule that it breaks.
+pub(crate) fn linked(
+    alloc: Global,
+    pool: &Pool,
+    file: FileDescriptorProto,
+) -> Result<FileDescriptorProto, Refusal>
+    ensures kept { OnOk result (keeps_rules pool.now file ≡ true) }
+    ensures linked { IfOk result (λ linked. linked ≡ linked_record pool.now file) }
+    ensures refused { IfErr result (IsRefused pool.now file) }
+{
+    let made = linked_without(alloc, pool, &file);
+    let FileDescriptorProto {
+        source_code_info, ..
+    } = file;
+    match made {
+        Ok(linked) => match with_places(alloc, linked, source_code_info) {
+            Ok(whole) => Ok(whole),
+            Err(_) => Err(Refusal::NoMemory),
+        },
+        Err(refusal) => Err(refusal),
     }
 }

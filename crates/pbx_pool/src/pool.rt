@@ -170,8 +170,7 @@ impl Pool {
         ensures refused { IfErr result (IsRefused self.old file) }
         ensures unchanged { OnErr result (self.new ≡ self.old) }
     {
-        let made = linked(self.alloc, self, &file);
-        drop(file);
+        let made = linked(self.alloc, self, file);
         pool_grows();
         match made {
             Ok(record) => match add_linked(self.alloc, &mut self.tables, &mut self.index, record) {
