@@ -7,10 +7,11 @@
 
 mod rule;
 
+use hex::FromHexError;
 use pbx_definitions::FileParts;
 use pbx_desc_decoding::DecodeMessage;
 use pbx_desc_records::FileDescriptorProto;
-use pbx_wire::{List, NoMemory};
+use pbx_wire::{DecodeError, List, NoMemory};
 use rule::{Rule, breach, rule_named};
 use std::alloc::{AllocError, Global};
 use std::io;
@@ -66,6 +67,7 @@ fn add_breach_of_bytes(
             drop(file);
             added
         }
+        Err(DecodeError::NoMemory) => Err(AllocError),
         Err(_) => text.push_str("no record"),
     }
 }
@@ -77,6 +79,7 @@ fn add_answer(alloc: Global, text: &mut String, row: &Row) -> Result<(), AllocEr
     };
     match hex::decode(alloc, row.text(0)) {
         Ok(bytes) => add_breach_of_bytes(alloc, text, rule, bytes.as_slice()),
+        Err(FromHexError::OutOfMemory) => Err(AllocError),
         Err(_) => text.push_str("no bytes"),
     }
 }
