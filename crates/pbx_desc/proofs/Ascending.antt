@@ -265,6 +265,12 @@ fields_remain shape gs vs unknown above found run =
     let placed = in_place shape 0 gs gs vs (filter (is_writable_beside (numbers gs)) unknown) above found (beneath_kept gs unknown run) in
     (placed.ascend, placed.apart)
 
+pub fields_alone : (shape : Shape) (gs : List FieldShape) (vs : List (Option Val)) → AreAbove 0 gs → AreListed gs gs
+    → IsSorted (fields_recs shape gs (fields_from gs vs)) × AreBefore (fields_recs shape gs (fields_from gs vs)) []
+fields_alone shape gs vs above found =
+    let placed = in_place shape 0 gs gs vs [] above found (beneath_none gs) in
+    (placed.ascend, placed.apart)
+
 pub fields_recs-followed : (shape : Shape) (all : List FieldShape) (fs gs : Fields) → fields_recs shape all (followed_by fs gs) ≡ fields_recs shape all fs ++ fields_recs shape all gs
 fields_recs-followed shape all no_fields gs = refl
 fields_recs-followed shape all (field n v fs) gs =

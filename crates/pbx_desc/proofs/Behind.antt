@@ -1,6 +1,6 @@
 -- Texts of contents that are made part by part.
 use Rattle.std.proofs.Common.{◌≡◌, ℕ, ◌+◌, ◌*◌, ◌^◌, ◌<◌, ◌≤◌, Bool, true, false, ◌&&◌, if◌then◌else◌, List, [], ◌∷◌, ◌++◌, length, map, take, get_or, Option, Some, None, subst, refl, sym, ap, ◌∙◌, append_assoc, append-nil, rules}
-use Rattle.std.specs.List.{concat, filter}
+use Rattle.std.specs.List.{filter}
 use Rattle.std.proofs.lemmas.List.{map-append, take_all, take_more}
 use Rattle.pbx_wire.specs.Varint.{varint}
 use Rattle.pbx_wire.specs.Text.{text as text_of_rec, text_of, are_fit}
@@ -22,14 +22,15 @@ use Rattle.pbx_meaning.specs.Encoding.{encoded, content_recs, payload, with_kept
 use Rattle.pbx_meaning.specs.Laws.{EncodingDecodes, EncodingDecodesParts}
 use Rattle.pbx_meaning.specs.Same.{Decodes, DecodesParts}
 use Rattle.pbx_meaning.specs.Sound.{depth, PartsFit}
+use Rattle.pbx_meaning.proofs.Sorted.{IsSorted}
 use Rattle.pbx_meaning.proofs.WrittenOrder.{AreAbove, all_listed, fields_above}
-use Rattle.pbx_desc_shape.specs.Shape.{descriptor_shape, list_field}
+use Rattle.pbx_desc_shape.specs.Shape.{descriptor_shape, list_field, packed_field}
 use Rattle.pbx_desc_shape.proofs.Proper.{descriptor_shape_proper}
-use Rattle.pbx_desc.specs.Building.{entries, followed_by, Puts, value_recs, Writes, IsWritten}
+use Rattle.pbx_desc.specs.Building.{entries, followed_by, Puts, recs_of, value_recs, packed_recs, Writes, WritesPacked, IsWritten}
 use Rattle.pbx_desc.specs.Content.{of_records, fields_from, record_content}
-use Rattle.pbx_desc.specs.Sound.{AreOf}
+use Rattle.pbx_desc.specs.Sound.{AreOf, MayBe}
 use Rattle.pbx_desc.specs.Unknown.{is_writable_beside}
-use Rattle.pbx_desc.proofs.Ascending.{Remains, remains_next, front_alone, is_run, fields_remain, fields_recs-followed}
+use Rattle.pbx_desc.proofs.Ascending.{AreBefore, Remains, remains_next, front_alone, is_run, fields_remain, fields_alone, fields_recs-followed}
 use Rattle.pbx_desc.proofs.Built.{entries-same, puts_behind, with-followed, list_ascends, values_ascend, front_ascends, back_ascends}
 use Rattle.pbx_desc.proofs.Fields.{AreValues, are_plain, numbers, kept_is, content_sound}
 
@@ -41,13 +42,13 @@ bytes_text n b = search (rules, rec_lemmas)
 taken_more : {X : Type 0} (xs : List X) (i : ℕ) (x : X) → i < length xs → x ≡ get_or xs i x → take (i + 1) xs ≡ take i xs ++ x ∷ []
 taken_more xs i x lt is = take_more xs i x lt ∙ ap (λ y. take i xs ++ y ∷ []) (sym is)
 
-pub payload_put : (n : ℕ) (bytes old mid new head : List ℕ) → head ≡ concat (map varint ((n * 8 + 2) ∷ length bytes ∷ [])) → mid ≡ old ++ head → new ≡ mid ++ bytes → new ≡ old ++ text_of_rec (rec.Bytes n bytes)
-payload_put n bytes old mid new head is begun ended =
+-- the key, the length and the bytes, one behind another
+pub payload_put : (n : ℕ) (bytes old key_put len_put new : List ℕ) → key_put ≡ old ++ varint (n * 8 + 2) → len_put ≡ key_put ++ varint (length bytes) → new ≡ len_put ++ bytes → new ≡ old ++ text_of_rec (rec.Bytes n bytes)
+payload_put n bytes old key_put len_put new key_is len_is all =
     let key = varint (n * 8 + 2) in
     let len = varint (length bytes) in
-    ended
-    ∙ ap (λ (t : List ℕ). t ++ bytes) (begun ∙ ap (λ (t : List ℕ). old ++ t) is)
-    ∙ ap (λ (t : List ℕ). (old ++ (key ++ t)) ++ bytes) (append-nil len)
+    all
+    ∙ ap (λ (t : List ℕ). t ++ bytes) (len_is ∙ ap (λ (t : List ℕ). t ++ len) key_is ∙ append_assoc old key len)
     ∙ append_assoc old (key ++ len) bytes
     ∙ ap (λ (t : List ℕ). old ++ t) (sym (bytes_text n bytes))
 
@@ -95,26 +96,26 @@ all_sent {R} n t f items rs i old new is le e sound =
 
 -- ---- a field alone
 
--- fields that are not packed are told by number and kind
-field_alike : (shape : Shape) (f g : FieldShape) (v : Val) → f.number ≡ g.number → f.kind ≡ g.kind → keys_of f.cardinality ≡ keys_of g.cardinality → f.packed ≡ false → g.packed ≡ false
+-- lists and single values are told by number and kind, and by whether they are packed
+field_alike : (shape : Shape) (f g : FieldShape) (v : Val) → f.number ≡ g.number → f.kind ≡ g.kind → keys_of f.cardinality ≡ keys_of g.cardinality → f.packed ≡ g.packed
     → field_recs shape (Some f) v ≡ field_recs shape (Some g) v
-field_alike shape f g (number z) e k c p q = rw (e, k) refl
-field_alike shape f g (truth b) e k c p q = rw (e, k) refl
-field_alike shape f g (text s) e k c p q = rw e refl
-field_alike shape f g (octets b) e k c p q = rw e refl
-field_alike shape f g (message d) e k c p q = rw (e, k) refl
-field_alike shape f g (many vs) e k c p q = alone f p ∙ rw (e, k) refl ∙ sym (alone g q)
-  where
-    alone : (h : FieldShape) → h.packed ≡ false → field_recs shape (Some h) (many vs) ≡ vals_recs shape h.number h.kind vs
-    alone h not_packed = ap (λ b. if b && is_packable h.kind then rec.Bytes h.number (packed_text h.kind vs) ∷ [] else vals_recs shape h.number h.kind vs) not_packed
-field_alike shape f g (keyed ps) e k c p q = rw (e, k, c) refl
+field_alike shape f g (number z) e k c p = rw (e, k) refl
+field_alike shape f g (truth b) e k c p = rw (e, k) refl
+field_alike shape f g (text s) e k c p = rw e refl
+field_alike shape f g (octets b) e k c p = rw e refl
+field_alike shape f g (message d) e k c p = rw (e, k) refl
+field_alike shape f g (many vs) e k c p =
+    ap (λ b. if b && is_packable f.kind then rec.Bytes f.number (packed_text f.kind vs) ∷ [] else vals_recs shape f.number f.kind vs) p
+    ∙ ap (λ n. if g.packed && is_packable f.kind then rec.Bytes n (packed_text f.kind vs) ∷ [] else vals_recs shape n f.kind vs) e
+    ∙ ap (λ j. if g.packed && is_packable j then rec.Bytes g.number (packed_text j vs) ∷ [] else vals_recs shape g.number j vs) k
+field_alike shape f g (keyed ps) e k c p = rw (e, k, c) refl
 
-with_recs : (all : List FieldShape) (g : FieldShape) (k : Kind) (n : ℕ) (v : Option Val) (fs : Fields) → g.number ≡ n → g.kind ≡ k → keys_of g.cardinality ≡ keys_of Repeated → g.packed ≡ false → field_of g.number all ≡ Some g
-    → fields_recs descriptor_shape all (with_field g.number v fs) ≡ value_recs n k v ++ fields_recs descriptor_shape all fs
-with_recs all g k n None fs e is keys packed here = refl
-with_recs all g k n (Some v) fs e is keys packed here =
+with_recs : (all : List FieldShape) (f g : FieldShape) (v : Option Val) (fs : Fields) → g.number ≡ f.number → g.kind ≡ f.kind → keys_of g.cardinality ≡ keys_of f.cardinality → g.packed ≡ f.packed → field_of g.number all ≡ Some g
+    → fields_recs descriptor_shape all (with_field g.number v fs) ≡ recs_of f v ++ fields_recs descriptor_shape all fs
+with_recs all f g None fs e is keys packed here = refl
+with_recs all f g (Some v) fs e is keys packed here =
     ap (λ (o : Option FieldShape). field_recs descriptor_shape o v ++ fields_recs descriptor_shape all fs) here
-    ∙ ap (λ (rs : List Rec). rs ++ fields_recs descriptor_shape all fs) (field_alike descriptor_shape g (list_field n [] [] k) v e is keys packed refl)
+    ∙ ap (λ (rs : List Rec). rs ++ fields_recs descriptor_shape all fs) (field_alike descriptor_shape g f v e is keys packed)
 
 -- ---- the whole, part by part
 
@@ -128,21 +129,34 @@ pub record IsOpen (t : ℕ) (all : List FieldShape) (values : List (Option Val))
 abbrev pub goal_text : ℕ → List FieldShape → List (Option Val) → List Rec → List ℕ → List ℕ
 goal_text t all values unknown old = old ++ encoded descriptor_shape t (content (fields_from all values) (filter (is_writable_beside (numbers all)) unknown))
 
+open_with : (t : ℕ) (all : List FieldShape) (values : List (Option Val)) (kept : List Rec) (old : List ℕ) → fields_of descriptor_shape t ≡ all → AreAbove 0 all
+    → IsSorted (fields_recs descriptor_shape all (fields_from all values)) × AreBefore (fields_recs descriptor_shape all (fields_from all values)) kept
+    → IsOpen t all values kept (old ++ encoded descriptor_shape t (content (fields_from all values) kept)) all values [] old
+open_with t all values kept old type above remain = record {
+  left = record {
+    whole_is = ap (λ (gs : List FieldShape). old ++ text_of (with_kept (keeps_order_of descriptor_shape t) (fields_recs descriptor_shape gs (fields_from all values)) kept)) type;
+    ascend = remain.0;
+    apart = remain.1;
+  };
+  each = λ h. h;
+  order = values_ascend all values above;
+}
+
+type_above : (t : ℕ) (all : List FieldShape) → fields_of descriptor_shape t ≡ all → AreAbove 0 all
+type_above t all type = subst (AreAbove 0) type (fields_above descriptor_shape t descriptor_shape_proper)
+
 pub begin : (t : ℕ) (all : List FieldShape) (values : List (Option Val)) (unknown : List Rec) (old : List ℕ) → fields_of descriptor_shape t ≡ all → is_run 0 all ≡ true
     → IsOpen t all values (filter (is_writable_beside (numbers all)) unknown) (goal_text t all values unknown old) all values [] old
 begin t all values unknown old type run =
-    let kept = filter (is_writable_beside (numbers all)) unknown in
-    let above = subst (AreAbove 0) type (fields_above descriptor_shape t descriptor_shape_proper) in
-    let remain = fields_remain descriptor_shape all values unknown above (all_listed 0 all above) run in
-    record {
-      left = record {
-        whole_is = ap (λ (gs : List FieldShape). old ++ text_of (with_kept (keeps_order_of descriptor_shape t) (fields_recs descriptor_shape gs (fields_from all values)) kept)) type;
-        ascend = remain.0;
-        apart = remain.1;
-      };
-      each = λ h. h;
-      order = values_ascend all values above;
-    }
+    let above = type_above t all type in
+    open_with t all values (filter (is_writable_beside (numbers all)) unknown) old type above (fields_remain descriptor_shape all values unknown above (all_listed 0 all above) run)
+
+-- no record is kept, so that the numbers may leave some out
+pub begin_alone : (t : ℕ) (all : List FieldShape) (values : List (Option Val)) (old : List ℕ) → fields_of descriptor_shape t ≡ all
+    → IsOpen t all values [] (old ++ encoded descriptor_shape t (content (fields_from all values) [])) all values [] old
+begin_alone t all values old type =
+    let above = type_above t all type in
+    open_with t all values [] old type above (fields_alone descriptor_shape all values above (all_listed 0 all above))
 
 -- a list is begun
 pub anew : {t : ℕ} {all : List FieldShape} {values : List (Option Val)} {kept : List Rec} {whole : List ℕ} {gs : List FieldShape} {vs : List (Option Val)} {text : List ℕ} (list : List (ℕ × Held))
@@ -182,19 +196,42 @@ flushed {t} {all} {values} {kept} {whole} {gs} {vs} {old} list shape p none new 
       order = back_ascends (entries list) rest state.order;
     }
 
+-- a value's records are written
+placed : {t : ℕ} {all : List FieldShape} {values : List (Option Val)} {kept : List Rec} {whole : List ℕ} {g : FieldShape} {gs : List FieldShape} {v : Option Val} {vs : List (Option Val)} {old new : List ℕ} (rs : List Rec)
+    → IsOpen t all values kept whole (g ∷ gs) (v ∷ vs) [] old → fields_recs descriptor_shape all (with_field g.number v (fields_from gs vs)) ≡ rs ++ fields_recs descriptor_shape all (fields_from gs vs)
+    → new ≡ old ++ text_of rs → MayBe descriptor_shape g.cardinality g.kind v → IsOpen t all values kept whole gs vs [] new
+placed {t} {all} {values} {kept} {whole} {g} {gs} {v} {vs} {old} {new} rs state parts here value =
+    let keeps = keeps_order_of descriptor_shape t in
+    record {
+      left = remains_next keeps whole rs (fields_recs descriptor_shape all (fields_from gs vs)) kept old new (subst (λ (ss : List Rec). Remains keeps whole ss kept old) parts state.left) here;
+      each = λ h. state.each (value, h);
+      order = back_ascends (with_field g.number v no_fields) (fields_from gs vs) (subst AreAscending (sym (with-followed g.number v (fields_from gs vs))) state.order);
+    }
+
 -- a value is written
 pub written : {t : ℕ} {all : List FieldShape} {values : List (Option Val)} {kept : List Rec} {whole : List ℕ} {g : FieldShape} {gs : List FieldShape} {v : Option Val} {vs : List (Option Val)} {old new : List ℕ}
     {c : Cardinality} {k : Kind} {n : ℕ} → IsOpen t all values kept whole (g ∷ gs) (v ∷ vs) [] old → Writes c k n v old new → g.number ≡ n → g.cardinality ≡ c → g.kind ≡ k → keys_of g.cardinality ≡ keys_of Repeated → g.packed ≡ false
     → field_of g.number all ≡ Some g → IsOpen t all values kept whole gs vs [] new
 written {t} {all} {values} {kept} {whole} {g} {gs} {v} {vs} {old} {new} {c} {k} {n} state writes e cardinality is keys packed here =
+    placed (value_recs n k v) state (with_recs all (list_field n [] [] k) g v (fields_from gs vs) e is keys packed here) writes.text (rw (cardinality, is) writes.value)
+
+-- a list is written, packed
+pub written_packed : {t : ℕ} {all : List FieldShape} {values : List (Option Val)} {kept : List Rec} {whole : List ℕ} {g : FieldShape} {gs : List FieldShape} {v : Option Val} {vs : List (Option Val)} {old new : List ℕ}
+    {k : Kind} {n : ℕ} → IsOpen t all values kept whole (g ∷ gs) (v ∷ vs) [] old → WritesPacked k n v old new → g.number ≡ n → g.cardinality ≡ Repeated → g.kind ≡ k → keys_of g.cardinality ≡ keys_of Repeated → g.packed ≡ true
+    → field_of g.number all ≡ Some g → IsOpen t all values kept whole gs vs [] new
+written_packed {t} {all} {values} {kept} {whole} {g} {gs} {v} {vs} {old} {new} {k} {n} state writes e cardinality is keys packed here =
+    placed (packed_recs n k v) state (with_recs all (packed_field n [] [] k) g v (fields_from gs vs) e is keys packed here) writes.text (rw (cardinality, is) writes.value)
+
+-- all is written, with no kept record
+pub finished : {t : ℕ} {all : List FieldShape} {values : List (Option Val)} (unknown : List Rec) (first new : List ℕ) → IsOpen t all values [] (first ++ encoded descriptor_shape t (content (fields_from all values) [])) [] [] [] new
+    → fields_of descriptor_shape t ≡ all → are_plain all ≡ true → unknown ≡ [] → IsWritten t (record_content all values unknown) first new
+finished {t} {all} {values} unknown first new state type plain none =
     let keeps = keeps_order_of descriptor_shape t in
-    let ys = fields_recs descriptor_shape all (fields_from gs vs) in
-    record {
-      left = remains_next keeps whole (value_recs n k v) ys kept old new
-          (subst (λ (rs : List Rec). Remains keeps whole rs kept old) (with_recs all g k n v (fields_from gs vs) e is keys packed here) state.left) writes.text;
-      each = λ h. state.each (rw (cardinality, is) writes.value, h);
-      order = back_ascends (with_field g.number v no_fields) (fields_from gs vs) (subst AreAscending (sym (with-followed g.number v (fields_from gs vs))) state.order);
-    }
+    let here : IsWritten t (record_content all values []) first new = record {
+      text = sym (state.left.whole_is ∙ ap (λ (rs : List Rec). new ++ text_of rs) (front_alone keeps [] [] tt) ∙ append-nil new);
+      sound = content_sound descriptor_shape t all values [] type plain (fields_above descriptor_shape t descriptor_shape_proper) (state.each tt) refl;
+    } in
+    subst (λ (rs : List Rec). IsWritten t (record_content all values rs) first new) (sym none) here
 
 -- the last list is written, with the kept records
 pub closed : {t : ℕ} {all : List FieldShape} {values : List (Option Val)} {old : List ℕ} (unknown : List Rec) (first : List ℕ) (list : List (ℕ × Held)) (shape : Shape) (new : List ℕ)
@@ -221,7 +258,7 @@ closed {t} {all} {values} {old} unknown first list shape new state type plain sa
 pub short_of : (t : ℕ) (c : Content) (new : List ℕ) → new ≡ encoded descriptor_shape t c → length new < 2 ^ 64 → length (encoded descriptor_shape t c) < 2 ^ 64
 short_of t c new same short = subst (λ (b : List ℕ). length b < 2 ^ 64) same short
 
-written_is : (t : ℕ) (c : Content) (old new : List ℕ) → IsWritten t c old new → old ≡ [] → new ≡ encoded descriptor_shape t c
+pub written_is : (t : ℕ) (c : Content) (old new : List ℕ) → IsWritten t c old new → old ≡ [] → new ≡ encoded descriptor_shape t c
 written_is t c old new is none = is.text ∙ ap (λ (b : List ℕ). b ++ encoded descriptor_shape t c) none
 
 pub written_decodes : (t : ℕ) (c : Content) (old new : List ℕ) → EncodingDecodes → IsWritten t c old new → old ≡ [] → length new < 2 ^ 64 → depth c ≤ 100 → Decodes descriptor_shape t new c

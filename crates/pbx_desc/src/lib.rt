@@ -12,6 +12,7 @@ mod file;
 mod integers;
 mod laws;
 mod levels;
+mod location;
 mod message;
 mod options;
 mod parts;

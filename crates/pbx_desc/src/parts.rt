@@ -1,5 +1,6 @@
 ghost use Rattle.std.specs.Prelude.{◌≡◌, ◌++◌, true, filter, OnOk};
 ghost use Rattle.pbx_wire.specs.Text.{text as text_of_rec, are_fit};
+ghost use Rattle.pbx_wire.specs.Varint.{varint};
 ghost use Rattle.pbx_wire.specs.declared.rec.Rec.TheVariants as rec;
 ghost use Rattle.pbx_number_map.specs.Entries.{IsAscending};
 ghost use Rattle.pbx_meaning.specs.declared.shape.Cardinality.TheVariants.{Singular, Repeated};
@@ -16,20 +17,29 @@ use crate::source::write_source;
 use pbx_codec::encode;
 use pbx_desc_records::SourceCodeInfo;
 use pbx_meaning::Schema;
-use pbx_wire::{List, NoMemory, Recs, varints_text};
+use pbx_wire::{List, NoMemory, Recs};
 use std::alloc::Global;
 
+/// Puts the shortest spelling of the number behind the text.
+#[tactic(auto, using(pbx_wire::proofs::Varints::varint_steps))]
+pub(crate) fn put_varint(value: u64, out: &mut Vec<u8>) -> Result<(), NoMemory>
+    ensures { OnOk result (out.new.items ≡ out.old.items ++ varint value) }
+{
+    let mut rest = value;
+    while rest >= 128 {
+        out.push((rest % 128) as u8 + 128)?;
+        rest /= 128;
+    }
+    out.push(rest as u8)?;
+    Ok(())
+}
+
 /// Puts a payload behind the text, under this number.
-pub(crate) fn put_payload(
-    alloc: Global,
-    number: u32,
-    payload: &[u8],
-    out: &mut Vec<u8>,
-) -> Result<(), NoMemory>
+pub(crate) fn put_payload(number: u32, payload: &[u8], out: &mut Vec<u8>) -> Result<(), NoMemory>
     ensures { OnOk result (out.new.items ≡ out.old.items ++ text_of_rec (rec.Bytes number payload.now)) }
 {
-    let head = varints_text(alloc, &[u64::from(number) * 8 + 2, payload.len() as u64])?;
-    out.extend_from_slice(head.as_slice())?;
+    put_varint(u64::from(number) * 8 + 2, out)?;
+    put_varint(payload.len() as u64, out)?;
     out.extend_from_slice(payload)?;
     Ok(())
 }
@@ -70,7 +80,7 @@ pub(crate) fn put_records<R: HasContents>(
     for record in records.as_slice() {
         let contents = record.to_contents(alloc)?;
         let own = encode(alloc, schema, R::TYPE_AT, &contents)?;
-        put_payload(alloc, number, own.as_slice(), out)?;
+        put_payload(number, own.as_slice(), out)?;
     }
     Ok(())
 }
@@ -90,7 +100,7 @@ pub(crate) fn put_source(
     if let Some(source) = source {
         let mut own = Vec::new(alloc);
         write_source(alloc, schema, source, &mut own)?;
-        put_payload(alloc, number, own.as_slice(), out)?;
+        put_payload(number, own.as_slice(), out)?;
     }
     Ok(())
 }

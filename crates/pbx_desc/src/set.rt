@@ -88,7 +88,7 @@ fn put_file(
 {
     let mut own = Vec::new(alloc);
     write_file(alloc, schema, file, &mut own)?;
-    put_payload(alloc, 1, own.as_slice(), out)
+    put_payload(1, own.as_slice(), out)
 }
 
 impl FileSet {

@@ -5,7 +5,8 @@ ghost use Rattle.pbx_desc.specs.Content.{source_code_info_content, location_cont
 
 use crate::contents::{FieldList, HasContents};
 use crate::encoding::{Message, record_bytes};
-use crate::parts::{put_fields, put_records};
+use crate::location::put_locations;
+use crate::parts::put_fields;
 use pbx_codec::Contents;
 use pbx_desc_records::{Location, SourceCodeInfo};
 use pbx_desc_shape::{descriptor_shape, place};
@@ -83,7 +84,7 @@ pub(crate) fn write_source(
     requires { schema.now ≡ descriptor_shape_of }
     ensures { OnOk result (IsWritten 12 (source_code_info_content source.now) out.old.items out.new.items) }
 {
-    put_records(alloc, schema, 1, &source.location, out)?;
+    put_locations(alloc, schema, 1, &source.location, out)?;
     let none = FieldList::new(alloc);
     put_fields(
         alloc,

@@ -11,5 +11,5 @@ returns c =
     let r = c.args.source.now in
     let first = c.args.out.now.items in
     let start = begin 12 source_code_info_fields (source_code_info_values r) r.unknown first source_code_info_type refl in
-    let location = anew c.new-none.result.list (written start c.in_ok-put_records.ensures refl refl refl refl refl refl) c.new-none.ensures in
+    let location = anew c.new-none.result.list (written start c.in_ok-put_locations.ensures refl refl refl refl refl refl) c.new-none.ensures in
     on_both c.put_fields.result (closed r.unknown first c.new-none.result.list c.args.schema.now c.put_fields.new.out.items location source_code_info_type refl c.requires) c.put_fields.ensures.text c.put_fields.ensures.fit

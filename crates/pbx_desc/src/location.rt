@@ -1,0 +1,139 @@
+//! Places written without a tree of their content: a file has many of them, more than records of all other kinds.
+
+ghost use Rattle.std.specs.Prelude.{◌≡◌, ◌++◌, map, OnOk};
+ghost use Rattle.std.specs.Int.{w32};
+ghost use Rattle.std.specs.Int.RustNames.{FitsSigned};
+ghost use Rattle.pbx_meaning.specs.declared.shape.Cardinality.TheVariants.{Singular, Repeated};
+ghost use Rattle.pbx_meaning.specs.declared.shape.Kind.TheVariants as kind;
+ghost use Rattle.pbx_meaning.specs.Content.{number as number_val, vals_of};
+ghost use Rattle.pbx_meaning.specs.Encoding.{numeral, packed_text};
+ghost use Rattle.pbx_desc_shape.specs.Shape.{descriptor_shape};
+ghost use Rattle.pbx_desc.specs.Building.{Writes, WritesPacked, IsWritten};
+ghost use Rattle.pbx_desc.specs.Content.{of_text, of_texts, of_numbers, of_records, location_content};
+ghost use Rattle.pbx_desc.specs.Sound.{AreOf};
+
+use crate::contents::HasContents;
+use crate::parts::{put_payload, put_varint};
+use pbx_codec::encode;
+use pbx_desc_records::Location;
+use pbx_desc_shape::place;
+use pbx_meaning::Schema;
+use pbx_wire::{List, NoMemory, Text, Texts};
+use std::alloc::Global;
+
+/// A number as it is on the wire.
+fn wire_number(value: i32) -> u64
+    ensures numeral { result ≡ numeral kind.Int32 (number_val value) }
+    ensures fits { FitsSigned w32 value }
+{
+    i64::from(value).cast_unsigned()
+}
+
+/// Puts the numbers behind the text, one after another.
+fn put_numbers(numbers: &List<i32>, out: &mut Vec<u8>) -> Result<(), NoMemory>
+    ensures text { OnOk result
+        (out.new.items ≡ out.old.items ++ packed_text kind.Int32 (vals_of (map number_val numbers.now))) }
+    ensures sound { OnOk result (AreOf descriptor_shape kind.Int32 (map number_val numbers.now)) }
+{
+    for number in numbers.as_slice() {
+        put_varint(wire_number(*number), out)?;
+    }
+    Ok(())
+}
+
+/// Puts the list behind the text, packed, under this number. An empty list puts nothing there. The payload's memory is
+/// lent, as lists are many and short.
+fn put_packed(
+    number: u32,
+    numbers: &List<i32>,
+    payload: &mut Vec<u8>,
+    out: &mut Vec<u8>,
+) -> Result<(), NoMemory>
+    ensures { OnOk result (WritesPacked kind.Int32 number (of_numbers numbers.now) out.old.items out.new.items) }
+{
+    if numbers.is_empty() {
+        return Ok(());
+    }
+    payload.clear();
+    put_numbers(numbers, payload)?;
+    put_payload(number, payload.as_slice(), out)
+}
+
+/// Puts the text behind the others, under this number, if there is one.
+fn put_text(number: u32, text: &Option<Text>, out: &mut Vec<u8>) -> Result<(), NoMemory>
+    ensures { OnOk result (Writes Singular kind.String number (of_text text.now) out.old.items out.new.items) }
+{
+    if let Some(text) = text {
+        put_payload(number, text.as_str().as_bytes(), out)?;
+    }
+    Ok(())
+}
+
+/// Puts the texts behind the others, each under this number.
+fn put_texts(number: u32, texts: &Texts, out: &mut Vec<u8>) -> Result<(), NoMemory>
+    ensures { OnOk result (Writes Repeated kind.String number (of_texts texts.now) out.old.items out.new.items) }
+{
+    for text in texts.as_slice() {
+        put_payload(number, text.as_str().as_bytes(), out)?;
+    }
+    Ok(())
+}
+
+/// Puts the encoding behind the text by way of the content, among whose fields unknown records stand.
+fn put_with_unknown(
+    alloc: Global,
+    schema: &Schema,
+    location: &Location,
+    out: &mut Vec<u8>,
+) -> Result<(), NoMemory>
+    requires { schema.now ≡ descriptor_shape }
+    ensures { OnOk result (IsWritten 13 (location_content location.now) out.old.items out.new.items) }
+{
+    let contents = location.to_contents(alloc)?;
+    let own = encode(alloc, schema, place::LOCATION, &contents)?;
+    out.extend_from_slice(own.as_slice())?;
+    Ok(())
+}
+
+/// Puts the encoding behind the text, field by field where no unknown record stands among the fields.
+fn put_location(
+    alloc: Global,
+    schema: &Schema,
+    location: &Location,
+    payload: &mut Vec<u8>,
+    out: &mut Vec<u8>,
+) -> Result<(), NoMemory>
+    requires { schema.now ≡ descriptor_shape }
+    ensures { OnOk result (IsWritten 13 (location_content location.now) out.old.items out.new.items) }
+{
+    if !location.unknown.is_empty() {
+        return put_with_unknown(alloc, schema, location, out);
+    }
+    put_packed(1, &location.path, payload, out)?;
+    put_packed(2, &location.span, payload, out)?;
+    put_text(3, &location.leading_comments, out)?;
+    put_text(4, &location.trailing_comments, out)?;
+    put_texts(6, &location.leading_detached_comments, out)
+}
+
+/// Puts the places behind the text, each as a message under this number. All share the memory that each is written in.
+pub(crate) fn put_locations(
+    alloc: Global,
+    schema: &Schema,
+    number: u32,
+    locations: &List<Location>,
+    out: &mut Vec<u8>,
+) -> Result<(), NoMemory>
+    requires { schema.now ≡ descriptor_shape }
+    ensures { OnOk result
+        (Writes Repeated (kind.Message 13) number (of_records location_content locations.now) out.old.items out.new.items) }
+{
+    let mut payload = Vec::new(alloc);
+    let mut text = Vec::new(alloc);
+    for location in locations.as_slice() {
+        text.clear();
+        put_location(alloc, schema, location, &mut payload, &mut text)?;
+        put_payload(number, text.as_slice(), out)?;
+    }
+    Ok(())
+}
