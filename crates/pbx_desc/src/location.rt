@@ -1,4 +1,5 @@
-//! Places written without a tree of their content: a file has many of them, more than records of all other kinds.
+// Places written without a content: a file has many of them, more than records of all other kinds. Where memory runs out, a part may be
+// appended.
 
 ghost use Rattle.std.specs.Prelude.{◌≡◌, ◌++◌, map, OnOk};
 ghost use Rattle.std.specs.Int.{w32};

@@ -20,7 +20,8 @@ use pbx_meaning::Schema;
 use pbx_wire::{List, NoMemory, Recs};
 use std::alloc::Global;
 
-/// Puts the shortest spelling of the number behind the text.
+/// Puts the shortest spelling of the number behind the text, as `pbx_wire` does for a `Blob`: what is written here goes out as a `Vec`.
+/// Where memory runs out, a part of it may be appended.
 #[tactic(auto, using(pbx_wire::proofs::Varints::varint_steps))]
 pub(crate) fn put_varint(value: u64, out: &mut Vec<u8>) -> Result<(), NoMemory>
     ensures { OnOk result (out.new.items ≡ out.old.items ++ varint value) }
@@ -34,7 +35,7 @@ pub(crate) fn put_varint(value: u64, out: &mut Vec<u8>) -> Result<(), NoMemory>
     Ok(())
 }
 
-/// Puts a payload behind the text, under this number.
+/// Puts a payload behind the text, under this number. Where memory runs out, a part of it may be appended.
 pub(crate) fn put_payload(number: u32, payload: &[u8], out: &mut Vec<u8>) -> Result<(), NoMemory>
     ensures { OnOk result (out.new.items ≡ out.old.items ++ text_of_rec (rec.Bytes number payload.now)) }
 {

@@ -16,7 +16,7 @@ use pbx_visible::VisibleFiles;
 use pbx_wire::NoMemory;
 use std::alloc::Global;
 
-/// The linked record, without places in the source, of the file that sees these files, or the first of the rules 6 to 16 that it breaks.
+/// The linked record, without its source info, of the file that sees these files, or the first of the rules 6 to 16 that it breaks.
 fn linked_seeing(
     alloc: Global,
     pool: &Pool,
@@ -41,7 +41,7 @@ fn linked_seeing(
     }
 }
 
-/// The linked record of the file of these parts, which breaks none of the rules 1 to 5.
+/// The linked record, without its source info, of the file of these parts, which breaks none of the rules 1 to 5.
 fn linked_behind(
     alloc: Global,
     pool: &Pool,
@@ -58,7 +58,7 @@ fn linked_behind(
     }
 }
 
-/// The linked record of the file of these parts, or the first rule that it breaks.
+/// The linked record, without its source info, of the file of these parts, or the first rule that it breaks.
 fn linked_parts(
     alloc: Global,
     pool: &Pool,
@@ -76,8 +76,8 @@ fn linked_parts(
     }
 }
 
-/// The same of a file among those of the pool.
-fn linked_without(
+/// The linked record, without its source info, of the file among those of the pool, or the first rule that it breaks.
+fn linked_but_source_code_info(
     alloc: Global,
     pool: &Pool,
     file: &FileDescriptorProto,
@@ -92,8 +92,8 @@ fn linked_without(
     }
 }
 
-/// The record with these places in the source, settled.
-fn with_places(
+/// The record with this source info, settled.
+fn with_source_code_info(
     alloc: Global,
     mut file: FileDescriptorProto,
     source: Option<SourceCodeInfo>,
@@ -126,12 +126,13 @@ pub(crate) fn linked(
     ensures linked { IfOk result (λ linked. linked ≡ linked_record pool.now file) }
     ensures refused { IfErr result (IsRefused pool.now file) }
 {
-    let made = linked_without(alloc, pool, &file);
+    let made = linked_but_source_code_info(alloc, pool, &file);
     let FileDescriptorProto {
-        source_code_info, ..
+        source_code_info,
+        ..
     } = file;
     match made {
-        Ok(linked) => match with_places(alloc, linked, source_code_info) {
+        Ok(linked) => match with_source_code_info(alloc, linked, source_code_info) {
             Ok(whole) => Ok(whole),
             Err(_) => Err(Refusal::NoMemory),
         },
