@@ -12,33 +12,28 @@ use Rattle.pbx_json_meaning.specs.Asked.{field, one, field_target, has_presence}
 use Rattle.pbx_json_meaning.specs.declared.error.JsonError.{JsonError}
 use Rattle.pbx_json_meaning.specs.declared.kind.JsonKind.TheVariants.{NoMemory}
 use Rattle.pbx_json_walk.specs.Walk.{Answer, IsFaultOf, answer_map, answers, shown_as, or_here, value_answer, target_answer, elements_in, parts_in}
-use Rattle.pbx_json_reading.specs.Results.{Tells}
-
--- a fault of an answer is one of what follows of the answer
-pub fault_mapped : {X Y : Type 0} (f : X → Y) (a : Answer X) (e : JsonError) → IsFaultOf a e → IsFaultOf (answer_map f a) e
-fault_mapped f a e (inl n) = inl n
-fault_mapped f a e (inr is) = inr (ap (answer_map f) is)
+use Rattle.pbx_json_reading.specs.Results.{IsResultOf}
 
 -- the answer in another form
-pub told_by : {R X : Type 0} (f : R → X) (a b : Answer X) (r : Result R JsonError) → Tells f b r → a ≡ b → Tells f a r
-told_by f a b r h e = subst (λ z. Tells f z r) (sym e) h
+pub told_by : {R X : Type 0} (f : R → X) (a b : Answer X) (r : Result R JsonError) → IsResultOf f b r → a ≡ b → IsResultOf f a r
+told_by f a b r h e = subst (λ z. IsResultOf f z r) (sym e) h
 
 -- a value that is made, unless memory runs out
-pub told_made : {R X : Type 0} (f : R → X) (x : X) (r : Result R JsonError) → IfOk r (λ c. f c ≡ x) → IfErr r (λ e. e.kind ≡ NoMemory) → Tells f (Ok x) r
+pub told_made : {R X : Type 0} (f : R → X) (x : X) (r : Result R JsonError) → IfOk r (λ c. f c ≡ x) → IfErr r (λ e. e.kind ≡ NoMemory) → IsResultOf f (Ok x) r
 told_made f x (Ok c) is err = ap Ok (sym is)
 told_made f x (Err e) is err = inl err
 
 -- the two clauses of a result as one
-pub told_both : {R X : Type 0} (f : R → X) (a : Answer X) (r : Result R JsonError) → IfOk r (λ c. a ≡ Ok (f c)) → IfErr r (λ e. a ≡ Err e) → Tells f a r
+pub told_both : {R X : Type 0} (f : R → X) (a : Answer X) (r : Result R JsonError) → IfOk r (λ c. a ≡ Ok (f c)) → IfErr r (λ e. a ≡ Err e) → IsResultOf f a r
 told_both f a (Ok c) is err = is
 told_both f a (Err e) is err = inr err
 
 -- and one as two
-pub ok_told : {R X : Type 0} (f : R → X) (a : Answer X) (r : Result R JsonError) → Tells f a r → IfOk r (λ c. a ≡ Ok (f c))
+pub ok_told : {R X : Type 0} (f : R → X) (a : Answer X) (r : Result R JsonError) → IsResultOf f a r → IfOk r (λ c. a ≡ Ok (f c))
 ok_told f a (Ok c) h = h
 ok_told f a (Err e) h = tt
 
-pub err_told : {R X : Type 0} (f : R → X) (a : Answer X) (r : Result R JsonError) → Tells f a r → IfErr r (λ e. IsFaultOf a e)
+pub err_told : {R X : Type 0} (f : R → X) (a : Answer X) (r : Result R JsonError) → IsResultOf f a r → IfErr r (λ e. IsFaultOf a e)
 err_told f a (Ok c) h = tt
 err_told f a (Err e) h = h
 

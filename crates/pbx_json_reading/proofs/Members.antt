@@ -161,16 +161,6 @@ pub fault_from : {X Y : Type 0} (a : Answer X) (b : Answer Y) (e : JsonError) �
 fault_from a b e (inl n) f = inl n
 fault_from a b e (inr is) f = inr (f is)
 
--- what follows of a value that there is
-pub on_if_ok : {T E : Type 0} (r : Result T E) (P Q : T → Type 0) → ((x : T) → P x → Q x) → IfOk r P → IfOk r Q
-on_if_ok (Ok x) P Q f h = f x h
-on_if_ok (Err e) P Q f h = tt
-
--- what follows of an error that there is
-pub on_if_err : {T E : Type 0} (r : Result T E) (P Q : E → Type 0) → ((e : E) → P e → Q e) → IfErr r P → IfErr r Q
-on_if_err (Ok x) P Q f h = tt
-on_if_err (Err e) P Q f h = f e h
-
 -- ---- what the answers tell
 
 module _ (told : MessageIsTold) (shape : Shape) (t : ℕ) (allow : Bool) (d : Data) (proper : IsProper shape) where

@@ -15,14 +15,14 @@ ghost use Rattle.pbx_json_walk.specs.Walk.{message_answer, own_answer, list_answ
 ghost use Rattle.pbx_json_walk.specs.Walk.{parts_in, elements_in, entry_key, entry_turn, item_turn};
 ghost use Rattle.pbx_json_reading_objects.specs.States.{state_of, entries_of};
 ghost use Rattle.pbx_json_reading.specs.Objects.{fields_object, member_turn, payload_object};
-ghost use Rattle.pbx_json_reading.specs.Results.{Tells};
+ghost use Rattle.pbx_json_reading.specs.Results.{IsResultOf};
 ghost use Rattle.pbx_json_reading_forms.specs.Holders.{own_of};
 
 use crate::opened::{is_left_out, list_items, map_members, object_members};
 use crate::reading::Reading;
 use crate::told::{
-    add_item, add_pair, as_held, held_by, is_passed, note_payload, note_read, packed, pass_key,
-    read_plain, shown_read,
+    add_item, add_pair, as_held, held_by, is_passed, note_payload, note_read, packed, read_plain,
+    shown_read, skip_or_refuse,
 };
 use pbx_codec::{Contents, Held, MapKey};
 use pbx_field_names::SchemaNames;
@@ -100,7 +100,7 @@ fn read_value(
     tree: &Value,
 ) -> Result<Option<Held>, JsonError>
     requires { AreNamesIn reading.now.schema.now names.old }
-    ensures told { Tells (option_map val_of) (answers reading.now.schema.now reading.now.allow (view tree.now) (asked_one kind)) result }
+    ensures told { IsResultOf (option_map val_of) (answers reading.now.schema.now reading.now.allow (view tree.now) (asked_one kind)) result }
     ensures names { AreNamesIn reading.now.schema.now names.new }
 {
     match kind {
@@ -119,7 +119,7 @@ fn read_message(
     tree: &Value,
 ) -> Result<Contents, JsonError>
     requires { AreNamesIn reading.now.schema.now names.old }
-    ensures told { Tells content_of (message_answer reading.now.schema.now reading.now.allow place (view tree.now)
+    ensures told { IsResultOf content_of (message_answer reading.now.schema.now reading.now.allow place (view tree.now)
         (elements_in reading.now.schema.now reading.now.allow (view tree.now))
         (parts_in reading.now.schema.now reading.now.allow (view tree.now))) result }
     ensures names { AreNamesIn reading.now.schema.now names.new }
@@ -156,7 +156,7 @@ fn read_parts(
     tree: &Value,
 ) -> Result<Contents, JsonError>
     requires { AreNamesIn reading.now.schema.now names.old }
-    ensures told { Tells content_of (own_answer reading.now.schema.now (Ok (own_of reading.now.schema.now own.entry)) (view tree.now)
+    ensures told { IsResultOf content_of (own_answer reading.now.schema.now (Ok (own_of reading.now.schema.now own.entry)) (view tree.now)
         (elements_in reading.now.schema.now reading.now.allow (view tree.now))
         (parts_in reading.now.schema.now reading.now.allow (view tree.now))) result }
     ensures names { AreNamesIn reading.now.schema.now names.new }
@@ -186,8 +186,8 @@ fn read_parts(
     }
 }
 
-/// What a tree is as an object of the fields of the type at a place, or where a payload stands beside the type of an `Any`, as such members
-/// beside that of the type; keys that name no field are skipped or not.
+/// What a tree is as an object of the fields of the type at a place. With `beside` it is the payload of an `Any`, and the key of the type of
+/// the `Any` is passed over. Keys that name no field are skipped or not.
 #[cycle(tree)]
 fn read_object(
     reading: &Reading<'_>,
@@ -199,7 +199,7 @@ fn read_object(
     tree: &Value,
 ) -> Result<Contents, JsonError>
     requires { AreNamesIn reading.now.schema.now names.old }
-    ensures told { Tells content_of (fields_object beside skips (declared_of reading.now.schema.now place) (view tree.now)
+    ensures told { IsResultOf content_of (fields_object beside skips (declared_of reading.now.schema.now place) (view tree.now)
         (parts_in reading.now.schema.now reading.now.allow (view tree.now))) result }
     ensures names { AreNamesIn reading.now.schema.now names.new }
 {
@@ -227,7 +227,7 @@ fn read_object(
     state.into_contents(reading.alloc)
 }
 
-/// What one key of an object of fields adds.
+/// What one key of an object of fields adds; that of the type adds nothing where a payload stands beside it.
 #[cycle(tree)]
 fn read_member(
     reading: &Reading<'_>,
@@ -241,7 +241,7 @@ fn read_member(
     state: &mut ObjectState,
 ) -> Result<(), JsonError>
     requires { AreNamesIn reading.now.schema.now names.old }
-    ensures told { Tells (λ u. state_of state.new) (member_turn beside skips (declared_of reading.now.schema.now place) key.now
+    ensures told { IsResultOf (λ u. state_of state.new) (member_turn beside skips (declared_of reading.now.schema.now place) key.now
         (answers reading.now.schema.now reading.now.allow (view tree.now)) (state_of state.old)) result }
     ensures names { AreNamesIn reading.now.schema.now names.new }
 {
@@ -268,7 +268,7 @@ fn read_field(
     tree: &Value,
 ) -> Result<Option<Held>, JsonError>
     requires { AreNamesIn reading.now.schema.now names.old }
-    ensures told { Tells (option_map val_of)
+    ensures told { IsResultOf (option_map val_of)
         (answers reading.now.schema.now reading.now.allow (view tree.now) (asked_field field.now)) result }
     ensures names { AreNamesIn reading.now.schema.now names.new }
 {
@@ -289,7 +289,7 @@ fn read_values(
     tree: &Value,
 ) -> Result<Option<Held>, JsonError>
     requires { AreNamesIn reading.now.schema.now names.old }
-    ensures told { Tells (option_map val_of) (target_answer reading.now.schema.now reading.now.allow
+    ensures told { IsResultOf (option_map val_of) (target_answer reading.now.schema.now reading.now.allow
         (target_by field.now field.now.cardinality) (view tree.now) (elements_in reading.now.schema.now reading.now.allow (view tree.now))
         (parts_in reading.now.schema.now reading.now.allow (view tree.now))) result }
     ensures names { AreNamesIn reading.now.schema.now names.new }
@@ -312,7 +312,7 @@ fn read_payload(
     tree: &Value,
 ) -> Result<Contents, JsonError>
     requires { AreNamesIn reading.now.schema.now names.old }
-    ensures told { Tells content_of (payload_object skips (Message place) (view tree.now)
+    ensures told { IsResultOf content_of (payload_object skips (Message place) (view tree.now)
         (parts_in reading.now.schema.now reading.now.allow (view tree.now))) result }
     ensures names { AreNamesIn reading.now.schema.now names.new }
 {
@@ -352,7 +352,7 @@ fn read_payload_member(
     found: &mut Option<Contents>,
 ) -> Result<(), JsonError>
     requires { AreNamesIn reading.now.schema.now names.old }
-    ensures told { Tells (λ u. option_map content_of found.new) (at_step (to_key key.now) (payload_turn skips (Message place) key.now
+    ensures told { IsResultOf (λ u. option_map content_of found.new) (at_step (to_key key.now) (payload_turn skips (Message place) key.now
         (answers reading.now.schema.now reading.now.allow (view tree.now)) (option_map content_of found.old))) result }
     ensures names { AreNamesIn reading.now.schema.now names.new }
 {
@@ -363,7 +363,7 @@ fn read_payload_member(
         let read = read_message(reading, names, levels, place, tree);
         return note_payload(reading, key, found, read);
     }
-    pass_key(reading, skips, key)
+    skip_or_refuse(reading, skips, key)
 }
 
 /// What a tree is as a list.
@@ -376,7 +376,7 @@ fn read_list(
     tree: &Value,
 ) -> Result<Option<Held>, JsonError>
     requires { AreNamesIn reading.now.schema.now names.old }
-    ensures told { Tells (option_map val_of) (list_answer kind (view tree.now)
+    ensures told { IsResultOf (option_map val_of) (list_answer kind (view tree.now)
         (elements_in reading.now.schema.now reading.now.allow (view tree.now))) result }
     ensures names { AreNamesIn reading.now.schema.now names.new }
 {
@@ -414,7 +414,7 @@ fn read_item(
     values: &mut List<Held>,
 ) -> Result<(), JsonError>
     requires { AreNamesIn reading.now.schema.now names.old }
-    ensures told { Tells (λ u. map val_of values.new) (item_turn kind index
+    ensures told { IsResultOf (λ u. map val_of values.new) (item_turn kind index
         (answers reading.now.schema.now reading.now.allow (view tree.now)) (map val_of values.old)) result }
     ensures names { AreNamesIn reading.now.schema.now names.new }
 {
@@ -433,7 +433,7 @@ fn read_map(
     tree: &Value,
 ) -> Result<Option<Held>, JsonError>
     requires { AreNamesIn reading.now.schema.now names.old }
-    ensures told { Tells (option_map val_of) (map_answer key_kind kind (view tree.now)
+    ensures told { IsResultOf (option_map val_of) (map_answer key_kind kind (view tree.now)
         (parts_in reading.now.schema.now reading.now.allow (view tree.now))) result }
     ensures names { AreNamesIn reading.now.schema.now names.new }
 {
@@ -473,7 +473,7 @@ fn read_entry(
     entries: &mut MapEntries,
 ) -> Result<(), JsonError>
     requires { AreNamesIn reading.now.schema.now names.old }
-    ensures told { Tells (λ u. entries_of entries.new) (at_step (to_key key.now) (entry_turn key_kind kind key.now
+    ensures told { IsResultOf (λ u. entries_of entries.new) (at_step (to_key key.now) (entry_turn key_kind kind key.now
         (answers reading.now.schema.now reading.now.allow (view tree.now)) (entries_of entries.old))) result }
     ensures names { AreNamesIn reading.now.schema.now names.new }
 {

@@ -1,4 +1,3 @@
-// What all of a tree is read by.
 use pbx_meaning::Schema;
 use std::alloc::Global;
 

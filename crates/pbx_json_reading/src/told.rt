@@ -14,7 +14,7 @@ ghost use Rattle.pbx_json_walk.specs.Walk.{with_present, with_entry};
 ghost use Rattle.pbx_json_reading_objects.specs.States.{state_of, entries_of};
 ghost use Rattle.pbx_json_reading_forms.specs.Holders.{held_in, packed_by};
 ghost use Rattle.pbx_json_reading.specs.Objects.{is_passed as is_passed_by};
-ghost use Rattle.pbx_json_reading.specs.Results.{Tells};
+ghost use Rattle.pbx_json_reading.specs.Results.{IsResultOf};
 
 use crate::reading::Reading;
 use pbx_codec::{Contents, Held, MapKey};
@@ -31,7 +31,7 @@ use serde_json::Value;
 
 /// A message as a value.
 pub(crate) fn as_held(read: Result<Contents, JsonError>) -> Result<Option<Held>, JsonError>
-    ensures { (a : Answer Content) → Tells content_of a read → Tells (option_map val_of) (answer_map as_value a) result }
+    ensures { (a : Answer Content) → IsResultOf content_of a read → IsResultOf (option_map val_of) (answer_map as_value a) result }
 {
     match read {
         Ok(contents) => Ok(Some(Held::Message(contents))),
@@ -47,7 +47,7 @@ pub(crate) fn read_plain(
     tree: &Value,
 ) -> Result<Option<Held>, JsonError>
     requires { AreNamesIn reading.now.schema.now names.old }
-    ensures told { Tells (option_map val_of) (or_here (scalar_read reading.now.schema.now reading.now.allow kind (view tree.now))) result }
+    ensures told { IsResultOf (option_map val_of) (or_here (scalar_read reading.now.schema.now reading.now.allow kind (view tree.now))) result }
     ensures names { AreNamesIn reading.now.schema.now names.new }
 {
     match read_scalar(
@@ -70,8 +70,8 @@ pub(crate) fn held_by(
     holder: Holder,
     read: Result<Option<Held>, JsonError>,
 ) -> Result<Contents, JsonError>
-    ensures { (a : Answer (Option Val)) → Tells (option_map val_of) a read
-        → Tells content_of (answer_map (held_in reading.now.schema.now holder) (answer_map (shown_of reading.now.schema.now false kind) a)) result }
+    ensures { (a : Answer (Option Val)) → IsResultOf (option_map val_of) a read
+        → IsResultOf content_of (answer_map (held_in reading.now.schema.now holder) (answer_map (shown_of reading.now.schema.now false kind) a)) result }
 {
     match read {
         Ok(held) => hold(reading.alloc, reading.schema, kind, holder, held),
@@ -85,8 +85,8 @@ pub(crate) fn packed(
     packing: Packing<'_>,
     read: Result<Contents, JsonError>,
 ) -> Result<Contents, JsonError>
-    ensures { (a : Answer Content) → Tells content_of a read
-        → Tells content_of (answer_map (packed_by reading.now.schema.now packing.entry) a) result }
+    ensures { (a : Answer Content) → IsResultOf content_of a read
+        → IsResultOf content_of (answer_map (packed_by reading.now.schema.now packing.entry) a) result }
 {
     match read {
         Ok(contents) => pack(reading.alloc, reading.schema, packing, contents),
@@ -100,8 +100,8 @@ pub(crate) fn shown_read(
     field: &FieldShape,
     read: Result<Option<Held>, JsonError>,
 ) -> Result<Option<Held>, JsonError>
-    ensures { (a : Answer (Option Val)) → Tells (option_map val_of) a read
-        → Tells (option_map val_of) (answer_map (shown_of reading.now.schema.now (has_presence field.now) field.now.kind) a) result }
+    ensures { (a : Answer (Option Val)) → IsResultOf (option_map val_of) a read
+        → IsResultOf (option_map val_of) (answer_map (shown_of reading.now.schema.now (has_presence field.now) field.now.kind) a) result }
 {
     match read {
         Ok(held) => Ok(shown(reading.schema, field, held)),
@@ -124,8 +124,8 @@ pub(crate) fn note_read(
     field: &FieldShape,
     read: Result<Option<Held>, JsonError>,
 ) -> Result<(), JsonError>
-    ensures { (a : Answer (Option Val)) → Tells (option_map val_of) a read
-        → Tells (λ u. state_of state.new) (at_step (to_key key.now) (and_then a (noted field.now (state_of state.old)))) result }
+    ensures { (a : Answer (Option Val)) → IsResultOf (option_map val_of) a read
+        → IsResultOf (λ u. state_of state.new) (at_step (to_key key.now) (and_then a (noted field.now (state_of state.old)))) result }
 {
     match read {
         Ok(held) => note_at(reading.alloc, key, state, field, held),
@@ -133,9 +133,9 @@ pub(crate) fn note_read(
     }
 }
 
-/// What a key does that names no part of a payload.
-pub(crate) fn pass_key(reading: &Reading<'_>, skips: bool, key: &str) -> Result<(), JsonError>
-    ensures { (o : Option Content) → Tells (λ u. o) (at_step (to_key key.now) (if skips then Ok o else here NoField)) result }
+/// Skips a key that names no part of a payload, or tells that it names none.
+pub(crate) fn skip_or_refuse(reading: &Reading<'_>, skips: bool, key: &str) -> Result<(), JsonError>
+    ensures { (o : Option Content) → IsResultOf (λ u. o) (at_step (to_key key.now) (if skips then Ok o else here NoField)) result }
 {
     if skips {
         Ok(())
@@ -151,8 +151,8 @@ pub(crate) fn note_payload(
     found: &mut Option<Contents>,
     read: Result<Contents, JsonError>,
 ) -> Result<(), JsonError>
-    ensures { (a : Answer Content) → Tells content_of a read
-        → Tells (λ u. option_map content_of found.new) (at_step (to_key key.now) (answer_map message_found (answer_map as_value a))) result }
+    ensures { (a : Answer Content) → IsResultOf content_of a read
+        → IsResultOf (λ u. option_map content_of found.new) (at_step (to_key key.now) (answer_map message_found (answer_map as_value a))) result }
 {
     match read {
         Ok(contents) => {
@@ -170,8 +170,8 @@ pub(crate) fn add_item(
     values: &mut List<Held>,
     read: Result<Option<Held>, JsonError>,
 ) -> Result<(), JsonError>
-    ensures { (a : Answer (Option Val)) → Tells (option_map val_of) a read
-        → Tells (λ u. map val_of values.new) (at_step (to_index index) (answer_map (λ o. with_present o (map val_of values.old)) a)) result }
+    ensures { (a : Answer (Option Val)) → IsResultOf (option_map val_of) a read
+        → IsResultOf (λ u. map val_of values.new) (at_step (to_index index) (answer_map (λ o. with_present o (map val_of values.old)) a)) result }
 {
     match read {
         Ok(held) => add_value(reading.alloc, values, held),
@@ -187,8 +187,8 @@ pub(crate) fn add_pair(
     map_key: MapKey,
     read: Result<Option<Held>, JsonError>,
 ) -> Result<(), JsonError>
-    ensures { (a : Answer (Option Val)) → Tells (option_map val_of) a read
-        → Tells (λ u. entries_of entries.new) (at_step (to_key key.now) (answer_map (with_entry (key_of map_key) (entries_of entries.old)) a)) result }
+    ensures { (a : Answer (Option Val)) → IsResultOf (option_map val_of) a read
+        → IsResultOf (λ u. entries_of entries.new) (at_step (to_key key.now) (answer_map (with_entry (key_of map_key) (entries_of entries.old)) a)) result }
 {
     match read {
         Ok(held) => add_entry(reading.alloc, entries, map_key, held),

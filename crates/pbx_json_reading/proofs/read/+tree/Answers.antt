@@ -166,7 +166,7 @@ read_payload_member-returns-clause-told t c =
     let S = c.args.reading.now.schema.now in
     let A = c.args.reading.now.allow in
     let d = view c.args.tree.now in
-    told_by _ _ _ c.pass_key.result (c.pass_key.ensures (option_map content_of c.args.found.now))
+    told_by _ _ _ c.skip_or_refuse.result (c.skip_or_refuse.ensures (option_map content_of c.args.found.now))
     (ap (at_step (to_key c.args.key.now)) (payload_other c.args.skips (Message c.args.place) c.args.key.now (answers S A d) (option_map content_of c.args.found.now) (sym c.is_type_key.ensures ∙ c.if-is_type_key.false) (sym c.is_value_key.ensures ∙ c.if-is_value_key.false)))
 
 pub read_value-returns-in-Message-clause-told : goal.read_value-returns-in-Message-clause-told
