@@ -1,3 +1,4 @@
 pub mod Names
 pub mod Empty
 pub mod Members
+pub mod Answered

@@ -24,17 +24,20 @@ use Rattle.pbx_meaning.specs.Shape.{is_float}
 use Rattle.pbx_meaning.specs.declared.shape.Kind.{Kind}
 use Rattle.pbx_meaning.specs.declared.shape.Shape.{Shape}
 use Rattle.std.proofs.Common.{if◌then◌else◌}
-use Rattle.pbx_json_meaning.specs.declared.kind.JsonKind.TheVariants.{NoMemory}
+use Rattle.pbx_json_meaning.specs.declared.kind.JsonKind.TheVariants.{NoMemory, UnknownField}
 use Rattle.pbx_json_walk.specs.Opened.{members_of_map, members_if_none, members_in}
 use Rattle.pbx_json_walk.specs.Walk.{Answer, answer_map, and_then, or_here, are_ascending, members_answer, message_answer, content_found, walk, start, parts, elements_in, parts_in}
 use Rattle.pbx_meaning.specs.declared.shape.FieldShape.{FieldShape}
 use Rattle.std.specs.Prelude.{not}
 use Rattle.pbx_json_meaning.specs.Names.{field_named}
-use Rattle.pbx_json_meaning.specs.Urls.{is_type_key}
+use Rattle.pbx_json_meaning.specs.Urls.{is_type_key, is_value_key}
+use Rattle.pbx_json_meaning.specs.Asked.{field, one}
+use Rattle.std.proofs.Common.{Option, Some}
+use Rattle.pbx_json_walk.specs.Walk.{Answers, key_judged, noted, field_turn, payload_turn, message_found, here}
 use Rattle.pbx_json_meaning.specs.declared.place.Step.TheVariants.{Key as to_key}
 use Rattle.pbx_json_walk.specs.Walk.{Part, State, at_step, turn, beside_type, beside_answer, walk_payload, payload_found, payload_answer}
 use Rattle.pbx_json_walk_laws.proofs.Beside.{ascending_without}
-use Rattle.pbx_json_reading.specs.Objects.{object_answer, beside_object, beside_turn, payload_object}
+use Rattle.pbx_json_reading.specs.Objects.{object_answer, beside_object, fields_object, is_passed, parts_read, member_turn, payload_object}
 use Rattle.pbx_json_walk.specs.Walk.{map_answer, map_value, walk_entries, no_entries, entries_answer}
 
 above_from_sorted : (k : String Global) (v : Value) (ms : List (String Global × Value)) → IsStrictlySortedBy string_cmp (keys_of ((k, v) ∷ ms))
@@ -77,15 +80,50 @@ beside_walk shape allow skip fs d ms sorted h =
     ∙ ap (λ ps. beside_answer skip fs ps (members_view ms)) (object_parts shape allow d (members_view ms) h)
     ∙ rw (ascending_without (members_view ms) (ascending ms sorted)) refl
 
--- the first of them
-pub beside_first : (skip : Bool) (fs : List FieldShape) (p : Part) (ps : List Part) (s : State)
-    → walk skip fs (beside_type (p ∷ ps)) s ≡ and_then (beside_turn skip fs p.key p.answers s) (walk skip fs (beside_type ps))
-beside_first skip fs p ps s = at (is_type_key p.key)
+-- where no key is passed over, each is read
+all_read : (ps : List Part) → ps ≡ parts_read false ps
+all_read [] = refl
+all_read (p ∷ ps) = ap (λ qs. p ∷ qs) (all_read ps)
+
+-- the one or the other
+pub fields_walk : (beside : Bool) (shape : Shape) (allow skip : Bool) (fs : List FieldShape) (d : Data) (ms : List (String Global × Value)) → IsStrictlySortedBy string_cmp (keys_of ms)
+    → Ok (members_view ms) ≡ members_in d
+    → fields_object beside skip fs d (parts_in shape allow d) ≡ answer_map content_found (walk skip fs (parts_read beside (parts shape allow (members_view ms))) start)
+fields_walk true shape allow skip fs d ms sorted h = beside_walk shape allow skip fs d ms sorted h
+fields_walk false shape allow skip fs d ms sorted h =
+    object_walk shape allow skip fs d ms sorted h ∙ ap (λ ps. answer_map content_found (walk skip fs ps start)) (all_read (parts shape allow (members_view ms)))
+
+-- the first of its keys
+pub fields_first : (beside skip : Bool) (fs : List FieldShape) (p : Part) (ps : List Part) (s : State)
+    → walk skip fs (parts_read beside (p ∷ ps)) s ≡ and_then (member_turn beside skip fs p.key p.answers s) (walk skip fs (parts_read beside ps))
+fields_first beside skip fs p ps s = at (is_passed beside p.key)
   where
-    at : (b : Bool) → walk skip fs (if not b then p ∷ beside_type ps else beside_type ps) s
-        ≡ and_then (if b then Ok s else at_step (to_key p.key) (turn skip (field_named p.key fs) p.answers s)) (walk skip fs (beside_type ps))
+    at : (b : Bool) → walk skip fs (if not b then p ∷ parts_read beside ps else parts_read beside ps) s
+        ≡ and_then (if b then Ok s else at_step (to_key p.key) (turn skip (field_named p.key fs) p.answers s)) (walk skip fs (parts_read beside ps))
     at true = refl
     at false = refl
+
+-- a key that names a field
+pub member_read : (beside skip : Bool) (fs : List FieldShape) (key : List ℕ) (as' : Answers) (s : State) (f : FieldShape)
+    → is_passed beside key ≡ false → key_judged skip (field_named key fs) s ≡ Ok (Some f)
+    → member_turn beside skip fs key as' s ≡ at_step (to_key key) (and_then (as' (field f)) (noted f s))
+member_read beside skip fs key as' s f kept is =
+    ap (λ b. if b then Ok s else at_step (to_key key) (turn skip (field_named key fs) as' s)) kept
+    ∙ ap (λ r. at_step (to_key key) (and_then (or_here r) (field_turn as' s))) is
+
+-- the key of a payload
+pub payload_value : (skip : Bool) (k : Kind) (key : List ℕ) (as' : Answers) (found : Option Content) → is_type_key key ≡ false → is_value_key key ≡ true
+    → payload_turn skip k key as' found ≡ answer_map message_found (as' (one k))
+payload_value skip k key as' found kept is =
+    ap (λ b. if b then Ok found else if is_value_key key then answer_map message_found (as' (one k)) else if skip then Ok found else here UnknownField) kept
+    ∙ ap (λ b. if b then answer_map message_found (as' (one k)) else if skip then Ok found else here UnknownField) is
+
+-- another key beside a payload
+pub payload_other : (skip : Bool) (k : Kind) (key : List ℕ) (as' : Answers) (found : Option Content) → is_type_key key ≡ false → is_value_key key ≡ false
+    → payload_turn skip k key as' found ≡ (if skip then Ok found else here UnknownField)
+payload_other skip k key as' found kept is =
+    ap (λ b. if b then Ok found else if is_value_key key then answer_map message_found (as' (one k)) else if skip then Ok found else here UnknownField) kept
+    ∙ ap (λ b. if b then answer_map message_found (as' (one k)) else if skip then Ok found else here UnknownField) is
 
 -- the payload of an `Any`
 pub payload_walk : (shape : Shape) (allow skip : Bool) (k : Kind) (d : Data) (ms : List (String Global × Value)) → IsStrictlySortedBy string_cmp (keys_of ms)
@@ -122,16 +160,6 @@ map_walk shape allow kk vk d ms sorted h =
 pub fault_from : {X Y : Type 0} (a : Answer X) (b : Answer Y) (e : JsonError) → IsFaultOf a e → (a ≡ Err e → b ≡ Err e) → IsFaultOf b e
 fault_from a b e (inl n) f = inl n
 fault_from a b e (inr is) f = inr (f is)
-
--- what follows of a value that there is
-pub on_if_ok : {T E : Type 0} (r : Result T E) (P Q : T → Type 0) → ((x : T) → P x → Q x) → IfOk r P → IfOk r Q
-on_if_ok (Ok x) P Q f h = f x h
-on_if_ok (Err e) P Q f h = tt
-
--- what follows of an error that there is
-pub on_if_err : {T E : Type 0} (r : Result T E) (P Q : E → Type 0) → ((e : E) → P e → Q e) → IfErr r P → IfErr r Q
-on_if_err (Ok x) P Q f h = tt
-on_if_err (Err e) P Q f h = f e h
 
 -- ---- what the answers tell
 

@@ -1,5 +1,5 @@
 -- What a tree is as an object of fields.
-use Rattle.std.specs.Prelude.{ℕ, List, Bool, if◌then◌else◌, Ok}
+use Rattle.std.specs.Prelude.{ℕ, List, Bool, if◌then◌else◌, true, false, not, ◌&&◌, filter, Ok}
 use Rattle.serde_json.specs.Data.{Data}
 use Rattle.pbx_meaning.specs.Content.{Content}
 use Rattle.pbx_meaning.specs.declared.shape.FieldShape.{FieldShape}
@@ -18,9 +18,23 @@ object_answer skips fs d ps = and_then (or_here (members_in d)) (members_answer 
 abbrev pub beside_object : Bool → List FieldShape → Data → List Part → Answer Content
 beside_object skips fs d ps = and_then (or_here (members_in d)) (beside_answer skips fs ps)
 
+-- the one or the other of these
+abbrev pub fields_object : Bool → Bool → List FieldShape → Data → List Part → Answer Content
+fields_object true skips fs d ps = beside_object skips fs d ps
+fields_object false skips fs d ps = object_answer skips fs d ps
+
+-- a key is passed over, as that of the type is where a payload stands beside it
+abbrev pub is_passed : Bool → List ℕ → Bool
+is_passed beside key = beside && is_type_key key
+
+-- the keys that are read of such an object
+abbrev pub parts_read : Bool → List Part → List Part
+parts_read beside ps = filter (λ p. not (is_passed beside p.key)) ps
+
 -- what one key of such an object does
-abbrev pub beside_turn : Bool → List FieldShape → List ℕ → Answers → State → Answer State
-beside_turn skips fs key answers s = if is_type_key key then Ok s else at_step (to_key key) (turn skips (field_named key fs) answers s)
+abbrev pub member_turn : Bool → Bool → List FieldShape → List ℕ → Answers → State → Answer State
+member_turn beside skips fs key answers s =
+    if is_passed beside key then Ok s else at_step (to_key key) (turn skips (field_named key fs) answers s)
 
 -- the payload of a kind under `value`
 abbrev pub payload_object : Bool → Kind → Data → List Part → Answer Content

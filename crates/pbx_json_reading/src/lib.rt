@@ -3,5 +3,7 @@
 
 mod opened;
 mod read;
+mod reading;
+mod told;
 
 pub use read::read_content;

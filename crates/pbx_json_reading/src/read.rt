@@ -1,4 +1,4 @@
-ghost use Rattle.std.specs.Prelude.{◌≡◌, ◌⊎◌, None, Ok, Err, not, OnOk, IfOk, IfErr, option_map, map};
+ghost use Rattle.std.specs.Prelude.{◌≡◌, ◌⊎◌, None, Ok, Err, not, IfOk, IfErr, option_map, map};
 ghost use Rattle.serde_json.specs.View.{view};
 ghost use Rattle.pbx_meaning.specs.Shape.{declared_of};
 ghost use Rattle.pbx_meaning.specs.declared.shape.Kind.TheVariants.{Message};
@@ -10,28 +10,29 @@ ghost use Rattle.pbx_json_meaning.specs.Faults.{FirstJsonFault};
 ghost use Rattle.pbx_json_meaning.specs.declared.kind.JsonKind.TheVariants.{NoMemory as OutOfMemory};
 ghost use Rattle.pbx_json_meaning.specs.declared.place.Step.TheVariants.{Key as to_key};
 ghost use Rattle.pbx_field_names.specs.Index.{AreNamesIn};
-ghost use Rattle.pbx_json_walk.specs.Walk.{IsFaultOf, answer_map, answers, at_step, key_judged, message_found, payload_turn};
-ghost use Rattle.pbx_json_walk.specs.Walk.{turn, message_answer, own_answer, value_answer, list_answer, map_answer, target_answer};
+ghost use Rattle.pbx_json_walk.specs.Walk.{answers, at_step, key_judged, payload_turn};
+ghost use Rattle.pbx_json_walk.specs.Walk.{message_answer, own_answer, list_answer, map_answer, target_answer};
 ghost use Rattle.pbx_json_walk.specs.Walk.{parts_in, elements_in, entry_key, entry_turn, item_turn};
 ghost use Rattle.pbx_json_reading_objects.specs.States.{state_of, entries_of};
-ghost use Rattle.pbx_json_reading.specs.Objects.{object_answer, beside_object, beside_turn, payload_object};
+ghost use Rattle.pbx_json_reading.specs.Objects.{fields_object, member_turn, payload_object};
+ghost use Rattle.pbx_json_reading.specs.Results.{IsResultOf};
 ghost use Rattle.pbx_json_reading_forms.specs.Holders.{own_of};
-ghost use Rattle.pbx_json_reading_forms.specs.declared.holders.Own.TheVariants.{Elements, Members, Beside, Under};
 
 use crate::opened::{is_left_out, list_items, map_members, object_members};
+use crate::reading::Reading;
+use crate::told::{
+    add_item, add_pair, as_held, held_by, is_passed, note_payload, note_read, packed, read_plain,
+    shown_read, skip_or_refuse,
+};
 use pbx_codec::{Contents, Held, MapKey};
 use pbx_field_names::SchemaNames;
 use pbx_json_kinds::{is_object_form, kind_at};
 use pbx_json_meaning::{DeserializeOptions, JsonError, JsonKind};
 use pbx_json_reading_forms::{
-    Holder, Own, Packing, hold, is_type_key, is_value_key, pack, payload_found, read_own, shown,
-    skips_keys,
+    Own, Packing, is_type_key, is_value_key, payload_found, read_own, skips_keys,
 };
-use pbx_json_reading_objects::{
-    MapEntries, ObjectState, add_entry, add_value, at_key, at_tree, below_index, below_key,
-    map_held, note_at,
-};
-use pbx_json_reading_scalars::{read_key, read_scalar};
+use pbx_json_reading_objects::{MapEntries, ObjectState, at_key, at_tree, map_held};
+use pbx_json_reading_scalars::read_key;
 use pbx_json_walk_laws::{fault_is_first, message_is_told};
 use pbx_meaning::{Cardinality, FieldShape, Kind, Schema};
 use pbx_well_known::form_of;
@@ -41,15 +42,6 @@ use std::alloc::Global;
 
 /// How many messages may nest: the top and 1,024 levels below it.
 const LEVELS: u32 = 1025;
-
-/// What all of a tree is read by.
-#[derive(Drop)]
-pub(crate) struct Reading<'s> {
-    alloc: Global,
-    schema: &'s Schema,
-    /// Whether keys and names of enums that name nothing are skipped.
-    allow: bool,
-}
 
 /// What the key of an object names, and whether it may be read: None where it is skipped.
 fn named_field<'s>(
@@ -108,30 +100,12 @@ fn read_value(
     tree: &Value,
 ) -> Result<Option<Held>, JsonError>
     requires { AreNamesIn reading.now.schema.now names.old }
-    ensures ok { IfOk result (λ r. value_answer reading.now.schema.now reading.now.allow kind (view tree.now)
-        (elements_in reading.now.schema.now reading.now.allow (view tree.now))
-        (parts_in reading.now.schema.now reading.now.allow (view tree.now)) ≡ Ok (option_map val_of r)) }
-    ensures err { IfErr result (λ e. IsFaultOf (value_answer reading.now.schema.now reading.now.allow kind (view tree.now)
-        (elements_in reading.now.schema.now reading.now.allow (view tree.now))
-        (parts_in reading.now.schema.now reading.now.allow (view tree.now))) e) }
+    ensures told { IsResultOf (option_map val_of) (answers reading.now.schema.now reading.now.allow (view tree.now) (asked_one kind)) result }
     ensures names { AreNamesIn reading.now.schema.now names.new }
 {
     match kind {
-        Kind::Message(place) => match read_message(reading, names, levels, place, tree) {
-            Ok(contents) => Ok(Some(Held::Message(contents))),
-            Err(error) => Err(error),
-        },
-        _ => match read_scalar(
-            reading.alloc,
-            reading.schema,
-            names,
-            reading.allow,
-            kind,
-            tree,
-        ) {
-            Ok(held) => Ok(held),
-            Err(rule) => Err(at_tree(reading.alloc, rule)),
-        },
+        Kind::Message(place) => as_held(read_message(reading, names, levels, place, tree)),
+        _ => read_plain(reading, names, kind, tree),
     }
 }
 
@@ -145,12 +119,9 @@ fn read_message(
     tree: &Value,
 ) -> Result<Contents, JsonError>
     requires { AreNamesIn reading.now.schema.now names.old }
-    ensures ok { IfOk result (λ r. message_answer reading.now.schema.now reading.now.allow place (view tree.now)
+    ensures told { IsResultOf content_of (message_answer reading.now.schema.now reading.now.allow place (view tree.now)
         (elements_in reading.now.schema.now reading.now.allow (view tree.now))
-        (parts_in reading.now.schema.now reading.now.allow (view tree.now)) ≡ Ok (content_of r)) }
-    ensures err { IfErr result (λ e. IsFaultOf (message_answer reading.now.schema.now reading.now.allow place (view tree.now)
-        (elements_in reading.now.schema.now reading.now.allow (view tree.now))
-        (parts_in reading.now.schema.now reading.now.allow (view tree.now))) e) }
+        (parts_in reading.now.schema.now reading.now.allow (view tree.now))) result }
     ensures names { AreNamesIn reading.now.schema.now names.new }
 {
     if levels == 0 {
@@ -159,7 +130,7 @@ fn read_message(
     let form = form_of(reading.schema, place);
     if is_object_form(form) {
         let skips = skips_keys(form, reading.allow);
-        return read_object(reading, names, levels - 1, place, skips, tree);
+        return read_object(reading, names, levels - 1, place, skips, false, tree);
     }
     match read_own(
         reading.alloc,
@@ -185,63 +156,51 @@ fn read_parts(
     tree: &Value,
 ) -> Result<Contents, JsonError>
     requires { AreNamesIn reading.now.schema.now names.old }
-    ensures ok { IfOk result (λ r. own_answer reading.now.schema.now (Ok (own_of reading.now.schema.now own.entry)) (view tree.now)
+    ensures told { IsResultOf content_of (own_answer reading.now.schema.now (Ok (own_of reading.now.schema.now own.entry)) (view tree.now)
         (elements_in reading.now.schema.now reading.now.allow (view tree.now))
-        (parts_in reading.now.schema.now reading.now.allow (view tree.now)) ≡ Ok (content_of r)) }
-    ensures err { IfErr result (λ e. IsFaultOf (own_answer reading.now.schema.now (Ok (own_of reading.now.schema.now own.entry)) (view tree.now)
-        (elements_in reading.now.schema.now reading.now.allow (view tree.now))
-        (parts_in reading.now.schema.now reading.now.allow (view tree.now))) e) }
+        (parts_in reading.now.schema.now reading.now.allow (view tree.now))) result }
     ensures names { AreNamesIn reading.now.schema.now names.new }
 {
     match own {
         Own::Whole(contents) => Ok(contents),
-        Own::Elements(holder) => read_elements(reading, names, levels, holder, tree),
-        Own::Members(holder) => read_members(reading, names, levels, holder, tree),
-        Own::Beside(packing) => read_beside(reading, names, levels, packing, tree),
-        Own::Under(packing) => read_under(reading, names, levels, packing, tree),
+        Own::Elements(holder) => {
+            let kind = kind_at(reading.schema, holder.place, 1);
+            let read = read_list(reading, names, levels, kind, tree);
+            held_by(reading, kind, holder, read)
+        }
+        Own::Members(holder) => {
+            let kind = kind_at(reading.schema, holder.place, 1);
+            let read = read_map(reading, names, levels, Kind::String, kind, tree);
+            held_by(reading, kind, holder, read)
+        }
+        Own::Beside(packing) => {
+            let Packing { payload, skips, .. } = packing;
+            let read = read_object(reading, names, levels, payload, skips, true, tree);
+            packed(reading, packing, read)
+        }
+        Own::Under(packing) => {
+            let Packing { payload, skips, .. } = packing;
+            let read = read_payload(reading, names, levels, payload, skips, tree);
+            packed(reading, packing, read)
+        }
     }
 }
 
-/// What a tree is as an `Any` whose payload stands beside the type.
+/// What a tree is as an object of the fields of the type at a place. With `beside` it is the payload of an `Any`, and the key of the type of
+/// the `Any` is passed over. Keys that name no field are skipped or not.
 #[cycle(tree)]
-fn read_beside(
-    reading: &Reading<'_>,
-    names: &mut SchemaNames,
-    levels: u32,
-    packing: Packing<'_>,
-    tree: &Value,
-) -> Result<Contents, JsonError>
-    requires { AreNamesIn reading.now.schema.now names.old }
-    ensures ok { IfOk result (λ r. own_answer reading.now.schema.now (Ok (own_of reading.now.schema.now (Beside packing.entry))) (view tree.now)
-        (elements_in reading.now.schema.now reading.now.allow (view tree.now))
-        (parts_in reading.now.schema.now reading.now.allow (view tree.now)) ≡ Ok (content_of r)) }
-    ensures err { IfErr result (λ e. IsFaultOf (own_answer reading.now.schema.now (Ok (own_of reading.now.schema.now (Beside packing.entry))) (view tree.now)
-        (elements_in reading.now.schema.now reading.now.allow (view tree.now))
-        (parts_in reading.now.schema.now reading.now.allow (view tree.now))) e) }
-    ensures names { AreNamesIn reading.now.schema.now names.new }
-{
-    let Packing { payload, skips, .. } = packing;
-    match read_rest(reading, names, levels, payload, skips, tree) {
-        Ok(contents) => pack(reading.alloc, reading.schema, packing, contents),
-        Err(error) => Err(error),
-    }
-}
-
-/// What the members of a tree but that of the type are as an object of the fields of the type at a place.
-#[cycle(tree)]
-fn read_rest(
+fn read_object(
     reading: &Reading<'_>,
     names: &mut SchemaNames,
     levels: u32,
     place: usize,
     skips: bool,
+    beside: bool,
     tree: &Value,
 ) -> Result<Contents, JsonError>
     requires { AreNamesIn reading.now.schema.now names.old }
-    ensures ok { IfOk result (λ r. beside_object skips (declared_of reading.now.schema.now place) (view tree.now)
-        (parts_in reading.now.schema.now reading.now.allow (view tree.now)) ≡ Ok (content_of r)) }
-    ensures err { IfErr result (λ e. IsFaultOf (beside_object skips (declared_of reading.now.schema.now place) (view tree.now)
-        (parts_in reading.now.schema.now reading.now.allow (view tree.now))) e) }
+    ensures told { IsResultOf content_of (fields_object beside skips (declared_of reading.now.schema.now place) (view tree.now)
+        (parts_in reading.now.schema.now reading.now.allow (view tree.now))) result }
     ensures names { AreNamesIn reading.now.schema.now names.new }
 {
     let members = match object_members(tree) {
@@ -250,12 +209,13 @@ fn read_rest(
     };
     let mut state = ObjectState::new(reading.alloc);
     for (key, member) in members.iter() {
-        if let Err(error) = read_rest_member(
+        if let Err(error) = read_member(
             reading,
             names,
             levels,
             place,
             skips,
+            beside,
             key.as_str(),
             member,
             &mut state,
@@ -267,53 +227,77 @@ fn read_rest(
     state.into_contents(reading.alloc)
 }
 
-/// What one key adds, which adds nothing where it is that of the type.
+/// What one key of an object of fields adds; that of the type adds nothing where a payload stands beside it.
 #[cycle(tree)]
-fn read_rest_member(
+fn read_member(
     reading: &Reading<'_>,
     names: &mut SchemaNames,
     levels: u32,
     place: usize,
     skips: bool,
+    beside: bool,
     key: &str,
     tree: &Value,
     state: &mut ObjectState,
 ) -> Result<(), JsonError>
     requires { AreNamesIn reading.now.schema.now names.old }
-    ensures ok { OnOk result (beside_turn skips (declared_of reading.now.schema.now place) key.now
-        (answers reading.now.schema.now reading.now.allow (view tree.now)) (state_of state.old) ≡ Ok (state_of state.new)) }
-    ensures err { IfErr result (λ e. IsFaultOf (beside_turn skips (declared_of reading.now.schema.now place) key.now
-        (answers reading.now.schema.now reading.now.allow (view tree.now)) (state_of state.old)) e) }
+    ensures told { IsResultOf (λ u. state_of state.new) (member_turn beside skips (declared_of reading.now.schema.now place) key.now
+        (answers reading.now.schema.now reading.now.allow (view tree.now)) (state_of state.old)) result }
     ensures names { AreNamesIn reading.now.schema.now names.new }
 {
-    if is_type_key(key) {
+    if is_passed(beside, key) {
         return Ok(());
     }
-    read_member(reading, names, levels, place, skips, key, tree, state)
+    match named_field(reading, names, place, skips, key, state) {
+        Ok(Some(field)) => {
+            let read = read_field(reading, names, levels, field, tree);
+            note_read(reading, key, state, field, read)
+        }
+        Ok(None) => Ok(()),
+        Err(rule) => Err(at_key(reading.alloc, key, rule)),
+    }
 }
 
-/// What a tree is as an `Any` whose payload stands under `value`.
+/// What a tree is for a field: None where the field is absent.
 #[cycle(tree)]
-fn read_under(
+fn read_field(
     reading: &Reading<'_>,
     names: &mut SchemaNames,
     levels: u32,
-    packing: Packing<'_>,
+    field: &FieldShape,
     tree: &Value,
-) -> Result<Contents, JsonError>
+) -> Result<Option<Held>, JsonError>
     requires { AreNamesIn reading.now.schema.now names.old }
-    ensures ok { IfOk result (λ r. own_answer reading.now.schema.now (Ok (own_of reading.now.schema.now (Under packing.entry))) (view tree.now)
-        (elements_in reading.now.schema.now reading.now.allow (view tree.now))
-        (parts_in reading.now.schema.now reading.now.allow (view tree.now)) ≡ Ok (content_of r)) }
-    ensures err { IfErr result (λ e. IsFaultOf (own_answer reading.now.schema.now (Ok (own_of reading.now.schema.now (Under packing.entry))) (view tree.now)
-        (elements_in reading.now.schema.now reading.now.allow (view tree.now))
-        (parts_in reading.now.schema.now reading.now.allow (view tree.now))) e) }
+    ensures told { IsResultOf (option_map val_of)
+        (answers reading.now.schema.now reading.now.allow (view tree.now) (asked_field field.now)) result }
     ensures names { AreNamesIn reading.now.schema.now names.new }
 {
-    let Packing { payload, skips, .. } = packing;
-    match read_payload(reading, names, levels, payload, skips, tree) {
-        Ok(contents) => pack(reading.alloc, reading.schema, packing, contents),
-        Err(error) => Err(error),
+    if is_left_out(reading.schema, field, tree) {
+        return Ok(None);
+    }
+    let read = read_values(reading, names, levels, field, tree);
+    shown_read(reading, field, read)
+}
+
+/// What a tree is as the values that a field may have.
+#[cycle(tree)]
+fn read_values(
+    reading: &Reading<'_>,
+    names: &mut SchemaNames,
+    levels: u32,
+    field: &FieldShape,
+    tree: &Value,
+) -> Result<Option<Held>, JsonError>
+    requires { AreNamesIn reading.now.schema.now names.old }
+    ensures told { IsResultOf (option_map val_of) (target_answer reading.now.schema.now reading.now.allow
+        (target_by field.now field.now.cardinality) (view tree.now) (elements_in reading.now.schema.now reading.now.allow (view tree.now))
+        (parts_in reading.now.schema.now reading.now.allow (view tree.now))) result }
+    ensures names { AreNamesIn reading.now.schema.now names.new }
+{
+    match field.cardinality {
+        Cardinality::Singular => read_value(reading, names, levels, field.kind, tree),
+        Cardinality::Repeated => read_list(reading, names, levels, field.kind, tree),
+        Cardinality::Map(key) => read_map(reading, names, levels, key, field.kind, tree),
     }
 }
 
@@ -328,10 +312,8 @@ fn read_payload(
     tree: &Value,
 ) -> Result<Contents, JsonError>
     requires { AreNamesIn reading.now.schema.now names.old }
-    ensures ok { IfOk result (λ r. payload_object skips (Message place) (view tree.now)
-        (parts_in reading.now.schema.now reading.now.allow (view tree.now)) ≡ Ok (content_of r)) }
-    ensures err { IfErr result (λ e. IsFaultOf (payload_object skips (Message place) (view tree.now)
-        (parts_in reading.now.schema.now reading.now.allow (view tree.now))) e) }
+    ensures told { IsResultOf content_of (payload_object skips (Message place) (view tree.now)
+        (parts_in reading.now.schema.now reading.now.allow (view tree.now))) result }
     ensures names { AreNamesIn reading.now.schema.now names.new }
 {
     let members = match object_members(tree) {
@@ -370,221 +352,18 @@ fn read_payload_member(
     found: &mut Option<Contents>,
 ) -> Result<(), JsonError>
     requires { AreNamesIn reading.now.schema.now names.old }
-    ensures ok { OnOk result (at_step (to_key key.now) (payload_turn skips (Message place) key.now
-        (answers reading.now.schema.now reading.now.allow (view tree.now)) (option_map content_of found.old))
-        ≡ Ok (option_map content_of found.new)) }
-    ensures err { IfErr result (λ e. IsFaultOf (at_step (to_key key.now) (payload_turn skips (Message place) key.now
-        (answers reading.now.schema.now reading.now.allow (view tree.now)) (option_map content_of found.old))) e) }
+    ensures told { IsResultOf (λ u. option_map content_of found.new) (at_step (to_key key.now) (payload_turn skips (Message place) key.now
+        (answers reading.now.schema.now reading.now.allow (view tree.now)) (option_map content_of found.old))) result }
     ensures names { AreNamesIn reading.now.schema.now names.new }
 {
     if is_type_key(key) {
         return Ok(());
     }
     if is_value_key(key) {
-        return read_payload_value(reading, names, levels, place, key, tree, found);
+        let read = read_message(reading, names, levels, place, tree);
+        return note_payload(reading, key, found, read);
     }
-    if skips {
-        Ok(())
-    } else {
-        Err(at_key(reading.alloc, key, JsonKind::UnknownField))
-    }
-}
-
-/// What the key of a payload adds.
-#[cycle(tree)]
-fn read_payload_value(
-    reading: &Reading<'_>,
-    names: &mut SchemaNames,
-    levels: u32,
-    place: usize,
-    key: &str,
-    tree: &Value,
-    found: &mut Option<Contents>,
-) -> Result<(), JsonError>
-    requires { AreNamesIn reading.now.schema.now names.old }
-    ensures ok { OnOk result (at_step (to_key key.now) (answer_map message_found (answers reading.now.schema.now reading.now.allow
-        (view tree.now) (asked_one (Message place)))) ≡ Ok (option_map content_of found.new)) }
-    ensures err { IfErr result (λ e. IsFaultOf (at_step (to_key key.now) (answer_map message_found (answers reading.now.schema.now
-        reading.now.allow (view tree.now) (asked_one (Message place))))) e) }
-    ensures names { AreNamesIn reading.now.schema.now names.new }
-{
-    match read_message(reading, names, levels, place, tree) {
-        Ok(contents) => {
-            *found = Some(contents);
-            Ok(())
-        }
-        Err(error) => Err(below_key(reading.alloc, key, error)),
-    }
-}
-
-/// What a tree is as the elements of a `ListValue`.
-#[cycle(tree)]
-fn read_elements(
-    reading: &Reading<'_>,
-    names: &mut SchemaNames,
-    levels: u32,
-    holder: Holder,
-    tree: &Value,
-) -> Result<Contents, JsonError>
-    requires { AreNamesIn reading.now.schema.now names.old }
-    ensures ok { IfOk result (λ r. own_answer reading.now.schema.now (Ok (own_of reading.now.schema.now (Elements holder))) (view tree.now)
-        (elements_in reading.now.schema.now reading.now.allow (view tree.now))
-        (parts_in reading.now.schema.now reading.now.allow (view tree.now)) ≡ Ok (content_of r)) }
-    ensures err { IfErr result (λ e. IsFaultOf (own_answer reading.now.schema.now (Ok (own_of reading.now.schema.now (Elements holder))) (view tree.now)
-        (elements_in reading.now.schema.now reading.now.allow (view tree.now))
-        (parts_in reading.now.schema.now reading.now.allow (view tree.now))) e) }
-    ensures names { AreNamesIn reading.now.schema.now names.new }
-{
-    let kind = kind_at(reading.schema, holder.place, 1);
-    match read_list(reading, names, levels, kind, tree) {
-        Ok(held) => hold(reading.alloc, reading.schema, kind, holder, held),
-        Err(error) => Err(error),
-    }
-}
-
-/// What a tree is as the members of a `Struct`.
-#[cycle(tree)]
-fn read_members(
-    reading: &Reading<'_>,
-    names: &mut SchemaNames,
-    levels: u32,
-    holder: Holder,
-    tree: &Value,
-) -> Result<Contents, JsonError>
-    requires { AreNamesIn reading.now.schema.now names.old }
-    ensures ok { IfOk result (λ r. own_answer reading.now.schema.now (Ok (own_of reading.now.schema.now (Members holder))) (view tree.now)
-        (elements_in reading.now.schema.now reading.now.allow (view tree.now))
-        (parts_in reading.now.schema.now reading.now.allow (view tree.now)) ≡ Ok (content_of r)) }
-    ensures err { IfErr result (λ e. IsFaultOf (own_answer reading.now.schema.now (Ok (own_of reading.now.schema.now (Members holder))) (view tree.now)
-        (elements_in reading.now.schema.now reading.now.allow (view tree.now))
-        (parts_in reading.now.schema.now reading.now.allow (view tree.now))) e) }
-    ensures names { AreNamesIn reading.now.schema.now names.new }
-{
-    let kind = kind_at(reading.schema, holder.place, 1);
-    match read_map(reading, names, levels, Kind::String, kind, tree) {
-        Ok(held) => hold(reading.alloc, reading.schema, kind, holder, held),
-        Err(error) => Err(error),
-    }
-}
-
-/// What a tree is as an object of the fields of the type at a place, where keys that name none are skipped or not.
-#[cycle(tree)]
-fn read_object(
-    reading: &Reading<'_>,
-    names: &mut SchemaNames,
-    levels: u32,
-    place: usize,
-    skips: bool,
-    tree: &Value,
-) -> Result<Contents, JsonError>
-    requires { AreNamesIn reading.now.schema.now names.old }
-    ensures ok { IfOk result (λ r. object_answer skips (declared_of reading.now.schema.now place) (view tree.now)
-        (parts_in reading.now.schema.now reading.now.allow (view tree.now)) ≡ Ok (content_of r)) }
-    ensures err { IfErr result (λ e. IsFaultOf (object_answer skips (declared_of reading.now.schema.now place) (view tree.now)
-        (parts_in reading.now.schema.now reading.now.allow (view tree.now))) e) }
-    ensures names { AreNamesIn reading.now.schema.now names.new }
-{
-    let members = match object_members(tree) {
-        Ok(members) => members,
-        Err(rule) => return Err(at_tree(reading.alloc, rule)),
-    };
-    let mut state = ObjectState::new(reading.alloc);
-    for (key, member) in members.iter() {
-        if let Err(error) = read_member(
-            reading,
-            names,
-            levels,
-            place,
-            skips,
-            key.as_str(),
-            member,
-            &mut state,
-        ) {
-            drop(state);
-            return Err(error);
-        }
-    }
-    state.into_contents(reading.alloc)
-}
-
-/// What one key of an object of fields adds.
-#[cycle(tree)]
-fn read_member(
-    reading: &Reading<'_>,
-    names: &mut SchemaNames,
-    levels: u32,
-    place: usize,
-    skips: bool,
-    key: &str,
-    tree: &Value,
-    state: &mut ObjectState,
-) -> Result<(), JsonError>
-    requires { AreNamesIn reading.now.schema.now names.old }
-    ensures ok { OnOk result (at_step (to_key key.now) (turn skips
-        (field_named key.now (declared_of reading.now.schema.now place)) (answers reading.now.schema.now reading.now.allow
-        (view tree.now)) (state_of state.old)) ≡ Ok (state_of state.new)) }
-    ensures err { IfErr result (λ e. IsFaultOf (at_step (to_key key.now) (turn skips
-        (field_named key.now (declared_of reading.now.schema.now place)) (answers reading.now.schema.now reading.now.allow
-        (view tree.now)) (state_of state.old))) e) }
-    ensures names { AreNamesIn reading.now.schema.now names.new }
-{
-    match named_field(reading, names, place, skips, key, state) {
-        Ok(Some(field)) => match read_field(reading, names, levels, field, tree) {
-            Ok(held) => note_at(reading.alloc, key, state, field, held),
-            Err(error) => Err(below_key(reading.alloc, key, error)),
-        },
-        Ok(None) => Ok(()),
-        Err(rule) => Err(at_key(reading.alloc, key, rule)),
-    }
-}
-
-/// What a tree is for a field: None where the field is absent.
-#[cycle(tree)]
-fn read_field(
-    reading: &Reading<'_>,
-    names: &mut SchemaNames,
-    levels: u32,
-    field: &FieldShape,
-    tree: &Value,
-) -> Result<Option<Held>, JsonError>
-    requires { AreNamesIn reading.now.schema.now names.old }
-    ensures ok { IfOk result (λ r. answers reading.now.schema.now reading.now.allow (view tree.now) (asked_field field.now)
-        ≡ Ok (option_map val_of r)) }
-    ensures err { IfErr result (λ e. IsFaultOf (answers reading.now.schema.now reading.now.allow (view tree.now) (asked_field field.now)) e) }
-    ensures names { AreNamesIn reading.now.schema.now names.new }
-{
-    if is_left_out(reading.schema, field, tree) {
-        return Ok(None);
-    }
-    match read_values(reading, names, levels, field, tree) {
-        Ok(held) => Ok(shown(reading.schema, field, held)),
-        Err(error) => Err(error),
-    }
-}
-
-/// What a tree is as the values that a field may have.
-#[cycle(tree)]
-fn read_values(
-    reading: &Reading<'_>,
-    names: &mut SchemaNames,
-    levels: u32,
-    field: &FieldShape,
-    tree: &Value,
-) -> Result<Option<Held>, JsonError>
-    requires { AreNamesIn reading.now.schema.now names.old }
-    ensures ok { IfOk result (λ r. target_answer reading.now.schema.now reading.now.allow (target_by field.now field.now.cardinality)
-        (view tree.now) (elements_in reading.now.schema.now reading.now.allow (view tree.now))
-        (parts_in reading.now.schema.now reading.now.allow (view tree.now)) ≡ Ok (option_map val_of r)) }
-    ensures err { IfErr result (λ e. IsFaultOf (target_answer reading.now.schema.now reading.now.allow (target_by field.now field.now.cardinality)
-        (view tree.now) (elements_in reading.now.schema.now reading.now.allow (view tree.now))
-        (parts_in reading.now.schema.now reading.now.allow (view tree.now))) e) }
-    ensures names { AreNamesIn reading.now.schema.now names.new }
-{
-    match field.cardinality {
-        Cardinality::Singular => read_value(reading, names, levels, field.kind, tree),
-        Cardinality::Repeated => read_list(reading, names, levels, field.kind, tree),
-        Cardinality::Map(key) => read_map(reading, names, levels, key, field.kind, tree),
-    }
+    skip_or_refuse(reading, skips, key)
 }
 
 /// What a tree is as a list.
@@ -597,10 +376,8 @@ fn read_list(
     tree: &Value,
 ) -> Result<Option<Held>, JsonError>
     requires { AreNamesIn reading.now.schema.now names.old }
-    ensures ok { IfOk result (λ r. list_answer kind (view tree.now) (elements_in reading.now.schema.now reading.now.allow (view tree.now))
-        ≡ Ok (option_map val_of r)) }
-    ensures err { IfErr result (λ e. IsFaultOf (list_answer kind (view tree.now) (elements_in reading.now.schema.now reading.now.allow
-        (view tree.now))) e) }
+    ensures told { IsResultOf (option_map val_of) (list_answer kind (view tree.now)
+        (elements_in reading.now.schema.now reading.now.allow (view tree.now))) result }
     ensures names { AreNamesIn reading.now.schema.now names.new }
 {
     let items = match list_items(kind, tree) {
@@ -637,16 +414,12 @@ fn read_item(
     values: &mut List<Held>,
 ) -> Result<(), JsonError>
     requires { AreNamesIn reading.now.schema.now names.old }
-    ensures ok { OnOk result (item_turn kind index (answers reading.now.schema.now reading.now.allow (view tree.now)) (map val_of values.old)
-        ≡ Ok (map val_of values.new)) }
-    ensures err { IfErr result (λ e. IsFaultOf (item_turn kind index (answers reading.now.schema.now reading.now.allow
-        (view tree.now)) (map val_of values.old)) e) }
+    ensures told { IsResultOf (λ u. map val_of values.new) (item_turn kind index
+        (answers reading.now.schema.now reading.now.allow (view tree.now)) (map val_of values.old)) result }
     ensures names { AreNamesIn reading.now.schema.now names.new }
 {
-    match read_value(reading, names, levels, kind, tree) {
-        Ok(held) => add_value(reading.alloc, values, held),
-        Err(error) => Err(below_index(reading.alloc, index, error)),
-    }
+    let read = read_value(reading, names, levels, kind, tree);
+    add_item(reading, index, values, read)
 }
 
 /// What a tree is as a map.
@@ -660,10 +433,8 @@ fn read_map(
     tree: &Value,
 ) -> Result<Option<Held>, JsonError>
     requires { AreNamesIn reading.now.schema.now names.old }
-    ensures ok { IfOk result (λ r. map_answer key_kind kind (view tree.now) (parts_in reading.now.schema.now reading.now.allow (view tree.now))
-        ≡ Ok (option_map val_of r)) }
-    ensures err { IfErr result (λ e. IsFaultOf (map_answer key_kind kind (view tree.now) (parts_in reading.now.schema.now reading.now.allow
-        (view tree.now))) e) }
+    ensures told { IsResultOf (option_map val_of) (map_answer key_kind kind (view tree.now)
+        (parts_in reading.now.schema.now reading.now.allow (view tree.now))) result }
     ensures names { AreNamesIn reading.now.schema.now names.new }
 {
     let members = match map_members(kind, tree) {
@@ -702,20 +473,15 @@ fn read_entry(
     entries: &mut MapEntries,
 ) -> Result<(), JsonError>
     requires { AreNamesIn reading.now.schema.now names.old }
-    ensures ok { OnOk result (at_step (to_key key.now) (entry_turn key_kind kind key.now (answers reading.now.schema.now reading.now.allow
-        (view tree.now)) (entries_of entries.old)) ≡ Ok (entries_of entries.new)) }
-    ensures err { IfErr result (λ e. IsFaultOf (at_step (to_key key.now) (entry_turn key_kind kind key.now
-        (answers reading.now.schema.now reading.now.allow (view tree.now)) (entries_of entries.old))) e) }
+    ensures told { IsResultOf (λ u. entries_of entries.new) (at_step (to_key key.now) (entry_turn key_kind kind key.now
+        (answers reading.now.schema.now reading.now.allow (view tree.now)) (entries_of entries.old))) result }
     ensures names { AreNamesIn reading.now.schema.now names.new }
 {
     match fresh_key(reading.alloc, key_kind, key, entries) {
-        Ok(read) => match read_value(reading, names, levels, kind, tree) {
-            Ok(held) => add_entry(reading.alloc, entries, read, held),
-            Err(error) => {
-                drop(read);
-                Err(below_key(reading.alloc, key, error))
-            }
-        },
+        Ok(map_key) => {
+            let read = read_value(reading, names, levels, kind, tree);
+            add_pair(reading, key, entries, map_key, read)
+        }
         Err(rule) => Err(at_key(reading.alloc, key, rule)),
     }
 }

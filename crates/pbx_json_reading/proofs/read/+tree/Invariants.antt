@@ -4,7 +4,8 @@ use Rattle.pbx_meaning.specs.Shape.{declared_of}
 use Rattle.pbx_meaning.specs.declared.shape.Kind.TheVariants.{Message}
 use Rattle.pbx_codec.specs.View.{val_of, content_of}
 use Rattle.pbx_field_names.specs.Index.{AreNamesIn}
-use Rattle.pbx_json_walk.specs.Walk.{walk, start, parts, walk_items, items_answers, walk_entries, no_entries, beside_type, walk_payload}
+use Rattle.pbx_json_walk.specs.Walk.{walk, start, parts, walk_items, items_answers, walk_entries, no_entries, walk_payload}
+use Rattle.pbx_json_reading.specs.Objects.{parts_read}
 use Rattle.pbx_json_reading_objects.specs.States.{state_of, entries_of}
 use Rattle.pbx_json_reading.proofs.read.+tree.Given as goal
 
@@ -17,32 +18,11 @@ decreases-read_object l = 16 * l.levels + 7
 abbrev pub decreases-read_parts : goal.decreases-read_parts
 decreases-read_parts l = 16 * l.levels + 10
 
-abbrev pub decreases-read_beside : goal.decreases-read_beside
-decreases-read_beside l = 16 * l.levels + 9
-
-abbrev pub decreases-read_rest : goal.decreases-read_rest
-decreases-read_rest l = 16 * l.levels + 8
-
-abbrev pub decreases-read_rest_member : goal.decreases-read_rest_member
-decreases-read_rest_member l = 16 * l.levels + 7
-
-abbrev pub decreases-read_under : goal.decreases-read_under
-decreases-read_under l = 16 * l.levels + 4
-
 abbrev pub decreases-read_payload : goal.decreases-read_payload
 decreases-read_payload l = 16 * l.levels + 3
 
 abbrev pub decreases-read_payload_member : goal.decreases-read_payload_member
 decreases-read_payload_member l = 16 * l.levels + 2
-
-abbrev pub decreases-read_payload_value : goal.decreases-read_payload_value
-decreases-read_payload_value l = 16 * l.levels + 1
-
-abbrev pub decreases-read_elements : goal.decreases-read_elements
-decreases-read_elements l = 16 * l.levels + 4
-
-abbrev pub decreases-read_members : goal.decreases-read_members
-decreases-read_members l = 16 * l.levels + 4
 
 abbrev pub decreases-read_value : goal.decreases-read_value
 decreases-read_value l = 16 * l.levels + 1
@@ -71,16 +51,8 @@ decreases-read_member l = 16 * l.levels + 6
 abbrev pub invariant-read_object-loop-key : goal.invariant-read_object-loop-key
 invariant-read_object-loop-key l = record {
   walked :
-      walk l.skips (declared_of l.reading.schema.now l.place) (parts l.reading.schema.now l.reading.allow (members_view l.initial.key-iterator)) start
-      ≡ walk l.skips (declared_of l.reading.schema.now l.place) (parts l.reading.schema.now l.reading.allow (members_view l.key-iterator)) (state_of l.state);
-  names : AreNamesIn l.reading.schema.now l.names;
-}
-
-abbrev pub invariant-read_rest-loop-key : goal.invariant-read_rest-loop-key
-invariant-read_rest-loop-key l = record {
-  walked :
-      walk l.skips (declared_of l.reading.schema.now l.place) (beside_type (parts l.reading.schema.now l.reading.allow (members_view l.initial.key-iterator))) start
-      ≡ walk l.skips (declared_of l.reading.schema.now l.place) (beside_type (parts l.reading.schema.now l.reading.allow (members_view l.key-iterator))) (state_of l.state);
+      walk l.skips (declared_of l.reading.schema.now l.place) (parts_read l.beside (parts l.reading.schema.now l.reading.allow (members_view l.initial.key-iterator))) start
+      ≡ walk l.skips (declared_of l.reading.schema.now l.place) (parts_read l.beside (parts l.reading.schema.now l.reading.allow (members_view l.key-iterator))) (state_of l.state);
   names : AreNamesIn l.reading.schema.now l.names;
 }
 
