@@ -264,8 +264,8 @@ impl Settle for SourceCodeInfo {
     }
 }
 
-/// Whether each of the locations is settled, as nothing in it is unknown.
-fn are_settled(locations: &List<Location>) -> bool
+/// Whether nothing in the locations is unknown, so that each is settled.
+fn have_no_unknown(locations: &List<Location>) -> bool
     ensures { IsTrue result → map settled_location locations.now ≡ locations.now }
 {
     for location in locations.as_slice() {
@@ -276,22 +276,22 @@ fn are_settled(locations: &List<Location>) -> bool
     true
 }
 
-/// Whether the record is settled, as nothing in it is unknown.
-fn is_settled(source: &SourceCodeInfo) -> bool
+/// Whether nothing in the record is unknown, so that it is settled.
+fn has_no_unknown(source: &SourceCodeInfo) -> bool
     ensures { IsTrue result → settled_source source.now ≡ source.now }
 {
-    source.unknown.is_empty() && are_settled(&source.location)
+    source.unknown.is_empty() && have_no_unknown(&source.location)
 }
 
 /// The record as its own encoding gives it back. Where nothing in it is unknown, which is nearly always, it is the record itself, as a file
-/// may have some ten locations for each of its fields. The only error is want of memory.
+/// may have four to six locations for each of its fields. The only error is want of memory.
 pub fn settled_source_code_info(
     alloc: Global,
     source: SourceCodeInfo,
 ) -> Result<SourceCodeInfo, NoMemory>
     ensures { IfOk result (λ settled. settled ≡ settled_source source) }
 {
-    if is_settled(&source) {
+    if has_no_unknown(&source) {
         return Ok(source);
     }
     let settled = source.settle(alloc);

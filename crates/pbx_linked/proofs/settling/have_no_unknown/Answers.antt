@@ -1,6 +1,6 @@
 use Rattle.std.proofs.Common.{◌≡◌, [], rules}
 use Rattle.pbx_linked.proofs.Places.{places_more}
-use Rattle.pbx_linked.proofs.settling.are_settled.Goals as goal
+use Rattle.pbx_linked.proofs.settling.have_no_unknown.Goals as goal
 
 pub loop-location-preserved : goal.loop-location-preserved
 loop-location-preserved c =
