@@ -52,6 +52,15 @@ payload_put n bytes old key_put len_put new key_is len_is all =
     ∙ append_assoc old (key ++ len) bytes
     ∙ ap (λ (t : List ℕ). old ++ t) (sym (bytes_text n bytes))
 
+varint_text : (n v : ℕ) → text_of_rec (rec.Varint n v) ≡ varint (n * 8) ++ varint v
+varint_text n v = search (rules, rec_lemmas)
+
+-- the key and the number, one behind the other
+pub varint_put : (n v : ℕ) (old key_put new : List ℕ) → key_put ≡ old ++ varint (n * 8) → new ≡ key_put ++ varint v → new ≡ old ++ text_of_rec (rec.Varint n v)
+varint_put n v old key_put new key_is all =
+    let key = varint (n * 8) in
+    all ∙ ap (λ (t : List ℕ). t ++ varint v) key_is ∙ append_assoc old key (varint v) ∙ ap (λ (t : List ℕ). old ++ t) (sym (varint_text n v))
+
 -- one record more
 pub sent_more : {X : Type 0} (g : X → Rec) (xs : List X) (i : ℕ) (x : X) → i < length xs → x ≡ get_or xs i x → text_of (map g (take (i + 1) xs)) ≡ text_of (map g (take i xs)) ++ text_of_rec (g x)
 sent_more {X} g xs i x lt is =

@@ -9,8 +9,8 @@ use Rattle.pbx_codec.specs.View.{val_of}
 use Rattle.pbx_desc_shape.specs.Shape.{descriptor_shape, message_fields}
 use Rattle.pbx_desc_records.specs.declared.message.DescriptorProto.{DescriptorProto, out-DescriptorProto, fold_out-DescriptorProto}
 use Rattle.pbx_desc_records.specs.declared.message.DescriptorProto.TheOpen.{DescriptorProto-F}
-use Rattle.pbx_desc.specs.Building.{Puts}
-use Rattle.pbx_desc.specs.Content.{listed, record_content, message_values, message_step, message_content}
+use Rattle.pbx_desc.specs.Building.{Puts, Writes}
+use Rattle.pbx_desc.specs.Content.{listed, of_records, record_content, message_values, message_step, message_content}
 use Rattle.pbx_desc.specs.Sound.{AreOf}
 use Rattle.pbx_desc.proofs.Built.{puts_some}
 
@@ -46,3 +46,8 @@ pub nested_put : (n : ℕ) (ms : List DescriptorProto) (hs : List Held) (old new
     → AreOf descriptor_shape (kind.Message 2) (map (λ (m : DescriptorProto). message (message_content m)) ms) → ((j : Kind) → AreOf descriptor_shape j (map val_of hs) → Puts Repeated j n (listed (map val_of hs)) old new)
     → Puts Repeated (kind.Message 2) n (listed (map message (map message_content ms))) old new
 nested_put n ms hs old new e all h = puts_some (kind.Message 2) n hs (map message (map message_content ms)) old new (e ∙ sym (nested_map ms)) (subst (AreOf descriptor_shape (kind.Message 2)) (sym (nested_map ms)) all) h
+
+-- the nested messages are written as the value of their field
+pub nested_written : (n : ℕ) (ms : List DescriptorProto) (old new : List ℕ) → Writes Repeated (kind.Message 2) n (of_records message_content ms) old new
+    → Writes Repeated (kind.Message 2) n (listed (map message (map message_content ms))) old new
+nested_written n ms old new h = subst (λ (vs : List Val). Writes Repeated (kind.Message 2) n (listed vs) old new) (sym (nested_map ms)) h

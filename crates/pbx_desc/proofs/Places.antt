@@ -1,6 +1,8 @@
--- Fields of places, which are written one by one.
-use Rattle.std.proofs.Common.{◌≡◌, ℕ, ◌+◌, ◌<◌, ◌≤◌, true, List, [], ◌∷◌, ◌++◌, length, map, take, get_or, Some, None, subst, refl, sym, ap, ◌∙◌, append_assoc, append-nil}
+-- Fields that are written one by one.
+use Rattle.std.proofs.Common.{◌≡◌, ℕ, ◌+◌, ◌<◌, ◌≤◌, Bool, true, List, [], ◌∷◌, ◌++◌, length, map, take, get_or, Some, None, subst, refl, sym, ap, ◌∙◌, append_assoc, append-nil}
 use Rattle.std.specs.Prelude.{ℤ, Result, Ok, Err, OnOk}
+use Rattle.std.specs.Int.{w32}
+use Rattle.std.specs.Int.RustNames.{FitsSigned}
 use Rattle.std.specs.Str.{is_utf8}
 use Rattle.std.proofs.lemmas.List.{take_all}
 use Rattle.pbx_wire.specs.Varint.{varint}
@@ -11,9 +13,9 @@ use Rattle.pbx_meaning.specs.declared.shape.Cardinality.TheVariants.{Singular, R
 use Rattle.pbx_meaning.specs.declared.shape.Kind.{Kind}
 use Rattle.pbx_meaning.specs.declared.shape.Kind.TheVariants as kind
 use Rattle.pbx_meaning.specs.declared.shape.Shape.{Shape}
-use Rattle.pbx_meaning.specs.Content.{Content, Val, number, text, vals_of}
+use Rattle.pbx_meaning.specs.Content.{Content, Val, number, truth, text, message, vals_of}
 use Rattle.pbx_meaning.specs.Shape.{form_of}
-use Rattle.pbx_meaning.specs.Encoding.{encoded, numeral, number_text, packed_text, vals_recs}
+use Rattle.pbx_meaning.specs.Encoding.{encoded, numeral, number_text, packed_text, vals_recs, content_recs, payload}
 use Rattle.pbx_meaning.specs.Sound.{IsSound}
 use Rattle.pbx_desc_shape.specs.Shape.{descriptor_shape}
 use Rattle.pbx_desc.specs.Building.{value_recs, Writes, WritesPacked, IsWritten}
@@ -90,10 +92,45 @@ texts_written n items ts i old new is le e sound =
       value = (map text ts, refl, subst (λ (xs : List (List ℕ)). AreOf descriptor_shape kind.String (map text xs)) all sound);
     }
 
+-- ---- numbers, truth values and options
+
+pub number_written : (n v : ℕ) (z : ℤ) (old new : List ℕ) → new ≡ old ++ text_of_rec (rec.Varint n v) → v ≡ numeral kind.Int32 (number z) → FitsSigned w32 z
+    → Writes Singular kind.Int32 n (Some (number z)) old new
+number_written n v z old new here is fits = record {
+  text = here
+      ∙ ap (λ (u : ℕ). old ++ text_of_rec (rec.Varint n u)) is
+      ∙ ap (λ (t : List ℕ). old ++ t) (sym (append-nil (text_of_rec (rec.Varint n (numeral kind.Int32 (number z))))));
+  value = fits;
+}
+
+pub no_number : (n : ℕ) (old : List ℕ) → Writes Singular kind.Int32 n None old old
+no_number n old = record { text = sym (append-nil old); value = tt }
+
+pub truth_written : (n v : ℕ) (b : Bool) (old new : List ℕ) → new ≡ old ++ text_of_rec (rec.Varint n v) → v ≡ numeral kind.Bool (truth b) → Writes Singular kind.Bool n (Some (truth b)) old new
+truth_written n v b old new here is = record {
+  text = here
+      ∙ ap (λ (u : ℕ). old ++ text_of_rec (rec.Varint n u)) is
+      ∙ ap (λ (t : List ℕ). old ++ t) (sym (append-nil (text_of_rec (rec.Varint n (numeral kind.Bool (truth b))))));
+  value = tt;
+}
+
+pub no_truth : (n : ℕ) (old : List ℕ) → Writes Singular kind.Bool n None old old
+no_truth n old = record { text = sym (append-nil old); value = tt }
+
+pub record_written : (n t : ℕ) (c : Content) (old new : List ℕ) → new ≡ old ++ text_of_rec (payload n (content_recs descriptor_shape t c)) → IsSound descriptor_shape t c
+    → Writes Singular (kind.Message t) n (Some (message c)) old new
+record_written n t c old new here sound = record {
+  text = here ∙ ap (λ (b : List ℕ). old ++ b) (sym (append-nil (text_of_rec (payload n (content_recs descriptor_shape t c)))));
+  value = sound;
+}
+
+pub no_record : (n t : ℕ) (old : List ℕ) → Writes Singular (kind.Message t) n None old old
+no_record n t old = record { text = sym (append-nil old); value = tt }
+
 -- ---- by way of the content
 
-pub content_written : (t : ℕ) (shape : Shape) (c d : Content) (bytes own old new : List ℕ) → new ≡ old ++ bytes → bytes ≡ own → own ≡ encoded shape t c → shape ≡ descriptor_shape → c ≡ d → IsSound descriptor_shape t d → IsWritten t d old new
-content_written t shape c d bytes own old new here is own_is same content_is sound = record {
-  text = here ∙ ap (λ (b : List ℕ). old ++ b) (is ∙ own_is ∙ ap (λ (s : Shape). encoded s t c) same ∙ ap (encoded descriptor_shape t) content_is);
+pub content_written : (t u : ℕ) (shape : Shape) (c d : Content) (old new : List ℕ) → new ≡ old ++ encoded shape u c → shape ≡ descriptor_shape → u ≡ t → c ≡ d → IsSound descriptor_shape t d → IsWritten t d old new
+content_written t u shape c d old new here same type content_is sound = record {
+  text = here ∙ ap (λ (b : List ℕ). old ++ b) (ap (λ (s : Shape). encoded s u c) same ∙ ap (λ (k : ℕ). encoded descriptor_shape k c) type ∙ ap (encoded descriptor_shape t) content_is);
   sound = sound;
 }

@@ -3,9 +3,12 @@ ghost use Rattle.pbx_desc.specs.Content.{enum_content, enum_reserved_range_conte
 
 use crate::contents::{FieldList, HasContents};
 use crate::encoding::{Message, record_bytes};
+use crate::parts::{Put, put_by_content, put_each, put_records};
+use crate::values::{put_number, put_options, put_text, put_texts};
 use pbx_codec::Contents;
 use pbx_desc_records::{EnumDescriptorProto, EnumReservedRange, EnumValueDescriptorProto};
 use pbx_desc_shape::place;
+use pbx_meaning::Schema;
 use pbx_wire::NoMemory;
 use std::alloc::Global;
 
@@ -24,6 +27,20 @@ impl HasContents for EnumDescriptorProto {
         fields.records(4, &self.reserved_range)?;
         fields.texts(5, &self.reserved_name)?;
         fields.with_unknown(&self.unknown, &[1, 2, 3, 4, 5])
+    }
+}
+
+impl Put for EnumDescriptorProto {
+    /// Part by part where no unknown record stands among the fields.
+    fn put(&self, alloc: Global, schema: &Schema, out: &mut Vec<u8>) -> Result<(), NoMemory> {
+        if !self.unknown.is_empty() {
+            return put_by_content(alloc, schema, self, out);
+        }
+        put_text(1, &self.name, out)?;
+        put_each(alloc, schema, 2, &self.value, out)?;
+        put_options(alloc, schema, place::ENUM_OPTIONS, 3, &self.options, out)?;
+        put_records(alloc, schema, 4, &self.reserved_range, out)?;
+        put_texts(5, &self.reserved_name, out)
     }
 }
 
@@ -79,6 +96,25 @@ impl HasContents for EnumValueDescriptorProto {
         fields.number(2, self.number)?;
         fields.options(3, &self.options)?;
         fields.with_unknown(&self.unknown, &[1, 2, 3])
+    }
+}
+
+impl Put for EnumValueDescriptorProto {
+    /// Field by field where no unknown record stands among the fields.
+    fn put(&self, alloc: Global, schema: &Schema, out: &mut Vec<u8>) -> Result<(), NoMemory> {
+        if !self.unknown.is_empty() {
+            return put_by_content(alloc, schema, self, out);
+        }
+        put_text(1, &self.name, out)?;
+        put_number(2, self.number, out)?;
+        put_options(
+            alloc,
+            schema,
+            place::ENUM_VALUE_OPTIONS,
+            3,
+            &self.options,
+            out,
+        )
     }
 }
 

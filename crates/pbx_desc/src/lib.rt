@@ -21,6 +21,7 @@ mod service;
 mod set;
 mod source;
 mod unknown;
+mod values;
 
 pub use encoding::Message;
 pub use file::file_contents;

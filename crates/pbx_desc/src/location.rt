@@ -2,33 +2,21 @@
 // appended.
 
 ghost use Rattle.std.specs.Prelude.{◌≡◌, ◌++◌, map, OnOk};
-ghost use Rattle.std.specs.Int.{w32};
-ghost use Rattle.std.specs.Int.RustNames.{FitsSigned};
-ghost use Rattle.pbx_meaning.specs.declared.shape.Cardinality.TheVariants.{Singular, Repeated};
+ghost use Rattle.pbx_meaning.specs.declared.shape.Cardinality.TheVariants.{Repeated};
 ghost use Rattle.pbx_meaning.specs.declared.shape.Kind.TheVariants as kind;
 ghost use Rattle.pbx_meaning.specs.Content.{number as number_val, vals_of};
-ghost use Rattle.pbx_meaning.specs.Encoding.{numeral, packed_text};
+ghost use Rattle.pbx_meaning.specs.Encoding.{packed_text};
 ghost use Rattle.pbx_desc_shape.specs.Shape.{descriptor_shape};
 ghost use Rattle.pbx_desc.specs.Building.{Writes, WritesPacked, IsWritten};
-ghost use Rattle.pbx_desc.specs.Content.{of_text, of_texts, of_numbers, of_records, location_content};
+ghost use Rattle.pbx_desc.specs.Content.{of_numbers, of_records, location_content};
 ghost use Rattle.pbx_desc.specs.Sound.{AreOf};
 
-use crate::contents::HasContents;
-use crate::parts::{put_payload, put_varint};
-use pbx_codec::encode;
+use crate::parts::{put_by_content, put_payload, put_varint};
+use crate::values::{put_text, put_texts, wire_number};
 use pbx_desc_records::Location;
-use pbx_desc_shape::place;
 use pbx_meaning::Schema;
-use pbx_wire::{List, NoMemory, Text, Texts};
+use pbx_wire::{List, NoMemory};
 use std::alloc::Global;
-
-/// A number as it is on the wire.
-fn wire_number(value: i32) -> u64
-    ensures numeral { result ≡ numeral kind.Int32 (number_val value) }
-    ensures fits { FitsSigned w32 value }
-{
-    i64::from(value).cast_unsigned()
-}
 
 /// Puts the numbers behind the text, one after another.
 fn put_numbers(numbers: &List<i32>, out: &mut Vec<u8>) -> Result<(), NoMemory>
@@ -60,42 +48,6 @@ fn put_packed(
     put_payload(number, payload.as_slice(), out)
 }
 
-/// Puts the text behind the others, under this number, if there is one.
-fn put_text(number: u32, text: &Option<Text>, out: &mut Vec<u8>) -> Result<(), NoMemory>
-    ensures { OnOk result (Writes Singular kind.String number (of_text text.now) out.old.items out.new.items) }
-{
-    if let Some(text) = text {
-        put_payload(number, text.as_str().as_bytes(), out)?;
-    }
-    Ok(())
-}
-
-/// Puts the texts behind the others, each under this number.
-fn put_texts(number: u32, texts: &Texts, out: &mut Vec<u8>) -> Result<(), NoMemory>
-    ensures { OnOk result (Writes Repeated kind.String number (of_texts texts.now) out.old.items out.new.items) }
-{
-    for text in texts.as_slice() {
-        put_payload(number, text.as_str().as_bytes(), out)?;
-    }
-    Ok(())
-}
-
-/// Puts the encoding behind the text by way of the content, among whose fields unknown records stand.
-fn put_with_unknown(
-    alloc: Global,
-    schema: &Schema,
-    location: &Location,
-    out: &mut Vec<u8>,
-) -> Result<(), NoMemory>
-    requires { schema.now ≡ descriptor_shape }
-    ensures { OnOk result (IsWritten 13 (location_content location.now) out.old.items out.new.items) }
-{
-    let contents = location.to_contents(alloc)?;
-    let own = encode(alloc, schema, place::LOCATION, &contents)?;
-    out.extend_from_slice(own.as_slice())?;
-    Ok(())
-}
-
 /// Puts the encoding behind the text, field by field where no unknown record stands among the fields.
 fn put_location(
     alloc: Global,
@@ -108,7 +60,7 @@ fn put_location(
     ensures { OnOk result (IsWritten 13 (location_content location.now) out.old.items out.new.items) }
 {
     if !location.unknown.is_empty() {
-        return put_with_unknown(alloc, schema, location, out);
+        return put_by_content(alloc, schema, location, out);
     }
     put_packed(1, &location.path, payload, out)?;
     put_packed(2, &location.span, payload, out)?;

@@ -7,18 +7,27 @@ ghost use Rattle.pbx_meaning.specs.declared.shape.Cardinality.TheVariants.{Singu
 ghost use Rattle.pbx_meaning.specs.declared.shape.Kind.TheVariants as kind;
 ghost use Rattle.pbx_meaning.specs.Content.{content};
 ghost use Rattle.pbx_meaning.specs.Encoding.{encoded};
+ghost use Rattle.pbx_codec.specs.View.{content_of};
 ghost use Rattle.pbx_desc_shape.specs.Shape.{descriptor_shape};
-ghost use Rattle.pbx_desc.specs.Building.{entries, Writes};
+ghost use Rattle.pbx_desc.specs.Building.{entries, Writes, IsWritten};
 ghost use Rattle.pbx_desc.specs.Content.{of_record, of_records, source_code_info_content};
 ghost use Rattle.pbx_desc.specs.Unknown.{is_writable_beside};
 
 use crate::contents::{FieldList, HasContents};
 use crate::source::write_source;
-use pbx_codec::encode;
+use pbx_codec::{Contents, encode};
 use pbx_desc_records::SourceCodeInfo;
 use pbx_meaning::Schema;
 use pbx_wire::{List, NoMemory, Recs};
 use std::alloc::Global;
+
+/// A record that is written without a content, as there are many of it.
+pub(crate) trait Put: HasContents {
+    /// Puts the encoding behind the text. Where memory runs out, a part may be appended.
+    fn put(&self, alloc: Global, schema: &Schema, out: &mut Vec<u8>) -> Result<(), NoMemory>
+        requires { schema.now ≡ descriptor_shape }
+        ensures { OnOk result (IsWritten Self.TYPE_AT (Self.content self.now) out.old.items out.new.items) };
+}
 
 /// Puts the shortest spelling of the number behind the text, as `pbx_wire` does for a `Blob`: what is written here goes out as a `Vec`.
 /// Where memory runs out, a part of it may be appended.
@@ -61,9 +70,36 @@ pub(crate) fn put_fields(
     ensures fit { OnOk result (are_fit (filter (is_writable_beside known.now) unknown.now) ≡ true) }
 {
     let contents = fields.with_unknown(unknown, known)?;
-    let own = encode(alloc, schema, type_at, &contents)?;
+    put_contents(alloc, schema, type_at, &contents, out)
+}
+
+/// Puts the encoding of the content behind the text.
+pub(crate) fn put_contents(
+    alloc: Global,
+    schema: &Schema,
+    type_at: usize,
+    contents: &Contents,
+    out: &mut Vec<u8>,
+) -> Result<(), NoMemory>
+    ensures { OnOk result (out.new.items ≡ out.old.items ++ encoded schema.now type_at (content_of contents.now)) }
+{
+    let own = encode(alloc, schema, type_at, contents)?;
     out.extend_from_slice(own.as_slice())?;
     Ok(())
+}
+
+/// Puts the encoding behind the text by way of the content: the way of records that are few, or hold unknown records.
+pub(crate) fn put_by_content<R: HasContents>(
+    alloc: Global,
+    schema: &Schema,
+    record: &R,
+    out: &mut Vec<u8>,
+) -> Result<(), NoMemory>
+    requires { schema.now ≡ descriptor_shape }
+    ensures { OnOk result (IsWritten R.TYPE_AT (R.content «record».now) out.old.items out.new.items) }
+{
+    let contents = record.to_contents(alloc)?;
+    put_contents(alloc, schema, R::TYPE_AT, &contents, out)
 }
 
 /// Puts the records behind the text, each as a message under this number. One content at a time is there.
@@ -82,6 +118,27 @@ pub(crate) fn put_records<R: HasContents>(
         let contents = record.to_contents(alloc)?;
         let own = encode(alloc, schema, R::TYPE_AT, &contents)?;
         put_payload(number, own.as_slice(), out)?;
+    }
+    Ok(())
+}
+
+/// Puts the records behind the text, each as a message under this number. All share the memory that each is written in.
+pub(crate) fn put_each<R: Put>(
+    alloc: Global,
+    schema: &Schema,
+    number: u32,
+    records: &List<R>,
+    out: &mut Vec<u8>,
+) -> Result<(), NoMemory>
+    requires { schema.now ≡ descriptor_shape }
+    ensures { OnOk result
+        (Writes Repeated (kind.Message R.TYPE_AT) number (of_records R.content records.now) out.old.items out.new.items) }
+{
+    let mut text = Vec::new(alloc);
+    for record in records.as_slice() {
+        text.clear();
+        record.put(alloc, schema, &mut text)?;
+        put_payload(number, text.as_slice(), out)?;
     }
     Ok(())
 }

@@ -7,7 +7,7 @@ use Rattle.pbx_desc_shape.specs.Shape.{descriptor_shape}
 use Rattle.pbx_desc.proofs.Behind.{sent_next}
 use Rattle.pbx_desc.proofs.Places.{texts_written}
 use Rattle.pbx_desc.proofs.Told.{are_more, same_utf8}
-use Rattle.pbx_desc.proofs.location.put_texts.Goals as goal
+use Rattle.pbx_desc.proofs.values.put_texts.Goals as goal
 
 pub loop-text-preserved : goal.loop-text-preserved
 loop-text-preserved c =

@@ -5,7 +5,7 @@ use Rattle.pbx_meaning.specs.declared.shape.Kind.TheVariants as kind
 use Rattle.pbx_meaning.specs.Content.{text as text_val}
 use Rattle.pbx_desc_shape.specs.Shape.{descriptor_shape}
 use Rattle.pbx_desc.specs.Sound.{AreOf}
-use Rattle.pbx_desc.proofs.location.put_texts.Given as goal
+use Rattle.pbx_desc.proofs.values.put_texts.Given as goal
 
 abbrev pub invariant-loop-text : goal.invariant-loop-text
 invariant-loop-text l = record {

@@ -1,7 +1,7 @@
 use Rattle.std.proofs.Common.{◌∙◌}
 use Rattle.pbx_desc.proofs.Places.{text_written, no_text}
 use Rattle.pbx_desc.proofs.Told.{same_utf8}
-use Rattle.pbx_desc.proofs.location.put_text.Goals as goal
+use Rattle.pbx_desc.proofs.values.put_text.Goals as goal
 
 pub returns-in_ok-put_payload : goal.returns-in_ok-put_payload
 returns-in_ok-put_payload c =
