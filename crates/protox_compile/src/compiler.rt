@@ -232,6 +232,23 @@ impl<R: FileResolver> Compiler<R> {
     {
         self.resolver
     }
+
+    /// The resolver. The memory of the files is not given back, piece by piece, but stays taken until the process ends: for a caller whose
+    /// process soon does.
+    pub fn leak_files(self) -> R
+        ensures { result ≡ self.resolver }
+    {
+        let Compiler {
+            resolver,
+            finished,
+            alloc,
+            ..
+        } = self;
+        if let Ok(kept) = Box::new(alloc, finished) {
+            let _ = Box::leak(kept);
+        }
+        resolver
+    }
 }
 
 impl<D: Disk> Compiler<StandardResolver<D>> {

@@ -247,7 +247,8 @@ fn write_set<'w, R: FileResolver>(
     }
 }
 
-/// Compiles the files with all that they import, and makes their set. The resolver is handed back.
+/// Compiles the files with all that they import, and makes their set. The resolver is handed back. The files are not let go, as the process
+/// ends with the run.
 fn compile_files<'w, R: FileResolver>(
     alloc: Global,
     args: &Args<'w>,
@@ -270,7 +271,7 @@ fn compile_files<'w, R: FileResolver>(
         Ok(ready) => Ok(ready),
         Err(error) => Err(file_error(error)),
     };
-    (compiler.into_resolver(), result)
+    (compiler.leak_files(), result)
 }
 
 /// The same from the folders that the words name.

@@ -111,6 +111,8 @@ fn obey<'w, D: Disk, S: Source, K: Sink>(
 /// message of that type; the set, with all imports and source information, is written with `-o` and the wire bytes are
 /// written with `--wire`, and the message is printed as canonical JSON. `--generate N` transcodes a tree over N files in
 /// memory, and prints the lengths of what comes of it.
+///
+/// A run is a process's work: without `--type`, the memory of the files that were compiled is not given back before the process ends.
 pub fn run<D: Disk, S: Source, K: Sink, E: Sink>(
     alloc: Global,
     words: &Texts,
