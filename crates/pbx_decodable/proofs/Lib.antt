@@ -1,2 +1,4 @@
 pub mod Found
 pub mod Told
+pub mod Alike
+pub mod Source

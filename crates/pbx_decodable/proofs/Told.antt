@@ -1,35 +1,39 @@
 -- A set is read file by file: it means something exactly where the text of each file does.
-use Rattle.std.proofs.Common.{◌≡◌, ℕ, suc, ◌+◌, ◌<◌, ◌≤◌, ◌^◌, Bool, true, false, not, ◌&&◌, cond, if◌then◌else◌, List, [], ◌∷◌, ◌++◌, length, map, max, Option, Some, None, refl, sym, ap, ◌∙◌, subst, arith, rules, append-nil, option_map}
+use Rattle.std.proofs.Common.{◌≡◌, ℕ, ◌<◌, ◌^◌, Bool, true, false, not, ◌&&◌, cond, List, [], ◌∷◌, ◌++◌, length, map, Option, Some, None, refl, sym, ap, ◌∙◌, arith, rules, append-nil, codes}
 use Rattle.std.specs.Prelude.{◌||◌, nat_lt, option_and_then, find, position}
 use Rattle.std.specs.Option.{is_some}
 use Rattle.std.specs.List.{list_all}
 use Rattle.std.proofs.lemmas.Bool.{lt-ltb}
-use Rattle.std.proofs.lemmas.Bool.Decides.{nat_tests}
 use Rattle.pbx_wire.specs.declared.rec.Rec.{Rec}
 use Rattle.pbx_wire.specs.declared.rec.Rec.TheVariants as rec
 use Rattle.pbx_wire.specs.declared.rec.Rec.{the_lemmas as rec_lemmas}
 use Rattle.pbx_wire.specs.Reading.{records_in}
-use Rattle.pbx_wire.specs.Text.{text, text_of, is_fit, are_fit, is_numbered, are_numbered, depth, depth_of, all_true}
-use Rattle.pbx_wire.proofs.Written.{written_again}
+use Rattle.pbx_wire.specs.Text.{text_of, is_fit, are_fit, is_numbered, are_numbered, depth, depth_of}
+use Rattle.pbx_wire.proofs.Written.{written_again, both}
 use Rattle.pbx_meaning.specs.declared.shape.Kind.TheVariants as kind
 use Rattle.pbx_meaning.specs.declared.shape.Cardinality.TheVariants.{Repeated}
+use Rattle.pbx_meaning.specs.declared.shape.FieldShape.{FieldShape}
+use Rattle.pbx_meaning.specs.declared.shape.Shape.{Shape}
 use Rattle.pbx_meaning.specs.Content.{vals_of}
 use Rattle.pbx_meaning.specs.Records.{sorted, insert}
 use Rattle.pbx_meaning.specs.Shape.{fields_of, field_of}
 use Rattle.pbx_meaning.specs.Meaning.{meaning, meaning_of, parts_meaning_of}
+use Rattle.pbx_meaning.specs.Sound.{IsProper}
 use Rattle.pbx_meaning.specs.Encoding.{encoded, content_recs, vals_recs}
 use Rattle.pbx_meaning.proofs.OntoSplits.{not_there, meaning_splits}
 use Rattle.pbx_meaning.proofs.FaultyLaw.{one_inner}
 use Rattle.pbx_meaning.proofs.WrittenShort.{size_first, bytes_within}
 use Rattle.pbx_desc_records.specs.declared.file.FileDescriptorProto.{FileDescriptorProto}
-use Rattle.pbx_desc_shape.specs.Shape.{descriptor_shape}
-use Rattle.pbx_desc.specs.Content.{file_content, file_value, files_content}
-use Rattle.pbx_desc.specs.Sets.{DecodesSet, is_deep_file, IsSetOf}
-use Rattle.pbx_descriptor_schema.specs.Schema.{descriptor_schema}
-use Rattle.pbx_descriptor_schema.proofs.Opened.{set_field, set_field_found}
-use Rattle.pbx_descriptor_schema.proofs.Proper.{descriptor_schema_proper}
+use Rattle.pbx_desc_shape.specs.Shape.{descriptor_shape, list_field}
+use Rattle.pbx_desc_shape.proofs.Proper.{descriptor_shape_proper}
+use Rattle.pbx_desc.specs.Content.{file_value, files_content}
+use Rattle.pbx_desc.specs.Sets.{DecodesSet, is_deep_file}
+use Rattle.pbx_descriptor_schema.specs.Schema.{descriptor_schema, options_schema}
+use Rattle.pbx_descriptor_schema.proofs.Opened.{set_field, options_set_field_found}
+use Rattle.pbx_descriptor_schema.proofs.Proper.{options_schema_proper}
 use Rattle.pbx_validation.proofs.Reading.{message_told, nothing_means}
 use Rattle.pbx_decodable.proofs.Found.{none_found, no_place}
+use Rattle.pbx_decodable.proofs.Source.{file_alike}
 use Rattle.pbx_decodable.specs.Sets.{file_text, is_undecodable, AreDecodable, IsSet, IsSetOrNone}
 
 -- ---- the records of a set
@@ -88,30 +92,69 @@ recs_again files short =
 -- ---- what they mean, file by file
 
 -- the text of the file means something
+abbrev reads_in : Shape → FileDescriptorProto → Bool
+reads_in s f = is_some (meaning_of s 1 (file_text f))
+
 abbrev reads : FileDescriptorProto → Bool
-reads f = is_some (meaning_of descriptor_schema 1 (file_text f))
+reads f = reads_in descriptor_schema f
 
-file_told : (f : FileDescriptorProto) → reads f ≡ is_some (meaning descriptor_schema 101 (fields_of descriptor_schema 0) (file_rec f ∷ []))
-file_told f =
-    ap is_some (sym (one_inner descriptor_schema 100 (fields_of descriptor_schema 1) (file_text f)))
-    ∙ message_told descriptor_schema 101 0 1 set_field (file_rec f) (file_text f) descriptor_schema_proper set_field_found refl refl refl
+-- the first type is that of a set of the second
+record IsOfSets (s : Shape) : Type 0 where
+  proper : IsProper s
+  field : FieldShape
+  found : field_of 1 (fields_of s 0) ≡ Some field
+  kind : field.kind ≡ kind.Message 1
+  cardinality : field.cardinality ≡ Repeated
 
-all_told : (files : List FileDescriptorProto)
-    → list_all reads files ≡ is_some (meaning descriptor_schema 101 (fields_of descriptor_schema 0) (map file_rec files))
-all_told [] = sym (nothing_means descriptor_schema 101 (fields_of descriptor_schema 0))
-all_told (f ∷ fs) =
-    ap (λ b. b && list_all reads fs) (file_told f)
-    ∙ ap (λ b. is_some (meaning descriptor_schema 101 (fields_of descriptor_schema 0) (file_rec f ∷ [])) && b) (all_told fs)
-    ∙ sym (meaning_splits descriptor_schema 101 (fields_of descriptor_schema 0) (file_rec f ∷ []) (map file_rec fs))
+file_told : (s : Shape) → IsOfSets s → (f : FileDescriptorProto) → reads_in s f ≡ is_some (meaning s 101 (fields_of s 0) (file_rec f ∷ []))
+file_told s h f =
+    ap is_some (sym (one_inner s 100 (fields_of s 1) (file_text f)))
+    ∙ message_told s 101 0 1 h.field (file_rec f) (file_text f) h.proper h.found h.kind h.cardinality refl
 
-set_told : (files : List FileDescriptorProto) (bytes : List ℕ) → bytes ≡ encoded descriptor_shape 0 (files_content files) → length bytes < 2 ^ 64
-    → is_some (parts_meaning_of descriptor_schema 0 bytes) ≡ list_all reads files
-set_told files bytes is short =
+all_told : (s : Shape) → IsOfSets s → (files : List FileDescriptorProto)
+    → list_all (reads_in s) files ≡ is_some (meaning s 101 (fields_of s 0) (map file_rec files))
+all_told s h [] = sym (nothing_means s 101 (fields_of s 0))
+all_told s h (f ∷ fs) =
+    ap (λ b. b && list_all (reads_in s) fs) (file_told s h f)
+    ∙ ap (λ b. is_some (meaning s 101 (fields_of s 0) (file_rec f ∷ [])) && b) (all_told s h fs)
+    ∙ sym (meaning_splits s 101 (fields_of s 0) (file_rec f ∷ []) (map file_rec fs))
+
+set_told : (s : Shape) → IsOfSets s → (files : List FileDescriptorProto) (bytes : List ℕ) → bytes ≡ encoded descriptor_shape 0 (files_content files)
+    → length bytes < 2 ^ 64 → is_some (parts_meaning_of s 0 bytes) ≡ list_all (reads_in s) files
+set_told s h files bytes is short =
     let same : bytes ≡ set_text files = is ∙ ap text_of (set_recs files) in
     let again = recs_again files (omega (arith, short, ap length same)) in
-    ap (λ t. is_some (parts_meaning_of descriptor_schema 0 t)) same
-    ∙ ap (λ o. is_some (option_and_then (meaning descriptor_schema 101 (fields_of descriptor_schema 0)) o)) again
-    ∙ sym (all_told files)
+    ap (λ t. is_some (parts_meaning_of s 0 t)) same
+    ∙ ap (λ o. is_some (option_and_then (meaning s 101 (fields_of s 0)) o)) again
+    ∙ sym (all_told s h files)
+
+-- ---- what they mean without `source_code_info`
+
+shape_of_sets : IsOfSets descriptor_shape
+unfolding descriptor_shape
+shape_of_sets = record {
+  proper = descriptor_shape_proper;
+  field = list_field 1 (codes "file") (codes "file") (kind.Message 1);
+  found = refl;
+  kind = refl;
+  cardinality = refl;
+}
+
+options_of_sets : IsOfSets options_schema
+options_of_sets = record { proper = options_schema_proper; field = set_field; found = options_set_field_found; kind = refl; cardinality = refl }
+
+all_alike : (files : List FileDescriptorProto) → list_all (reads_in descriptor_shape) files ≡ true
+    → list_all (reads_in options_schema) files ≡ list_all reads files
+all_alike [] h = refl
+all_alike (f ∷ fs) h =
+    let parts = both (reads_in descriptor_shape f) (list_all (reads_in descriptor_shape) fs) h in
+    rw (file_alike (file_text f) parts.0, all_alike fs parts.1) refl
+
+options_told : (files : List FileDescriptorProto) (bytes : List ℕ) → bytes ≡ encoded descriptor_shape 0 (files_content files)
+    → DecodesSet bytes (files_content files) → length bytes < 2 ^ 64 → is_some (parts_meaning_of options_schema 0 bytes) ≡ list_all reads files
+options_told files bytes is decodes short =
+    set_told options_schema options_of_sets files bytes is short
+    ∙ all_alike files (sym (set_told descriptor_shape shape_of_sets files bytes is short) ∙ ap is_some decodes.1)
 
 -- ---- the first file that cannot be read again
 
@@ -149,16 +192,16 @@ some_deep (f ∷ fs) h = at (is_deep_file f) (reads f) h (some_deep fs)
 -- a set whose text means something
 pub set_decodable : (files : List FileDescriptorProto) (bytes : List ℕ) (place : Option ℕ) → place ≡ position is_deep_file files → is_some place ≡ false
     → bytes ≡ encoded descriptor_shape 0 (files_content files) → DecodesSet bytes (files_content files) → length bytes < 2 ^ 64
-    → true ≡ is_some (parts_meaning_of descriptor_schema 0 bytes) → AreDecodable files × IsSet files bytes
+    → true ≡ is_some (parts_meaning_of options_schema 0 bytes) → AreDecodable files × IsSet files bytes
 set_decodable files bytes place deep none is decodes short told =
-    let all : list_all reads files ≡ true = sym (told ∙ set_told files bytes is short) in
+    let all : list_all reads files ≡ true = sym (told ∙ options_told files bytes is decodes short) in
     (decodable_from files (none_found is_deep_file files (sym deep ∙ not_there place none)) all, (is, decodes))
 
 -- a set whose text means nothing
-pub set_undecodable : (files : List FileDescriptorProto) (bytes : List ℕ) → bytes ≡ encoded descriptor_shape 0 (files_content files) → length bytes < 2 ^ 64
-    → false ≡ is_some (parts_meaning_of descriptor_schema 0 bytes) → AreDecodable files → ⊥
-set_undecodable files bytes is short told decodable =
-    let bad : false ≡ true = told ∙ set_told files bytes is short ∙ all_from files decodable in
+pub set_undecodable : (files : List FileDescriptorProto) (bytes : List ℕ) → bytes ≡ encoded descriptor_shape 0 (files_content files)
+    → DecodesSet bytes (files_content files) → length bytes < 2 ^ 64 → false ≡ is_some (parts_meaning_of options_schema 0 bytes) → AreDecodable files → ⊥
+set_undecodable files bytes is decodes short told decodable =
+    let bad : false ≡ true = told ∙ options_told files bytes is decodes short ∙ all_from files decodable in
     absurd cc
 
 -- a deep file cannot be read again

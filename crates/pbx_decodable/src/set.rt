@@ -5,7 +5,7 @@ ghost use Rattle.pbx_decodable.specs.Sets.{is_undecodable, IsSetOrNone};
 
 use pbx_desc::FileSet;
 use pbx_desc_records::FileDescriptorProto;
-use pbx_descriptor_schema::{FILE_SET, descriptor_schema};
+use pbx_descriptor_schema::{FILE_SET, options_schema};
 use pbx_validation::is_decodable_by_parts;
 use pbx_wire::NoMemory;
 use std::alloc::Global;
@@ -19,7 +19,7 @@ pub fn encode_decodable(alloc: Global, set: FileSet) -> Result<Option<Vec<u8>>, 
         return Ok(None);
     }
     let bytes = set.encode(alloc)?;
-    let schema = descriptor_schema(alloc)?;
+    let schema = options_schema(alloc)?;
     if is_decodable_by_parts(alloc, &schema, FILE_SET, bytes.as_slice())? {
         Ok(Some(bytes))
     } else {

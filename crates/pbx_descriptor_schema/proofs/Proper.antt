@@ -1,5 +1,5 @@
 -- The schema is proper.
-use Rattle.std.proofs.Common.{◌≡◌, ℕ, zero, suc, ◌<◌, ℤ, pos, negsuc, Bool, true, false, not, ◌&&◌, nat_lt, List, [], ◌∷◌, map, refl, sym, subst, arith, ap, ◌∙◌}
+use Rattle.std.proofs.Common.{◌≡◌, ℕ, zero, suc, ◌<◌, ℤ, pos, negsuc, Bool, true, false, not, ◌&&◌, nat_lt, List, [], ◌∷◌, map, refl, sym, subst, arith}
 use Rattle.std.specs.Prelude.{◌==◌}
 use Rattle.std.specs.List.{AllByRecursion, IsDistinct, list_all}
 use Rattle.std.proofs.lemmas.Bool.Decides.{nat_tests}
@@ -18,8 +18,8 @@ use Rattle.pbx_meaning.specs.Sound.{has_good_keys, AreProper, IsProper, IsRefuse
 use Rattle.pbx_meaning.proofs.SchemaTypes.{HasProperFields, proper_at}
 use Rattle.pbx_wkt_files.specs.Files.{descriptor_files, descriptor_members, descriptor_file_options, descriptor_field_options, descriptor_features}
 use Rattle.pbx_linked.specs.Linked.{camel_from}
-use Rattle.pbx_descriptor_schema.specs.Schema.{descriptor_schema}
-use Rattle.pbx_descriptor_schema.proofs.Opened.{opened, schema_is}
+use Rattle.pbx_descriptor_schema.specs.Schema.{descriptor_schema, options_schema}
+use Rattle.pbx_descriptor_schema.proofs.Opened.{opened, schema_is, options_opened, options_schema_is}
 
 -- the test of numbers that differ, and that of each type
 abbrev are_distinct : List ℕ → Bool
@@ -86,6 +86,16 @@ opened_proper = record {
 pub descriptor_schema_proper : IsProper descriptor_schema
 descriptor_schema_proper = subst IsProper (sym schema_is) opened_proper
 
+options_opened_proper : IsProper options_opened
+unfolding opened options_opened descriptor_files descriptor_members descriptor_file_options descriptor_field_options descriptor_features camel_from
+options_opened_proper = record {
+  types = proper_at options_opened.messages (types_from options_opened.messages refl);
+  enums = enums_from options_opened.enums refl;
+}
+
+pub options_schema_proper : IsProper options_schema
+options_schema_proper = subst IsProper (sym options_schema_is) options_opened_proper
+
 -- so no schema of it is refused as improper
-pub not_refused : (shape back : Shape) (e : SchemaError) → shape ≡ descriptor_schema → IsRefused shape e → e ≡ Improper back → ⊥
-not_refused shape back e is h improper = (subst (IsRefused shape) improper h).1 (subst IsProper (sym is) descriptor_schema_proper)
+pub not_refused : (shape back : Shape) (e : SchemaError) → shape ≡ options_schema → IsRefused shape e → e ≡ Improper back → ⊥
+not_refused shape back e is h improper = (subst (IsRefused shape) improper h).1 (subst IsProper (sym is) options_schema_proper)

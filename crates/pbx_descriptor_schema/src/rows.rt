@@ -1,6 +1,6 @@
 // The rows of the table, each part tied to its types in the schema.
 ghost use Rattle.std.specs.Prelude.{◌≡◌, map, take, drop};
-ghost use Rattle.pbx_descriptor_schema.specs.Schema.{descriptor_schema};
+ghost use Rattle.pbx_descriptor_schema.specs.Schema.{options_schema};
 ghost use Rattle.pbx_descriptor_schema.specs.Rows.{row_type, row_enum};
 
 use crate::table::{
@@ -9,37 +9,37 @@ use crate::table::{
 };
 
 pub(crate) fn file_types() -> &'static [TypeRow]
-    ensures { map row_type result.now ≡ take 7 descriptor_schema.messages }
+    ensures { map row_type result.now ≡ take 7 options_schema.messages }
 {
     &FILE_TYPES
 }
 
 pub(crate) fn member_types() -> &'static [TypeRow]
-    ensures { map row_type result.now ≡ take 7 (drop 7 descriptor_schema.messages) }
+    ensures { map row_type result.now ≡ take 7 (drop 7 options_schema.messages) }
 {
     &MEMBER_TYPES
 }
 
 pub(crate) fn file_option_types() -> &'static [TypeRow]
-    ensures { map row_type result.now ≡ take 2 (drop 7 (drop 7 descriptor_schema.messages)) }
+    ensures { map row_type result.now ≡ take 2 (drop 7 (drop 7 options_schema.messages)) }
 {
     &FILE_OPTION_TYPES
 }
 
 pub(crate) fn option_types() -> &'static [TypeRow]
-    ensures { map row_type result.now ≡ take 7 (drop 2 (drop 7 (drop 7 descriptor_schema.messages))) }
+    ensures { map row_type result.now ≡ take 7 (drop 2 (drop 7 (drop 7 options_schema.messages))) }
 {
     &OPTION_TYPES
 }
 
 pub(crate) fn feature_types() -> &'static [TypeRow]
-    ensures { map row_type result.now ≡ drop 7 (drop 2 (drop 7 (drop 7 descriptor_schema.messages))) }
+    ensures { map row_type result.now ≡ drop 7 (drop 2 (drop 7 (drop 7 options_schema.messages))) }
 {
     &FEATURE_TYPES
 }
 
 pub(crate) fn enum_rows() -> &'static [EnumRow]
-    ensures { map row_enum result.now ≡ descriptor_schema.enums }
+    ensures { map row_enum result.now ≡ options_schema.enums }
 {
     &ENUMS
 }

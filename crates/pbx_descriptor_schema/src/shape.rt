@@ -1,6 +1,6 @@
 ghost use Rattle.std.specs.Prelude.{◌≡◌, ◌++◌, map, option_map, IfOk, OnOk};
 ghost use Rattle.pbx_descriptor_schema.specs.Rows.{row_field, row_type, row_value, row_enum};
-ghost use Rattle.pbx_descriptor_schema.specs.Schema.{descriptor_schema as descriptor_schema_of};
+ghost use Rattle.pbx_descriptor_schema.specs.Schema.{options_schema as options_schema_of};
 
 use crate::rows::{
     enum_rows, feature_types, file_option_types, file_types, member_types, option_types,
@@ -81,7 +81,7 @@ fn add_messages(
 }
 
 fn messages(alloc: Global) -> Result<List<MessageShape>, NoMemory>
-    ensures { IfOk result (λ messages. messages ≡ descriptor_schema_of.messages) }
+    ensures { IfOk result (λ messages. messages ≡ options_schema_of.messages) }
 {
     let mut messages = List::new(alloc);
     add_messages(alloc, file_types(), &mut messages)?;
@@ -117,7 +117,7 @@ fn enumeration(alloc: Global, row: &EnumRow) -> Result<EnumShape, NoMemory>
 }
 
 fn enums(alloc: Global) -> Result<List<EnumShape>, NoMemory>
-    ensures { IfOk result (λ enums. enums ≡ descriptor_schema_of.enums) }
+    ensures { IfOk result (λ enums. enums ≡ options_schema_of.enums) }
 {
     let rows = enum_rows();
     let mut enums = List::new(alloc);
@@ -127,9 +127,10 @@ fn enums(alloc: Global) -> Result<List<EnumShape>, NoMemory>
     Ok(enums)
 }
 
-/// The schema of `google/protobuf/descriptor.proto`. The only error is want of memory.
-pub fn descriptor_schema(alloc: Global) -> Result<Schema, NoMemory>
-    ensures { IfOk result (λ schema. schema ≡ descriptor_schema_of) }
+/// The schema of `google/protobuf/descriptor.proto` without the field `source_code_info` of a file, below which there are
+/// no options. The only error is want of memory.
+pub fn options_schema(alloc: Global) -> Result<Schema, NoMemory>
+    ensures { IfOk result (λ schema. schema ≡ options_schema_of) }
 {
     let shape = Shape {
         messages: messages(alloc)?,

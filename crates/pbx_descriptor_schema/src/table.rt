@@ -50,10 +50,10 @@ const FILE_DESCRIPTOR_SET_FIELDS: [FieldRow; 1] = [
     FieldRow(1, "file", "file", Message(1), Many, None),
 ];
 
-// ---- 1: google.protobuf.FileDescriptorProto
+// ---- 1: google.protobuf.FileDescriptorProto, without `source_code_info`, field 9
 
 #[rattlefmt::skip]
-const FILE_DESCRIPTOR_PROTO_FIELDS: [FieldRow; 13] = [
+const FILE_DESCRIPTOR_PROTO_FIELDS: [FieldRow; 12] = [
     FieldRow(1, "name", "name", String, One, None),
     FieldRow(2, "package", "package", String, One, None),
     FieldRow(3, "dependency", "dependency", String, Many, None),
@@ -64,7 +64,6 @@ const FILE_DESCRIPTOR_PROTO_FIELDS: [FieldRow; 13] = [
     FieldRow(6, "service", "service", Message(12), Many, None),
     FieldRow(7, "extension", "extension", Message(7), Many, None),
     FieldRow(8, "options", "options", Message(14), One, None),
-    FieldRow(9, "source_code_info", "sourceCodeInfo", Message(28), One, None),
     FieldRow(12, "syntax", "syntax", String, One, None),
     FieldRow(14, "edition", "edition", Enum(16), One, None),
 ];

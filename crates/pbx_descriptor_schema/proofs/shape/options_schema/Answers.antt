@@ -1,7 +1,6 @@
 use Rattle.std.proofs.Common.{refl}
-use Rattle.pbx_descriptor_schema.specs.Schema.{descriptor_schema}
 use Rattle.pbx_descriptor_schema.proofs.Proper.{not_refused}
-use Rattle.pbx_descriptor_schema.proofs.shape.descriptor_schema.Goals as goal
+use Rattle.pbx_descriptor_schema.proofs.shape.options_schema.Goals as goal
 
 pub unreachable-requires : goal.unreachable-requires
 unreachable-requires c =
