@@ -3,7 +3,7 @@ ghost use Rattle.pbx_desc.specs.Content.{enum_content, enum_reserved_range_conte
 
 use crate::contents::{FieldList, HasContents};
 use crate::encoding::{Message, record_bytes};
-use crate::parts::{Put, put_by_content, put_each, put_records};
+use crate::parts::{Put, put_by_content, put_each, put_each_by_content};
 use crate::values::{put_number, put_options, put_text, put_texts};
 use pbx_codec::Contents;
 use pbx_desc_records::{EnumDescriptorProto, EnumReservedRange, EnumValueDescriptorProto};
@@ -39,7 +39,7 @@ impl Put for EnumDescriptorProto {
         put_text(1, &self.name, out)?;
         put_each(alloc, schema, 2, &self.value, out)?;
         put_options(alloc, schema, place::ENUM_OPTIONS, 3, &self.options, out)?;
-        put_records(alloc, schema, 4, &self.reserved_range, out)?;
+        put_each_by_content(alloc, schema, 4, &self.reserved_range, out)?;
         put_texts(5, &self.reserved_name, out)
     }
 }

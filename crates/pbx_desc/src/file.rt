@@ -7,7 +7,7 @@ ghost use Rattle.pbx_desc.specs.Content.{file_set_content, file_content};
 
 use crate::contents::{FieldList, HasContents};
 use crate::encoding::{Message, record_bytes};
-use crate::parts::{put_each, put_fields, put_records, put_source};
+use crate::parts::{put_each, put_each_by_content, put_fields, put_source};
 use pbx_codec::Contents;
 use pbx_desc_records::{FileDescriptorProto, FileDescriptorSet};
 use pbx_desc_shape::{descriptor_shape, place};
@@ -100,7 +100,7 @@ pub(crate) fn write_file(
     put_fields(alloc, schema, place::FILE, front, &none, &[], out)?;
     put_each(alloc, schema, 4, &file.message_type, out)?;
     put_each(alloc, schema, 5, &file.enum_type, out)?;
-    put_records(alloc, schema, 6, &file.service, out)?;
+    put_each_by_content(alloc, schema, 6, &file.service, out)?;
     put_each(alloc, schema, 7, &file.extension, out)?;
     let mut middle = FieldList::new(alloc);
     middle.options(8, &file.options)?;

@@ -21,7 +21,7 @@ use pbx_meaning::Schema;
 use pbx_wire::{List, NoMemory, Recs};
 use std::alloc::Global;
 
-/// A record that is written without a content, as there are many of it.
+/// A record whose values are put behind a text one by one. It has a content only where it holds unknown records, which stand among its fields.
 pub(crate) trait Put: HasContents {
     /// Puts the encoding behind the text. Where memory runs out, a part may be appended.
     fn put(&self, alloc: Global, schema: &Schema, out: &mut Vec<u8>) -> Result<(), NoMemory>
@@ -88,7 +88,7 @@ pub(crate) fn put_contents(
     Ok(())
 }
 
-/// Puts the encoding behind the text by way of the content: the way of records that are few, or hold unknown records.
+/// Puts the encoding behind the text by way of the content: the way of records that hold unknown records.
 pub(crate) fn put_by_content<R: HasContents>(
     alloc: Global,
     schema: &Schema,
@@ -102,8 +102,8 @@ pub(crate) fn put_by_content<R: HasContents>(
     put_contents(alloc, schema, R::TYPE_AT, &contents, out)
 }
 
-/// Puts the records behind the text, each as a message under this number. One content at a time is there.
-pub(crate) fn put_records<R: HasContents>(
+/// Puts the records behind the text, each by way of its content, as a message under this number. One content at a time is there.
+pub(crate) fn put_each_by_content<R: HasContents>(
     alloc: Global,
     schema: &Schema,
     number: u32,

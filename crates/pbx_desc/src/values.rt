@@ -1,4 +1,5 @@
-// Values written behind a text without a content, each under the number of its field. Where memory runs out, a part may be appended.
+// Values of fields, put behind a text one by one, each under the number of its field; only options have a content. Where memory runs
+// out, a part may be appended.
 
 ghost use Rattle.std.specs.Prelude.{◌≡◌, ◌++◌, [], OnOk};
 ghost use Rattle.std.specs.Int.{w32};

@@ -6,4 +6,4 @@ mod rows;
 mod shape;
 mod table;
 
-pub use shape::{FILE, FILE_SET, options_schema};
+pub use shape::{FILE_SET, options_schema};

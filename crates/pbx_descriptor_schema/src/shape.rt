@@ -15,9 +15,6 @@ use std::alloc::Global;
 /// The place of `google.protobuf.FileDescriptorSet` in the schema.
 pub const FILE_SET: usize = 0;
 
-/// The place of `google.protobuf.FileDescriptorProto` in the schema.
-pub const FILE: usize = 1;
-
 fn text_of(alloc: Global, text: Option<&'static str>) -> Result<Option<Text>, NoMemory>
     ensures { IfOk result (λ own. own ≡ option_map (λ t. t.now) text.entry) }
 {

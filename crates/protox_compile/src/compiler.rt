@@ -234,7 +234,7 @@ impl<R: FileResolver> Compiler<R> {
     }
 
     /// The resolver. The memory of the files is not given back, piece by piece, but stays taken until the process ends: for a caller whose
-    /// process soon does.
+    /// process soon does. Where there is none for the box that keeps them, it is given back.
     pub fn leak_files(self) -> R
         ensures { result ≡ self.resolver }
     {

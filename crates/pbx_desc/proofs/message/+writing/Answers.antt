@@ -26,11 +26,11 @@ put_message-returns t c =
     let field = written name c.in_ok-put_each.ensures refl refl refl refl refl refl in
     let nested_type = written field (nested_written 3 o.nested_type c.put_each.new.out.items c.put_nested.new.out.items c.in_ok-put_nested.ensures) refl refl refl refl refl refl in
     let enums = written nested_type c.in_ok-put_each-2.ensures refl refl refl refl refl refl in
-    let extension_range = written enums c.in_ok-put_records.ensures refl refl refl refl refl refl in
+    let extension_range = written enums c.in_ok-put_each_by_content.ensures refl refl refl refl refl refl in
     let extension = written extension_range c.in_ok-put_each-3.ensures refl refl refl refl refl refl in
     let options = written extension (c.in_ok-put_options.ensures message_options_type) refl refl refl refl refl refl in
-    let oneof_decl = written options c.in_ok-put_records-2.ensures refl refl refl refl refl refl in
-    let reserved_range = written oneof_decl c.in_ok-put_records-3.ensures refl refl refl refl refl refl in
+    let oneof_decl = written options c.in_ok-put_each_by_content-2.ensures refl refl refl refl refl refl in
+    let reserved_range = written oneof_decl c.in_ok-put_each_by_content-3.ensures refl refl refl refl refl refl in
     subst (λ (x : Content). OnOk c.put_texts.result (IsWritten 2 x first c.put_texts.new.out.items)) (sym (message_content_at m))
     (on_ok c.put_texts.result (λ reserved_name.
     finished o.unknown first c.put_texts.new.out.items (written reserved_range reserved_name refl refl refl refl refl refl) message_type refl (c.if-not-is_empty.ensures.0 refl)) c.put_texts.ensures)

@@ -14,6 +14,6 @@ returns c =
     let name = written start c.in_ok-put_text.ensures refl refl refl refl refl refl in
     let value = written name c.in_ok-put_each.ensures refl refl refl refl refl refl in
     let options = written value (c.in_ok-put_options.ensures enum_options_type) refl refl refl refl refl refl in
-    let reserved_range = written options c.in_ok-put_records.ensures refl refl refl refl refl refl in
+    let reserved_range = written options c.in_ok-put_each_by_content.ensures refl refl refl refl refl refl in
     on_ok c.put_texts.result (λ reserved_name.
     finished r.unknown first c.put_texts.new.out.items (written reserved_range reserved_name refl refl refl refl refl refl) enum_type refl (c.if-not-is_empty.ensures.0 refl)) c.put_texts.ensures

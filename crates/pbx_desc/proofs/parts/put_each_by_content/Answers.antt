@@ -5,7 +5,7 @@ use Rattle.pbx_codec.specs.View.{content_of}
 use Rattle.pbx_desc_shape.specs.Shape.{descriptor_shape}
 use Rattle.pbx_desc.proofs.Behind.{sent_next, sent_here, all_sent}
 use Rattle.pbx_desc.proofs.Told.{are_more}
-use Rattle.pbx_desc.proofs.parts.put_records.Goals as goal
+use Rattle.pbx_desc.proofs.parts.put_each_by_content.Goals as goal
 
 pub loop-record-preserved : goal.loop-record-preserved
 loop-record-preserved g c =

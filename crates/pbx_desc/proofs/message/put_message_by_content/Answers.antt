@@ -2,7 +2,7 @@ use Rattle.std.proofs.Common.{refl}
 use Rattle.pbx_codec.specs.View.{content_of}
 use Rattle.pbx_desc.specs.Content.{message_content}
 use Rattle.pbx_desc.proofs.Places.{on_ok, content_written}
-use Rattle.pbx_desc.proofs.message.put_whole.Goals as goal
+use Rattle.pbx_desc.proofs.message.put_message_by_content.Goals as goal
 
 pub returns : goal.returns
 returns c =

@@ -1,4 +1,4 @@
-//! Records and dynamic messages.
+//! Records and dynamic messages as values.
 
 use crate::reflected::reflected;
 use crate::stop::Stop;
@@ -44,8 +44,13 @@ fn dynamic(alloc: Global, pool: &DescriptorPool, row: &Row) -> Result<String, St
 }
 
 /// Of a record of a well-known type, or of a dynamic message.
-pub(crate) fn well_known(alloc: Global, pool: &DescriptorPool, row: &Row) -> Result<String, Stop> {
-    match row.asked() {
+pub(crate) fn well_known(
+    alloc: Global,
+    pool: &DescriptorPool,
+    row: &Row,
+    sort: &str,
+) -> Result<String, Stop> {
+    match sort {
         "Any" => record::<Any>(alloc, pool, row),
         "Duration" => record::<Duration>(alloc, pool, row),
         "Empty" => record::<Empty>(alloc, pool, row),
@@ -55,13 +60,13 @@ pub(crate) fn well_known(alloc: Global, pool: &DescriptorPool, row: &Row) -> Res
         "ListValue" => record::<ListValue>(alloc, pool, row),
         "Timestamp" => record::<Timestamp>(alloc, pool, row),
         "DynamicMessage" => dynamic(alloc, pool, row),
-        _ => descriptor(alloc, pool, row),
+        _ => descriptor(alloc, pool, row, sort),
     }
 }
 
 /// Of a descriptor record.
-fn descriptor(alloc: Global, pool: &DescriptorPool, row: &Row) -> Result<String, Stop> {
-    match row.asked() {
+fn descriptor(alloc: Global, pool: &DescriptorPool, row: &Row, sort: &str) -> Result<String, Stop> {
+    match sort {
         "FileDescriptorSet" => record::<FileDescriptorSet>(alloc, pool, row),
         "FileDescriptorProto" => record::<FileDescriptorProto>(alloc, pool, row),
         "DescriptorProto" => record::<DescriptorProto>(alloc, pool, row),
@@ -70,13 +75,18 @@ fn descriptor(alloc: Global, pool: &DescriptorPool, row: &Row) -> Result<String,
         "FieldDescriptorProto" => record::<FieldDescriptorProto>(alloc, pool, row),
         "OneofDescriptorProto" => record::<OneofDescriptorProto>(alloc, pool, row),
         "EnumDescriptorProto" => record::<EnumDescriptorProto>(alloc, pool, row),
-        _ => smaller_descriptor(alloc, pool, row),
+        _ => smaller_descriptor(alloc, pool, row, sort),
     }
 }
 
 /// The same of the records of values of enums, of services and of places.
-fn smaller_descriptor(alloc: Global, pool: &DescriptorPool, row: &Row) -> Result<String, Stop> {
-    match row.asked() {
+fn smaller_descriptor(
+    alloc: Global,
+    pool: &DescriptorPool,
+    row: &Row,
+    sort: &str,
+) -> Result<String, Stop> {
+    match sort {
         "EnumReservedRange" => record::<EnumReservedRange>(alloc, pool, row),
         "EnumValueDescriptorProto" => record::<EnumValueDescriptorProto>(alloc, pool, row),
         "ServiceDescriptorProto" => record::<ServiceDescriptorProto>(alloc, pool, row),

@@ -5,7 +5,7 @@ use Rattle.pbx_meaning.specs.Content.{message}
 use Rattle.pbx_meaning.specs.Encoding.{payload, content_recs}
 use Rattle.pbx_desc_shape.specs.Shape.{descriptor_shape}
 use Rattle.pbx_desc.specs.Sound.{AreOf}
-use Rattle.pbx_desc.proofs.parts.put_records.Given as goal
+use Rattle.pbx_desc.proofs.parts.put_each_by_content.Given as goal
 
 abbrev pub invariant-loop-record : goal.invariant-loop-record
 invariant-loop-record g l = record {

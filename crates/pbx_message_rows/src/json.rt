@@ -1,6 +1,8 @@
-//! What the words ask for.
+//! JSON: the message that a text stands for, and the text of a message.
 
-use crate::faults::fault;
+use crate::json_deep::deep;
+use crate::json_faults::fault;
+use crate::pool_of;
 use crate::stop::Stop;
 use pbx_desc::Message;
 use pbx_json::{
@@ -14,7 +16,7 @@ use std::alloc::Global;
 use test_rows::Row;
 
 /// The type that the row names.
-pub(crate) fn type_of(pool: &DescriptorPool, row: &Row) -> Result<MessageDescriptor, Stop> {
+fn type_of(pool: &DescriptorPool, row: &Row) -> Result<MessageDescriptor, Stop> {
     pool.get_message_by_name(row.text(1))
         .ok_or(Stop::NoSuchWord)
 }
@@ -48,7 +50,7 @@ fn text_of(
 }
 
 /// The bytes and the text of the message that a text stands for.
-pub(crate) fn read(alloc: Global, pool: &DescriptorPool, row: &Row) -> Result<String, Stop> {
+fn read(alloc: Global, pool: &DescriptorPool, row: &Row) -> Result<String, Stop> {
     let options = DeserializeOptions::new().deny_unknown_fields(row.text(2) != "allow");
     let message = message_of(alloc, pool, row, row.text(3), &options)?;
     let bytes = message.encode_to_vec(alloc)?;
@@ -73,7 +75,7 @@ fn decoded(
 }
 
 /// The text of the message that bytes mean, under options by letters.
-pub(crate) fn written(alloc: Global, pool: &DescriptorPool, row: &Row) -> Result<String, Stop> {
+fn written(alloc: Global, pool: &DescriptorPool, row: &Row) -> Result<String, Stop> {
     let message = decoded(alloc, pool, row, row.text(3))?;
     let letters = row.text(2);
     let options = SerializeOptions::new()
@@ -95,19 +97,19 @@ fn fits_word(alloc: Global, message: &DynamicMessage) -> Result<String, Stop> {
 }
 
 /// The same of the message that a text stands for.
-pub(crate) fn levels(alloc: Global, pool: &DescriptorPool, row: &Row) -> Result<String, Stop> {
+fn levels(alloc: Global, pool: &DescriptorPool, row: &Row) -> Result<String, Stop> {
     let message = message_of(alloc, pool, row, row.text(2), &DeserializeOptions::new())?;
     fits_word(alloc, &message)
 }
 
 /// The same of the message that bytes mean.
-pub(crate) fn fits(alloc: Global, pool: &DescriptorPool, row: &Row) -> Result<String, Stop> {
+fn fits(alloc: Global, pool: &DescriptorPool, row: &Row) -> Result<String, Stop> {
     let message = decoded(alloc, pool, row, row.text(2))?;
     fits_word(alloc, &message)
 }
 
 /// Whether the type that the row names has the shape of its well-known name.
-pub(crate) fn shape(alloc: Global, pool: &DescriptorPool, row: &Row) -> Result<String, Stop> {
+fn shape(alloc: Global, pool: &DescriptorPool, row: &Row) -> Result<String, Stop> {
     let word = if has_shape(&type_of(pool, row)?) {
         "has its shape"
     } else {
@@ -117,7 +119,7 @@ pub(crate) fn shape(alloc: Global, pool: &DescriptorPool, row: &Row) -> Result<S
 }
 
 /// The first message with a key that has two meanings, and the key, or the first that has not the shape of its well-known name.
-pub(crate) fn names(alloc: Global, pool: &DescriptorPool) -> Result<String, Stop> {
+fn names(alloc: Global, pool: &DescriptorPool) -> Result<String, Stop> {
     match check_names(alloc, pool) {
         Ok(()) => Ok(String::from_str(alloc, "clear")?),
         Err(NameFault::JsonNames { message, key }) => {
@@ -129,5 +131,20 @@ pub(crate) fn names(alloc: Global, pool: &DescriptorPool) -> Result<String, Stop
             Ok(format!(in alloc; "{message} has another shape")?)
         }
         Err(NameFault::NoMemory) => Err(Stop::NoMemory),
+    }
+}
+
+/// What the word asks of the types of the row's set.
+pub(crate) fn answer(alloc: Global, row: &Row, word: &str) -> Result<String, Stop> {
+    let pool = pool_of(alloc, row.text(0))?;
+    match word {
+        "read" => read(alloc, &pool, row),
+        "write" => written(alloc, &pool, row),
+        "levels" => levels(alloc, &pool, row),
+        "fits" => fits(alloc, &pool, row),
+        "deep" => deep(alloc, type_of(&pool, row)?, row.number(2)),
+        "shape" => shape(alloc, &pool, row),
+        "names" => names(alloc, &pool),
+        _ => Err(Stop::NoSuchWord),
     }
 }

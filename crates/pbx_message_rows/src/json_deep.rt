@@ -1,6 +1,6 @@
 //! Trees that nest deeper than any text that is read.
 
-use crate::faults::fault;
+use crate::json_faults::fault;
 use crate::stop::Stop;
 use pbx_json::{JsonMessage, fits_levels};
 use pbx_link::MessageDescriptor;
