@@ -158,16 +158,30 @@ fn again(
     }
 }
 
+/// What comes of reading the bytes of a set file by file.
+fn parts_again(alloc: Global, schema: &Schema, bytes: &[u8]) -> Result<String, Stop> {
+    let parts = decode_parts(alloc, schema, place::FILE_SET, bytes);
+    again(alloc, schema, bytes, parts)
+}
+
+/// What comes of reading the bytes of a set as a whole.
+fn whole_again(alloc: Global, schema: &Schema, bytes: &[u8]) -> Result<String, Stop> {
+    let whole = decode(alloc, schema, place::FILE_SET, bytes);
+    again(alloc, schema, bytes, whole)
+}
+
+/// What comes of reading the bytes of a set in both ways.
+fn bytes_again(alloc: Global, bytes: &[u8]) -> Result<String, Stop> {
+    let schema = descriptor_shape(alloc)?;
+    let parts = parts_again(alloc, &schema, bytes)?;
+    let whole = whole_again(alloc, &schema, bytes)?;
+    Ok(format!(in alloc; "{parts}, as a whole {whole}")?)
+}
+
 /// What comes of reading the set's bytes file by file, and as a whole.
 fn set_again(alloc: Global, made: &Made) -> Result<String, Stop> {
     let bytes = file_set_of(alloc, made.set.file.as_slice())?.encode(alloc)?;
-    let bytes = bytes.as_slice();
-    let schema = descriptor_shape(alloc)?;
-    let parts = decode_parts(alloc, &schema, place::FILE_SET, bytes);
-    let parts = again(alloc, &schema, bytes, parts)?;
-    let whole = decode(alloc, &schema, place::FILE_SET, bytes);
-    let whole = again(alloc, &schema, bytes, whole)?;
-    Ok(format!(in alloc; "{parts}, as a whole {whole}")?)
+    bytes_again(alloc, bytes.as_slice())
 }
 
 /// What the row asks of what its steps made.

@@ -1,10 +1,10 @@
 //! What is transcoded over the built-in files alone, or over those of a set.
 
-use crate::objects::words;
+use crate::objects::{came_of, words};
 use hex::encode;
 use pbx_wire::NoMemory;
 use pbx_wkt::make_wkt_descriptor_pool;
-use protox::{TopError, Transcoded, compile_and_transcode};
+use protox::{TopError, Transcoded};
 use protox_file::{FileResolver, GoogleFileResolver};
 use protox_resolvers::DescriptorSetFileResolver;
 use serde_json::Value;
@@ -37,8 +37,7 @@ fn over<R: FileResolver + Drop>(
     files: R,
 ) -> Result<String, NoMemory> {
     let paths = words(alloc, row)?;
-    let attempt = compile_and_transcode(alloc, files, &paths, row.text(TYPE), tree);
-    told(alloc, &attempt.result)
+    told(alloc, &came_of(alloc, files, &paths, row.text(TYPE), tree))
 }
 
 fn over_set(alloc: Global, row: &Row, tree: &Value) -> Result<String, NoMemory> {

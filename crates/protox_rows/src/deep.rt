@@ -1,8 +1,9 @@
 //! Files whose messages nest so many levels, which no source has.
 
+use crate::objects::came_of;
 use pbx_desc_records::{DescriptorProto, FileDescriptorProto};
 use pbx_wire::{NoMemory, Text, Texts};
-use protox::{TopError, Transcoded, compile_and_transcode};
+use protox::{TopError, Transcoded};
 use protox_file::{File, MemoryResolver};
 use serde_json::Value;
 use std::alloc::Global;
@@ -29,16 +30,33 @@ fn nested(alloc: Global, count: u64) -> Result<DescriptorProto, NoMemory> {
     Ok(message)
 }
 
-/// A file of proto3 with so many messages in one another, in a package of the file's name up to the first dot.
-fn file(alloc: Global, name: &str, count: u64) -> Result<FileDescriptorProto, NoMemory> {
-    let mut file = FileDescriptorProto::new(alloc);
+/// Gives the file its name, its syntax, and as its package the name up to the first dot.
+fn name_file(alloc: Global, file: &mut FileDescriptorProto, name: &str) -> Result<(), NoMemory> {
     file.name = Some(Text::from_str(alloc, name)?);
     file.syntax = Some(Text::from_str(alloc, "proto3")?);
     if let Some((package, _)) = name.split_once('.') {
         file.package = Some(Text::from_str(alloc, package)?);
     }
-    file.message_type.add(nested(alloc, count)?)?;
-    Ok(file)
+    Ok(())
+}
+
+fn fill_file(
+    alloc: Global,
+    file: &mut FileDescriptorProto,
+    name: &str,
+    count: u64,
+) -> Result<(), NoMemory> {
+    name_file(alloc, file, name)?;
+    file.message_type.add(nested(alloc, count)?)
+}
+
+/// A file of proto3 with so many messages in one another, in a package of the file's name up to the first dot.
+fn file(alloc: Global, name: &str, count: u64) -> Result<FileDescriptorProto, NoMemory> {
+    let mut file = FileDescriptorProto::new(alloc);
+    match fill_file(alloc, &mut file, name, count) {
+        Ok(()) => Ok(file),
+        Err(error) => Err(error),
+    }
 }
 
 /// Puts the files of the row under their names, and adds these to the paths.
@@ -69,9 +87,10 @@ fn line(alloc: Global, came: &Result<Transcoded, TopError>) -> Result<String, No
 fn transcoded(alloc: Global, row: &Row, tree: &Value) -> Result<String, NoMemory> {
     let mut files = MemoryResolver::new(alloc);
     let mut paths = Texts::new(alloc);
-    fill(alloc, &mut files, &mut paths, row)?;
-    let attempt = compile_and_transcode(alloc, files, &paths, row.text(TYPE), tree);
-    line(alloc, &attempt.result)
+    match fill(alloc, &mut files, &mut paths, row) {
+        Ok(()) => line(alloc, &came_of(alloc, files, &paths, row.text(TYPE), tree)),
+        Err(error) => Err(error),
+    }
 }
 
 /// What comes of files with so many messages in one another: of a type's name, and then names of files and counts.

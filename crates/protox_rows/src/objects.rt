@@ -1,7 +1,10 @@
 //! The words, files, input and outputs of a row.
 
 use pbx_wire::{Blob, NoMemory, Text, Texts};
+use protox::{TopError, Transcoded, compile_and_transcode};
+use protox_file::FileResolver;
 use protox_io::{MemoryDisk, MemorySink, MemorySource};
+use serde_json::Value;
 use std::alloc::Global;
 use test_rows::Row;
 
@@ -30,6 +33,17 @@ pub(crate) fn words(alloc: Global, row: &Row) -> Result<Texts, NoMemory> {
         "" => Ok(Texts::new(alloc)),
         text => split(alloc, text),
     }
+}
+
+/// What comes of transcoding the tree as a message of the type, over the files of the resolver, which goes.
+pub(crate) fn came_of<R: FileResolver + Drop>(
+    alloc: Global,
+    files: R,
+    paths: &Texts,
+    type_name: &str,
+    tree: &Value,
+) -> Result<Transcoded, TopError> {
+    compile_and_transcode(alloc, files, paths, type_name, tree).result
 }
 
 /// The number of the object's call that fails, if the row has that object fail.

@@ -1,9 +1,9 @@
 //! The set of files that a transcoding gives.
 
-use crate::objects::words;
+use crate::objects::{came_of, words};
 use hex::encode;
 use pbx_wire::NoMemory;
-use protox::{TopError, Transcoded, compile_and_transcode};
+use protox::{TopError, Transcoded};
 use protox_file::MemoryResolver;
 use serde_json::Value;
 use std::alloc::Global;
@@ -43,8 +43,7 @@ fn digits(alloc: Global, came: &Result<Transcoded, TopError>) -> Result<String, 
 fn set_with(alloc: Global, row: &Row, tree: &Value) -> Result<String, NoMemory> {
     let paths = words(alloc, row)?;
     let files = resolver(alloc, row)?;
-    let attempt = compile_and_transcode(alloc, files, &paths, row.text(TYPE), tree);
-    digits(alloc, &attempt.result)
+    digits(alloc, &came_of(alloc, files, &paths, row.text(TYPE), tree))
 }
 
 /// The set of the files, where the input is transcoded as a message of the type.
