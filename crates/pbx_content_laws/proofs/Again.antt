@@ -18,10 +18,10 @@ use Rattle.pbx_linked.specs.Linked.{linked_with, linked_record}
 use Rattle.pbx_rules.specs.Breaches.{bad_numbers, bad_maps, all_breaches, keeps_rules}
 use Rattle.pbx_rules.proofs.First.{rule_1, rule_2, rule_3, rule_4, rule_5, rule_6, rule_7, rule_8, rule_9, rule_10, rule_11, rule_12, rule_13, rule_14, rule_15}
 use Rattle.pbx_rules.proofs.First.{rule_16}
-use Rattle.pbx_rules.proofs.Kept.{keeps_each}
+use Rattle.pbx_rules.proofs.RulesKept.{keeps_each}
 use Rattle.pbx_pool_laws.proofs.Lists.{neither, none_where}
 use Rattle.pbx_pool_laws.specs.Pool.{IsLinked, ArePooled}
-use Rattle.pbx_content_laws.specs.Laws.{LinkedIsLinked, SettledIsLinked, PooledAreLinked}
+use Rattle.pbx_content_laws.specs.ContentLaws.{LinkedIsLinked, SettledIsLinked, PooledAreLinked}
 use Rattle.pbx_content_laws.proofs.Linking.{linking_is_of_contents}
 use Rattle.pbx_content_laws.proofs.Lists.{halves}
 use Rattle.pbx_content_laws.proofs.Rules.{Places, both, all_of}

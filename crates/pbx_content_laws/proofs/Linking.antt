@@ -1,7 +1,7 @@
 -- Linking looks at the content of a record alone.
 use Rattle.std.proofs.Common.{◌≡◌, ◌∙◌, ℕ, ℤ, List, [], ◌∷◌, map, Option, refl, ap, sym, subst}
 use Rattle.pbx_wire.specs.declared.rec.Rec.{Rec}
-use Rattle.pbx_desc_shape.specs.Shape.{file_fields, message_fields, service_fields}
+use Rattle.pbx_desc_shape.specs.DescriptorShape.{file_fields, message_fields, service_fields}
 use Rattle.pbx_desc_records.specs.declared.enumeration.EnumDescriptorProto.{EnumDescriptorProto}
 use Rattle.pbx_desc_records.specs.declared.field.FieldDescriptorProto.{FieldDescriptorProto}
 use Rattle.pbx_desc_records.specs.declared.field.OneofDescriptorProto.{OneofDescriptorProto}
@@ -22,7 +22,7 @@ use Rattle.pbx_linked.specs.Settled.{settled_extension_range, settled_reserved_r
 use Rattle.pbx_linked.specs.Settled.{settled_service, settled_message, settled_file}
 use Rattle.pbx_linked.specs.Linked.{exact_by, exact, type_by, linked_extension, linked_field, linked_message, linked_method, linked_service, linked_with}
 use Rattle.pbx_linked.proofs.Layers.{linked_open, linked_out, settled_open, settled_out}
-use Rattle.pbx_content_laws.specs.Laws.{LinkingIsOfContents}
+use Rattle.pbx_content_laws.specs.ContentLaws.{LinkingIsOfContents}
 use Rattle.pbx_content_laws.proofs.Lists.{map_twice, map_through}
 use Rattle.pbx_content_laws.proofs.Recs.{unknown_again, options_again}
 use Rattle.pbx_content_laws.proofs.Once.{list_again, range_again, reserved_again, field_again, oneof_again, enum_again, method_again, sources_again}

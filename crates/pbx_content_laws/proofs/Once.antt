@@ -2,9 +2,9 @@
 use Rattle.std.proofs.Common.{◌≡◌, ◌∙◌, List, [], ◌∷◌, map, Option, None, Some, refl, ap, sym, subst}
 use Rattle.std.specs.Prelude.{option_map}
 use Rattle.pbx_wire.specs.declared.rec.Rec.{Rec}
-use Rattle.pbx_desc_shape.specs.Shape.{file_fields, message_fields, field_fields, extension_range_fields, reserved_range_fields, oneof_fields}
-use Rattle.pbx_desc_shape.specs.Shape.{enum_fields, enum_reserved_range_fields, enum_value_fields, service_fields, method_fields}
-use Rattle.pbx_desc_shape.specs.Shape.{source_code_info_fields, location_fields}
+use Rattle.pbx_desc_shape.specs.DescriptorShape.{file_fields, message_fields, field_fields, extension_range_fields, reserved_range_fields, oneof_fields}
+use Rattle.pbx_desc_shape.specs.DescriptorShape.{enum_fields, enum_reserved_range_fields, enum_value_fields, service_fields, method_fields}
+use Rattle.pbx_desc_shape.specs.DescriptorShape.{source_code_info_fields, location_fields}
 use Rattle.pbx_desc_records.specs.declared.enumeration.EnumDescriptorProto.{EnumDescriptorProto}
 use Rattle.pbx_desc_records.specs.declared.enumeration.EnumReservedRange.{EnumReservedRange}
 use Rattle.pbx_desc_records.specs.declared.enumeration.EnumValueDescriptorProto.{EnumValueDescriptorProto}
@@ -26,7 +26,7 @@ use Rattle.pbx_linked.specs.Settled.{settled_options, settled_extension_range, s
 use Rattle.pbx_linked.specs.Settled.{settled_value, settled_enum, settled_method, settled_service, settled_location, settled_source, settled_message}
 use Rattle.pbx_linked.specs.Settled.{settled_file}
 use Rattle.pbx_linked.proofs.Layers.{settled_open, settled_out}
-use Rattle.pbx_content_laws.specs.Laws.{SettledIsSettled}
+use Rattle.pbx_content_laws.specs.ContentLaws.{SettledIsSettled}
 use Rattle.pbx_content_laws.proofs.Lists.{map_through}
 use Rattle.pbx_content_laws.proofs.Recs.{unknown_again, options_again}
 

@@ -13,7 +13,7 @@ use Rattle.pbx_meaning.proofs.Sorted.{filter-sorted, those_of-sorted}
 use Rattle.pbx_meaning.proofs.Alike.{sorted_alike}
 use Rattle.pbx_desc_records.specs.Options.{truth_at, bool_of}
 use Rattle.pbx_desc_records.specs.declared.options.Options.{Options}
-use Rattle.pbx_desc_shape.specs.Shape.{file_fields}
+use Rattle.pbx_desc_shape.specs.DescriptorShape.{file_fields}
 use Rattle.pbx_definitions.specs.Says.{is_set, option_bool, has_option, has_record, is_uninterpreted}
 use Rattle.pbx_linked.specs.Unknown.{unread, settled_unknown}
 use Rattle.pbx_linked.specs.Settled.{written_options, settled_options}

@@ -5,7 +5,7 @@ use Rattle.pbx_definitions.specs.Definitions.{Place}
 use Rattle.pbx_scope.specs.Scope.{visible}
 use Rattle.pbx_linked.specs.Settled.{settled_message, settled_enum, settled_file}
 use Rattle.pbx_rules.specs.Breaches.{bad_numbers, bad_maps, all_breaches, places_at, breaches_by}
-use Rattle.pbx_content_laws.specs.Laws.{RulesAreOfContents}
+use Rattle.pbx_content_laws.specs.ContentLaws.{RulesAreOfContents}
 use Rattle.pbx_content_laws.proofs.Lists.{halves}
 use Rattle.pbx_content_laws.proofs.FieldRules.{field_numbers, types, oneofs, labels}
 use Rattle.pbx_content_laws.proofs.RecordRules.{syntax_of, names_of, enums_of, entries_of, options_of, message_sets_of, ranges_of}

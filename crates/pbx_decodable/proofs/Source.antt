@@ -18,8 +18,8 @@ use Rattle.pbx_meaning.specs.Meaning.{meaning, meaning_of}
 use Rattle.pbx_meaning.specs.Sound.{IsProper}
 use Rattle.pbx_meaning.proofs.OntoSplits.{is_plain}
 use Rattle.pbx_meaning.proofs.FaultyLaw.{are_above}
-use Rattle.pbx_desc_shape.specs.Shape.{descriptor_shape, one_field, list_field, source_code_info_fields, location_fields}
-use Rattle.pbx_desc_shape.proofs.Proper.{descriptor_shape_proper}
+use Rattle.pbx_desc_shape.specs.DescriptorShape.{descriptor_shape, one_field, list_field, source_code_info_fields, location_fields}
+use Rattle.pbx_desc_shape.proofs.DescriptorsProper.{descriptor_shape_proper}
 use Rattle.pbx_descriptor_schema.specs.Schema.{descriptor_schema, options_schema}
 use Rattle.pbx_descriptor_schema.proofs.Proper.{descriptor_schema_proper, options_schema_proper}
 use Rattle.pbx_descriptor_schema.proofs.Options.{is_no_map, is_later, are_later, types_are_later, types_are_same, source_field, source_found, file_parts, no_source, file_is_later, source_is, location_is}

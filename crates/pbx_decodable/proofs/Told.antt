@@ -24,10 +24,10 @@ use Rattle.pbx_meaning.proofs.OntoSplits.{not_there, meaning_splits}
 use Rattle.pbx_meaning.proofs.FaultyLaw.{one_inner}
 use Rattle.pbx_meaning.proofs.WrittenShort.{size_first, bytes_within}
 use Rattle.pbx_desc_records.specs.declared.file.FileDescriptorProto.{FileDescriptorProto}
-use Rattle.pbx_desc_shape.specs.Shape.{descriptor_shape, list_field}
-use Rattle.pbx_desc_shape.proofs.Proper.{descriptor_shape_proper}
-use Rattle.pbx_desc.specs.Content.{file_value, files_content}
-use Rattle.pbx_desc.specs.Sets.{DecodesSet, is_deep_file}
+use Rattle.pbx_desc_shape.specs.DescriptorShape.{descriptor_shape, list_field}
+use Rattle.pbx_desc_shape.proofs.DescriptorsProper.{descriptor_shape_proper}
+use Rattle.pbx_desc_encoding.specs.Content.{file_value, files_content}
+use Rattle.pbx_desc_encoding.specs.Sets.{DecodesSet, is_deep_file}
 use Rattle.pbx_descriptor_schema.specs.Schema.{descriptor_schema, options_schema}
 use Rattle.pbx_descriptor_schema.proofs.Opened.{set_field, options_set_field_found}
 use Rattle.pbx_descriptor_schema.proofs.Proper.{options_schema_proper}

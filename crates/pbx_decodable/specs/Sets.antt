@@ -4,9 +4,9 @@ use Rattle.std.specs.Option.{is_some}
 use Rattle.pbx_meaning.specs.Meaning.{meaning_of}
 use Rattle.pbx_meaning.specs.Encoding.{encoded}
 use Rattle.pbx_desc_records.specs.declared.file.FileDescriptorProto.{FileDescriptorProto}
-use Rattle.pbx_desc_shape.specs.Shape.{descriptor_shape}
-use Rattle.pbx_desc.specs.Content.{file_content, files_content}
-use Rattle.pbx_desc.specs.Sets.{DecodesSet, is_deep_file}
+use Rattle.pbx_desc_shape.specs.DescriptorShape.{descriptor_shape}
+use Rattle.pbx_desc_encoding.specs.Content.{file_content, files_content}
+use Rattle.pbx_desc_encoding.specs.Sets.{DecodesSet, is_deep_file}
 use Rattle.pbx_descriptor_schema.specs.Schema.{descriptor_schema}
 
 -- the canonical encoding of the record of a file (Protocol Buffers `descriptor.proto`: FileDescriptorProto)

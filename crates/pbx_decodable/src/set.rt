@@ -1,9 +1,9 @@
 ghost use Rattle.std.specs.Prelude.{◌≡◌, not, List as ListOf, option_map, find, IfOk};
 ghost use Rattle.pbx_desc_records.specs.declared.file.FileDescriptorProto.{FileDescriptorProto as AFile};
-ghost use Rattle.pbx_desc.specs.Sets.{IsSetOf};
+ghost use Rattle.pbx_desc_encoding.specs.Sets.{IsSetOf};
 ghost use Rattle.pbx_decodable.specs.Sets.{is_undecodable, IsSetOrNone};
 
-use pbx_desc::FileSet;
+use pbx_desc_encoding::FileSet;
 use pbx_desc_records::FileDescriptorProto;
 use pbx_descriptor_schema::{FILE_SET, options_schema};
 use pbx_validation::is_decodable_by_parts;

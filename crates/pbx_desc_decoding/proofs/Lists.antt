@@ -11,11 +11,11 @@ use Rattle.pbx_codec.specs.declared.contents.Held.{Held}
 use Rattle.pbx_codec.specs.declared.contents.Held as held
 use Rattle.pbx_codec.specs.declared.contents.Contents.{Contents}
 use Rattle.pbx_codec.specs.View.{content_of, val_of}
-use Rattle.pbx_desc_shape.specs.Shape.{descriptor_shape}
+use Rattle.pbx_desc_shape.specs.DescriptorShape.{descriptor_shape}
 use Rattle.pbx_meaning.specs.Sound.{IsSound}
-use Rattle.pbx_desc.specs.Content.{listed}
-use Rattle.pbx_desc.specs.Sound.{IsOf, AreOf, MayBe}
-use Rattle.pbx_desc.proofs.Told.{val_of-Many}
+use Rattle.pbx_desc_encoding.specs.Content.{listed}
+use Rattle.pbx_desc_encoding.specs.Sound.{IsOf, AreOf, MayBe}
+use Rattle.pbx_desc_encoding.proofs.Told.{val_of-Many}
 use Rattle.pbx_desc_decoding.specs.Taking.{Takes, TakesList}
 
 -- ---- one value

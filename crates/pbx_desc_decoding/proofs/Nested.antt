@@ -4,12 +4,12 @@ use Rattle.pbx_meaning.specs.declared.shape.Cardinality.TheVariants.{Repeated}
 use Rattle.pbx_meaning.specs.declared.shape.Kind.TheVariants as kind
 use Rattle.pbx_meaning.specs.Content.{Content, kept, Val, message}
 use Rattle.pbx_meaning.specs.Sound.{IsSound}
-use Rattle.pbx_desc_shape.specs.Shape.{descriptor_shape, message_fields}
+use Rattle.pbx_desc_shape.specs.DescriptorShape.{descriptor_shape, message_fields}
 use Rattle.pbx_desc_records.specs.declared.message.DescriptorProto.{DescriptorProto, roll-DescriptorProto, the_lemmas}
-use Rattle.pbx_desc.specs.Content.{listed, record_content, of_text, of_texts, of_records, of_options, field_content, enum_content, extension_range_content, oneof_content, reserved_range_content, message_content}
-use Rattle.pbx_desc.specs.Sound.{AreOf}
-use Rattle.pbx_desc.proofs.Messages.{nested_map}
-use Rattle.pbx_desc.proofs.Types.{message_type}
+use Rattle.pbx_desc_encoding.specs.Content.{listed, record_content, of_text, of_texts, of_records, of_options, field_content, enum_content, extension_range_content, oneof_content, reserved_range_content, message_content}
+use Rattle.pbx_desc_encoding.specs.Sound.{AreOf}
+use Rattle.pbx_desc_encoding.proofs.Messages.{nested_map}
+use Rattle.pbx_desc_encoding.proofs.Types.{message_type}
 use Rattle.pbx_desc_decoding.specs.declared.message.OwnParts.{OwnParts}
 use Rattle.pbx_desc_decoding.specs.Taking.{IsRead, AreRead, AreTaken, TakesList}
 use Rattle.pbx_desc_decoding.specs.Messages.{beside, own_values}

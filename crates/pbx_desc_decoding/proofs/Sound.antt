@@ -18,8 +18,8 @@ use Rattle.pbx_meaning.specs.Meaning.{with_field}
 use Rattle.pbx_meaning.specs.Sound.{IsSound, AreSound, IsSoundAt, AreElements, IsElement, AreKept, IsNumber}
 use Rattle.pbx_meaning.proofs.WrittenOrder.{AreAbove, AreListed, all_listed, known_above}
 use Rattle.pbx_meaning.proofs.WrittenFields.{get-above}
-use Rattle.pbx_desc.specs.Content.{writable, fields_from, record_content}
-use Rattle.pbx_desc.specs.Sound.{IsOf, AreOf, MayBe}
+use Rattle.pbx_desc_encoding.specs.Content.{writable, fields_from, record_content}
+use Rattle.pbx_desc_encoding.specs.Sound.{IsOf, AreOf, MayBe}
 
 -- ---- values by number
 

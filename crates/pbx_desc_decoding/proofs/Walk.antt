@@ -11,10 +11,10 @@ use Rattle.pbx_meaning.specs.Content.{Content, content, fields, kept, Fields, no
 use Rattle.pbx_meaning.specs.Shape.{fields_of}
 use Rattle.pbx_meaning.specs.Sound.{IsSound}
 use Rattle.pbx_meaning.proofs.WrittenOrder.{fields_above}
-use Rattle.pbx_desc_shape.specs.Shape.{descriptor_shape}
-use Rattle.pbx_desc_shape.proofs.Proper.{descriptor_shape_proper}
-use Rattle.pbx_desc.specs.Content.{record_content}
-use Rattle.pbx_desc.specs.Sound.{MayBe}
+use Rattle.pbx_desc_shape.specs.DescriptorShape.{descriptor_shape}
+use Rattle.pbx_desc_shape.proofs.DescriptorsProper.{descriptor_shape_proper}
+use Rattle.pbx_desc_encoding.specs.Content.{record_content}
+use Rattle.pbx_desc_encoding.specs.Sound.{MayBe}
 use Rattle.pbx_desc_decoding.specs.Taking.{AreRead, Takes, AreTaken}
 use Rattle.pbx_desc_decoding.proofs.Sound.{are_simple, values_at, MayHave, made_of}
 

@@ -2,8 +2,8 @@
 use Rattle.std.specs.Prelude.{ℕ, List, [], ◌∷◌, Option, ◌==◌, if◌then◌else◌}
 use Rattle.pbx_meaning.specs.declared.shape.FieldShape.{FieldShape}
 use Rattle.pbx_meaning.specs.Content.{Val}
-use Rattle.pbx_desc.specs.Content.{of_text, of_texts, of_records, of_options}
-use Rattle.pbx_desc.specs.Content.{field_content, enum_content, extension_range_content, oneof_content, reserved_range_content}
+use Rattle.pbx_desc_encoding.specs.Content.{of_text, of_texts, of_records, of_options}
+use Rattle.pbx_desc_encoding.specs.Content.{field_content, enum_content, extension_range_content, oneof_content, reserved_range_content}
 use Rattle.pbx_desc_decoding.specs.declared.message.OwnParts.{OwnParts}
 
 -- the fields without that of the number

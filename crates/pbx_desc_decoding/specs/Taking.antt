@@ -6,9 +6,9 @@ use Rattle.pbx_meaning.specs.declared.shape.FieldShape.{FieldShape}
 use Rattle.pbx_meaning.specs.declared.shape.Kind.{Kind}
 use Rattle.pbx_wire.specs.declared.rec.Rec.{Rec}
 use Rattle.pbx_meaning.specs.Content.{Content, fields, kept, get, without, with_fields, Val}
-use Rattle.pbx_desc_shape.specs.Shape.{descriptor_shape}
-use Rattle.pbx_desc.specs.Content.{listed}
-use Rattle.pbx_desc.specs.Sound.{AreOf, MayBe}
+use Rattle.pbx_desc_shape.specs.DescriptorShape.{descriptor_shape}
+use Rattle.pbx_desc_encoding.specs.Content.{listed}
+use Rattle.pbx_desc_encoding.specs.Sound.{AreOf, MayBe}
 
 -- v is the value of the number, where a field of this cardinality and kind may have that value
 abbrev pub IsRead : Cardinality → Kind → ℕ → Option Val → Content → Type 0

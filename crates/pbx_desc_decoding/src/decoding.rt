@@ -3,11 +3,11 @@ ghost use Rattle.pbx_wire.specs.declared.error.DecodeError.{DecodeError as Fault
 ghost use Rattle.pbx_meaning.specs.Content.{Content};
 ghost use Rattle.pbx_meaning.specs.Meaning.{meaning_of};
 ghost use Rattle.pbx_meaning.specs.Faults.{IsFaultOf, IsToldFault};
-ghost use Rattle.pbx_desc_shape.specs.Shape.{descriptor_shape as descriptor_shape_of};
+ghost use Rattle.pbx_desc_shape.specs.DescriptorShape.{descriptor_shape as descriptor_shape_of};
 
 use crate::taking::FromContents;
 use pbx_codec::decode;
-use pbx_desc::Message;
+use pbx_desc_encoding::Message;
 use pbx_desc_shape::descriptor_shape;
 use pbx_meaning::meaning_is_sound;
 use pbx_wire::DecodeError;

@@ -4,9 +4,9 @@ ghost use Rattle.pbx_meaning.specs.declared.shape.Kind.{Kind};
 ghost use Rattle.pbx_meaning.specs.declared.shape.Kind.TheVariants as kind;
 ghost use Rattle.pbx_meaning.specs.Content.{number, truth, text, message};
 ghost use Rattle.pbx_codec.specs.View.{content_of, val_of};
-ghost use Rattle.pbx_desc_shape.specs.Shape.{descriptor_shape};
-ghost use Rattle.pbx_desc.specs.Content.{listed};
-ghost use Rattle.pbx_desc.specs.Sound.{IsOf, AreOf, MayBe};
+ghost use Rattle.pbx_desc_shape.specs.DescriptorShape.{descriptor_shape};
+ghost use Rattle.pbx_desc_encoding.specs.Content.{listed};
+ghost use Rattle.pbx_desc_encoding.specs.Sound.{IsOf, AreOf, MayBe};
 
 use crate::taking::FromContents;
 use pbx_codec::{Contents, Held};

@@ -1,7 +1,7 @@
 ghost use Rattle.pbx_meaning.specs.Meaning.{meaning_of};
 ghost use Rattle.pbx_meaning.specs.Faults.{IsFaultOf};
-ghost use Rattle.pbx_desc_shape.specs.Shape.{descriptor_shape};
-ghost use Rattle.pbx_desc.specs.Content.{enum_content, enum_reserved_range_content, enum_value_content};
+ghost use Rattle.pbx_desc_shape.specs.DescriptorShape.{descriptor_shape};
+ghost use Rattle.pbx_desc_encoding.specs.Content.{enum_content, enum_reserved_range_content, enum_value_content};
 
 use crate::decoding::{DecodeMessage, record_from_bytes};
 use crate::taking::{
@@ -9,7 +9,7 @@ use crate::taking::{
 };
 use pbx_codec::Contents;
 use pbx_desc_records::{EnumDescriptorProto, EnumReservedRange, EnumValueDescriptorProto};
-use pbx_desc_shape::place;
+use pbx_desc_shape::descriptor_place as place;
 use pbx_wire::{DecodeError, NoMemory};
 use std::alloc::Global;
 

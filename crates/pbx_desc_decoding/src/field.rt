@@ -1,13 +1,13 @@
 ghost use Rattle.pbx_meaning.specs.Meaning.{meaning_of};
 ghost use Rattle.pbx_meaning.specs.Faults.{IsFaultOf};
-ghost use Rattle.pbx_desc_shape.specs.Shape.{descriptor_shape};
-ghost use Rattle.pbx_desc.specs.Content.{field_content, oneof_content};
+ghost use Rattle.pbx_desc_shape.specs.DescriptorShape.{descriptor_shape};
+ghost use Rattle.pbx_desc_encoding.specs.Content.{field_content, oneof_content};
 
 use crate::decoding::{DecodeMessage, record_from_bytes};
 use crate::taking::{FromContents, kept_records, take_number, take_options, take_text, take_truth};
 use pbx_codec::Contents;
 use pbx_desc_records::{FieldDescriptorProto, OneofDescriptorProto};
-use pbx_desc_shape::place;
+use pbx_desc_shape::descriptor_place as place;
 use pbx_wire::{DecodeError, NoMemory};
 use std::alloc::Global;
 

@@ -2,9 +2,9 @@ ghost use Rattle.std.specs.Prelude.{OnOk};
 ghost use Rattle.pbx_meaning.specs.Meaning.{meaning_of};
 ghost use Rattle.pbx_meaning.specs.Faults.{IsFaultOf};
 ghost use Rattle.pbx_codec.specs.View.{content_of};
-ghost use Rattle.pbx_desc_shape.specs.Shape.{descriptor_shape as descriptor_shape_of, file_fields};
-ghost use Rattle.pbx_desc.specs.Content.{file_set_content, file_values, file_content};
-ghost use Rattle.pbx_desc.specs.Sets.{set_meaning_of, IsSetFault};
+ghost use Rattle.pbx_desc_shape.specs.DescriptorShape.{descriptor_shape as descriptor_shape_of, file_fields};
+ghost use Rattle.pbx_desc_encoding.specs.Content.{file_set_content, file_values, file_content};
+ghost use Rattle.pbx_desc_encoding.specs.Sets.{set_meaning_of, IsSetFault};
 ghost use Rattle.pbx_desc_decoding.specs.Taking.{AreTaken};
 
 use crate::decoding::{DecodeMessage, record_from_bytes};
@@ -14,7 +14,7 @@ use crate::taking::{
 };
 use pbx_codec::{Contents, decode_parts};
 use pbx_desc_records::{FileDescriptorProto, FileDescriptorSet};
-use pbx_desc_shape::{descriptor_shape, place};
+use pbx_desc_shape::{descriptor_place as place, descriptor_shape};
 use pbx_meaning::meaning_is_sound;
 use pbx_wire::{DecodeError, NoMemory};
 use std::alloc::Global;

@@ -2,10 +2,10 @@ ghost use Rattle.std.specs.Prelude.{option_map};
 ghost use Rattle.pbx_meaning.specs.Content.{without_kept};
 ghost use Rattle.pbx_meaning.specs.Meaning.{meaning_of};
 ghost use Rattle.pbx_meaning.specs.Faults.{IsFaultOf};
-ghost use Rattle.pbx_types_shape.specs.Shape.{types_shape};
+ghost use Rattle.pbx_types_shape.specs.TypesShape.{types_shape};
 
 use crate::decoding::DecodeMessage;
-use pbx_types_shape::place;
+use pbx_types_shape::well_known_place as place;
 use pbx_wire::DecodeError;
 use pbx_wrappers::{i32_in, i64_in, u32_in, u64_in, wrapped_value};
 use std::alloc::Global;

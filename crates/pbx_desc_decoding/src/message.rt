@@ -5,9 +5,9 @@ ghost use Rattle.pbx_meaning.specs.Meaning.{meaning_of};
 ghost use Rattle.pbx_meaning.specs.Faults.{IsFaultOf};
 ghost use Rattle.pbx_meaning.specs.Sound.{IsSound};
 ghost use Rattle.pbx_codec.specs.View.{content_of, val_of};
-ghost use Rattle.pbx_desc_shape.specs.Shape.{descriptor_shape, message_fields};
-ghost use Rattle.pbx_desc.specs.Content.{message_content, extension_range_content, reserved_range_content};
-ghost use Rattle.pbx_desc.specs.Sound.{AreOf};
+ghost use Rattle.pbx_desc_shape.specs.DescriptorShape.{descriptor_shape, message_fields};
+ghost use Rattle.pbx_desc_encoding.specs.Content.{message_content, extension_range_content, reserved_range_content};
+ghost use Rattle.pbx_desc_encoding.specs.Sound.{AreOf};
 ghost use Rattle.pbx_desc_decoding.specs.Taking.{AreTaken};
 ghost use Rattle.pbx_desc_decoding.specs.Messages.{beside, own_values};
 
@@ -22,7 +22,7 @@ use pbx_desc_records::{
     DescriptorProto, EnumDescriptorProto, ExtensionRange, FieldDescriptorProto,
     OneofDescriptorProto, Options, ReservedRange,
 };
-use pbx_desc_shape::place;
+use pbx_desc_shape::descriptor_place as place;
 use pbx_wire::{DecodeError, List, NoMemory, Recs, Text, Texts};
 use std::alloc::Global;
 

@@ -4,14 +4,14 @@ ghost use Rattle.pbx_meaning.specs.Meaning.{meaning_of};
 ghost use Rattle.pbx_meaning.specs.Faults.{IsFaultOf};
 ghost use Rattle.pbx_meaning.specs.Sound.{IsSound};
 ghost use Rattle.pbx_codec.specs.View.{content_of};
-ghost use Rattle.pbx_desc_shape.specs.Shape.{descriptor_shape};
-ghost use Rattle.pbx_desc.specs.Content.{options_content};
+ghost use Rattle.pbx_desc_shape.specs.DescriptorShape.{descriptor_shape};
+ghost use Rattle.pbx_desc_encoding.specs.Content.{options_content};
 
 use crate::decoding::{DecodeMessage, record_from_bytes};
 use crate::taking::{FromContents, kept_records};
 use pbx_codec::Contents;
 use pbx_desc_records::Options;
-use pbx_desc_shape::place;
+use pbx_desc_shape::descriptor_place as place;
 use pbx_wire::{DecodeError, NoMemory};
 use std::alloc::Global;
 

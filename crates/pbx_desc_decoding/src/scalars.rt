@@ -2,11 +2,11 @@ ghost use Rattle.std.specs.Prelude.{option_map};
 ghost use Rattle.pbx_meaning.specs.Content.{without_kept};
 ghost use Rattle.pbx_meaning.specs.Meaning.{meaning_of};
 ghost use Rattle.pbx_meaning.specs.Faults.{IsFaultOf};
-ghost use Rattle.pbx_types_shape.specs.Shape.{types_shape as types_shape_of};
+ghost use Rattle.pbx_types_shape.specs.TypesShape.{types_shape as types_shape_of};
 
 use crate::decoding::DecodeMessage;
 use bytes::Bytes;
-use pbx_types_shape::place;
+use pbx_types_shape::well_known_place as place;
 use pbx_wire::DecodeError;
 use pbx_wrappers::{octets_in, string_in, truth_in, type_contents, wrapped_value};
 use std::alloc::Global;

@@ -1,7 +1,7 @@
 ghost use Rattle.pbx_meaning.specs.Meaning.{meaning_of};
 ghost use Rattle.pbx_meaning.specs.Faults.{IsFaultOf};
-ghost use Rattle.pbx_desc_shape.specs.Shape.{descriptor_shape};
-ghost use Rattle.pbx_desc.specs.Content.{location_content, source_code_info_content};
+ghost use Rattle.pbx_desc_shape.specs.DescriptorShape.{descriptor_shape};
+ghost use Rattle.pbx_desc_encoding.specs.Content.{location_content, source_code_info_content};
 
 use crate::decoding::{DecodeMessage, record_from_bytes};
 use crate::taking::{
@@ -9,7 +9,7 @@ use crate::taking::{
 };
 use pbx_codec::Contents;
 use pbx_desc_records::{Location, SourceCodeInfo};
-use pbx_desc_shape::place;
+use pbx_desc_shape::descriptor_place as place;
 use pbx_wire::{DecodeError, NoMemory};
 use std::alloc::Global;
 

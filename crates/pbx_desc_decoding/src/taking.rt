@@ -6,8 +6,8 @@ ghost use Rattle.pbx_meaning.specs.Content.{Content, kept};
 ghost use Rattle.pbx_meaning.specs.Shape.{fields_of};
 ghost use Rattle.pbx_meaning.specs.Sound.{IsSound};
 ghost use Rattle.pbx_codec.specs.View.{content_of, val_of};
-ghost use Rattle.pbx_desc_shape.specs.Shape.{descriptor_shape};
-ghost use Rattle.pbx_desc.specs.Content.{of_text, of_number, of_truth, of_texts, of_numbers, of_record, of_records, of_options};
+ghost use Rattle.pbx_desc_shape.specs.DescriptorShape.{descriptor_shape};
+ghost use Rattle.pbx_desc_encoding.specs.Content.{of_text, of_number, of_truth, of_texts, of_numbers, of_record, of_records, of_options};
 ghost use Rattle.pbx_desc_decoding.specs.Taking.{Takes, TakesList};
 
 use crate::elements::{

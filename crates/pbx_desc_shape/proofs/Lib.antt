@@ -1,1 +1,1 @@
-pub mod Proper
+pub mod DescriptorsProper

@@ -1,2 +1,2 @@
-pub mod Shape
-pub mod Rows
+pub mod DescriptorShape
+pub mod DescriptorRows

@@ -10,7 +10,7 @@ use Rattle.pbx_meaning.specs.declared.shape.FieldShape.{FieldShape}
 use Rattle.pbx_meaning.specs.declared.shape.MessageShape.{MessageShape}
 use Rattle.pbx_meaning.specs.declared.shape.Shape.{Shape}
 use Rattle.pbx_meaning.specs.Shape.{declared_at, by_number, field_of, fields_of}
-use Rattle.pbx_desc_shape.specs.Shape.{one_field, list_field, location_fields}
+use Rattle.pbx_desc_shape.specs.DescriptorShape.{one_field, list_field, location_fields}
 use Rattle.pbx_wkt_files.specs.Files.{descriptor_files, descriptor_members, descriptor_file_options, descriptor_field_options, descriptor_features}
 use Rattle.pbx_linked.specs.Linked.{camel_from}
 use Rattle.pbx_descriptor_schema.specs.Schema.{descriptor_schema, without_field_at, options_schema}

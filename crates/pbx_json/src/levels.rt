@@ -2,7 +2,7 @@ ghost use Rattle.std.specs.Prelude.{◌≡◌, IfOk};
 ghost use Rattle.pbx_described.specs.Shapes.{shape_of, place_of};
 ghost use Rattle.pbx_json_meaning.specs.Fits.{fits};
 
-use pbx_message::DynamicMessage;
+use pbx_message_dynamic::DynamicMessage;
 use pbx_wire::NoMemory;
 use std::alloc::Global;
 

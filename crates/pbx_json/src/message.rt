@@ -4,11 +4,11 @@ ghost use Rattle.pbx_meaning.specs.Content.{Content};
 ghost use Rattle.pbx_desc_records.specs.declared.message.DescriptorProto.{DescriptorProto};
 ghost use Rattle.pbx_described.specs.Descriptors.{Described};
 ghost use Rattle.pbx_json_meaning.specs.Options.{default_reading, default_writing};
-ghost use Rattle.pbx_message.specs.Trees.{IsRead, IsReadFault, IsUnread, IsWritten, IsWriteFault, IsUnwritten};
+ghost use Rattle.pbx_message_dynamic.specs.Trees.{IsRead, IsReadFault, IsUnread, IsWritten, IsWriteFault, IsUnwritten};
 
 use pbx_json_meaning::{DeserializeOptions, JsonError, SerializeOptions};
 use pbx_link::MessageDescriptor;
-use pbx_message::DynamicMessage;
+use pbx_message_dynamic::DynamicMessage;
 use serde_json::Value;
 use std::alloc::Global;
 

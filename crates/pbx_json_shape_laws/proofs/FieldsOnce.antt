@@ -19,7 +19,7 @@ use Rattle.pbx_pool_laws.proofs.Counted.{count, count_append, count_map, is_call
 use Rattle.pbx_pool_laws.proofs.Types.{source}
 use Rattle.pbx_described.specs.Descriptors.{Described, described, all_extensions, fields_of_message, extensions_of_message, extension_json_name}
 use Rattle.pbx_described.specs.Shapes.{field_shape, extension_shape, message_shape}
-use Rattle.pbx_described.proofs.Lists.{parts_back, parts_of_described}
+use Rattle.pbx_described.proofs.DescribedLists.{parts_back, parts_of_described}
 use Rattle.pbx_message_laws.specs.Pools.{IsPooled}
 use Rattle.pbx_message_laws.proofs.FieldNames.{field_named}
 use Rattle.pbx_json_meaning.specs.Names.{name_is, extension_is}

@@ -23,7 +23,7 @@ use Rattle.pbx_pool_laws.proofs.Counted.{count, count_map, is_called}
 use Rattle.pbx_pool_laws.proofs.Lists.{here, there}
 use Rattle.pbx_described.specs.Descriptors.{Described, values_of_enum}
 use Rattle.pbx_described.specs.Shapes.{value_shape, enum_shape}
-use Rattle.pbx_described.proofs.Lists.{parts_of_described}
+use Rattle.pbx_described.proofs.DescribedLists.{parts_of_described}
 use Rattle.pbx_shapes.specs.EnumNumbers.{AreEnumNumbers}
 use Rattle.pbx_json_meaning.specs.Canonical.{value_of_number}
 use Rattle.pbx_json_meaning.specs.Named.{has_enum_number}

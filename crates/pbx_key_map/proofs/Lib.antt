@@ -1,2 +1,2 @@
-pub mod Order
-pub mod Places
+pub mod KeyOrder
+pub mod KeyPlaces

@@ -1,6 +1,6 @@
 //! Values under keys of maps, in the order of the keys.
 #![tactic(auto)]
 
-mod keys;
+mod key_map;
 
 pub use keys::KeyMap;

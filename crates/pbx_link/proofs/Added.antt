@@ -6,7 +6,7 @@ use Rattle.pbx_wire.specs.declared.error.DecodeError.{DecodeError as Fault}
 use Rattle.pbx_wire.specs.declared.error.DecodeError.TheVariants as faults
 use Rattle.pbx_meaning.specs.Content.{Content}
 use Rattle.pbx_meaning.specs.Faults.{IsFirst, IsToldFault}
-use Rattle.pbx_desc.specs.Sets.{set_meaning_of, IsSetFault}
+use Rattle.pbx_desc_encoding.specs.Sets.{set_meaning_of, IsSetFault}
 use Rattle.pbx_rules.specs.Breaches.{keeps_rules}
 use Rattle.pbx_pool_laws.specs.Pool.{with_file}
 use Rattle.pbx_link.specs.declared.error.DescriptorError.{DescriptorError}

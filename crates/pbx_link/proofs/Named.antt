@@ -11,7 +11,7 @@ use Rattle.pbx_desc_records.specs.declared.file.FileDescriptorProto.{FileDescrip
 use Rattle.pbx_definitions.specs.Names.{is_named}
 use Rattle.pbx_definitions.specs.Definitions.{Part, message_name, enum_name, messages, enums}
 use Rattle.pbx_pooled.specs.Pooled.{file_index, by_file}
-use Rattle.pbx_pool_laws.specs.Laws.{message_with_file, enum_with_file}
+use Rattle.pbx_pool_laws.specs.PoolLaws.{message_with_file, enum_with_file}
 use Rattle.pbx_visible.proofs.Named.{find_numbered}
 use Rattle.pbx_pool.specs.Places.{place_with_file}
 use Rattle.pbx_pool.proofs.Found.{told_from, stands_at, no_place}

@@ -13,7 +13,7 @@ use Rattle.pbx_pool_laws.proofs.Distinct.{pooled_are_distinct}
 use Rattle.pbx_pool_laws.proofs.Named.{only_found, same_name}
 use Rattle.pbx_described.specs.Descriptors.{Described, described, all_messages}
 use Rattle.pbx_described.specs.Shapes.{message_named, message_place, message_shape, shape_of}
-use Rattle.pbx_described.proofs.Lists.{parts_back}
+use Rattle.pbx_described.proofs.DescribedLists.{parts_back}
 use Rattle.pbx_shapes.proofs.Lists.{first_at, first_map, position_is}
 use Rattle.pbx_link.proofs.Parts.{contains_piece}
 

@@ -20,9 +20,9 @@ use Rattle.pbx_scope_rules.specs.Rules.{unbound_in_fields, unbound_in_extensions
 use Rattle.pbx_linked.specs.Linked.{exact_by, linked_record}
 use Rattle.pbx_rules.specs.Breaches.{keeps_rules}
 use Rattle.pbx_rules.proofs.First.{rule_7}
-use Rattle.pbx_rules.proofs.Kept.{keeps_each}
+use Rattle.pbx_rules.proofs.RulesKept.{keeps_each}
 use Rattle.pbx_pool_laws.specs.Pool.{IsLinked, ArePooled}
-use Rattle.pbx_pool_laws.specs.Laws.{undotted, message_with_file, enum_with_file}
+use Rattle.pbx_pool_laws.specs.PoolLaws.{undotted, message_with_file, enum_with_file}
 use Rattle.pbx_pool_laws.proofs.Lists.{left_nil, right_nil, none_where}
 use Rattle.pbx_pool_laws.proofs.LinkedParts.{changed_in, extension_linked, extensions_of_linked, method_linked, methods_of_linked}
 use Rattle.pbx_pool_laws.proofs.Types.{Source, source, not_at}

@@ -19,9 +19,9 @@ use Rattle.pbx_scope_rules.specs.Rules.{is_bad_type_name, has_bad_type_name, unb
 use Rattle.pbx_linked.specs.Linked.{exact_by, type_by, linked_record}
 use Rattle.pbx_rules.specs.Breaches.{keeps_rules}
 use Rattle.pbx_rules.proofs.First.{rule_7, rule_8}
-use Rattle.pbx_rules.proofs.Kept.{keeps_each}
+use Rattle.pbx_rules.proofs.RulesKept.{keeps_each}
 use Rattle.pbx_pool_laws.specs.Pool.{ArePooled}
-use Rattle.pbx_pool_laws.specs.Laws.{HasType}
+use Rattle.pbx_pool_laws.specs.PoolLaws.{HasType}
 use Rattle.pbx_pool_laws.proofs.Lists.{neither, no_other, left_nil, right_nil, none_where}
 use Rattle.pbx_pool_laws.proofs.LinkedParts.{changed_in, field_linked, extension_linked, fields_of_linked, extensions_of_linked}
 use Rattle.pbx_pool_laws.proofs.Types.{Source, source, not_at}

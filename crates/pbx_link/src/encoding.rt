@@ -3,13 +3,13 @@ ghost use Rattle.std.specs.Prelude.{◌≡◌, ◌≤◌, IfOk};
 ghost use Rattle.pbx_meaning.specs.Encoding.{encoded};
 ghost use Rattle.pbx_meaning.specs.Same.{Decodes};
 ghost use Rattle.pbx_meaning.specs.Sound.{PartsFit, depth};
-ghost use Rattle.pbx_desc_shape.specs.Shape.{descriptor_shape};
-ghost use Rattle.pbx_desc.specs.Content.{file_content, files_content};
-ghost use Rattle.pbx_desc.specs.Sets.{DecodesSet, IsSetOf};
+ghost use Rattle.pbx_desc_shape.specs.DescriptorShape.{descriptor_shape};
+ghost use Rattle.pbx_desc_encoding.specs.Content.{file_content, files_content};
+ghost use Rattle.pbx_desc_encoding.specs.Sets.{DecodesSet, IsSetOf};
 
 use crate::file::FileDescriptor;
 use crate::pool::DescriptorPool;
-use pbx_desc::{FileSet, Message};
+use pbx_desc_encoding::{FileSet, Message};
 use pbx_desc_records::FileDescriptorProto;
 use pbx_wire::NoMemory;
 use std::alloc::Global;

@@ -3,7 +3,7 @@ use Rattle.std.proofs.Common.{◌≡◌, ◌∙◌, ℕ, List, [], ◌∷◌, ma
 use Rattle.pbx_desc_records.specs.declared.file.FileDescriptorProto.{FileDescriptorProto}
 use Rattle.pbx_desc_records.specs.declared.message.DescriptorProto.{DescriptorProto, out-DescriptorProto, out-roll-DescriptorProto, fold-DescriptorProto, fold_out-DescriptorProto}
 use Rattle.pbx_desc_records.specs.declared.message.DescriptorProto.TheOpen.{DescriptorProto-F}
-use Rattle.pbx_desc_shape.specs.Shape.{message_fields}
+use Rattle.pbx_desc_shape.specs.DescriptorShape.{message_fields}
 use Rattle.pbx_definitions.specs.Names.{text_or_empty, qualified}
 use Rattle.pbx_definitions.specs.Definitions.{layer_with}
 use Rattle.pbx_linked.specs.Unknown.{settled_unknown}

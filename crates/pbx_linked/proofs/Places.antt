@@ -6,7 +6,7 @@ use Rattle.pbx_desc_records.specs.declared.source.Location.{Location}
 use Rattle.pbx_desc_records.specs.declared.source.SourceCodeInfo.{SourceCodeInfo}
 use Rattle.pbx_linked.specs.Unknown.{settled_unknown, unread}
 use Rattle.pbx_linked.specs.Settled.{settled_location, settled_source}
-use Rattle.pbx_desc_shape.specs.Shape.{location_fields}
+use Rattle.pbx_desc_shape.specs.DescriptorShape.{location_fields}
 
 nothing_settled : (rs : List Rec) → rs ≡ [] → settled_unknown location_fields rs ≡ rs
 unfolding settled_unknown unread

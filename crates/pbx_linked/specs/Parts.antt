@@ -2,7 +2,7 @@
 use Rattle.std.specs.Prelude.{ℕ, List, map}
 use Rattle.pbx_desc_records.specs.declared.file.FileDescriptorProto.{FileDescriptorProto}
 use Rattle.pbx_desc_records.specs.declared.message.DescriptorProto.{DescriptorProto, out-DescriptorProto}
-use Rattle.pbx_desc_shape.specs.Shape.{message_fields}
+use Rattle.pbx_desc_shape.specs.DescriptorShape.{message_fields}
 use Rattle.pbx_linked.specs.Unknown.{settled_unknown}
 use Rattle.pbx_linked.specs.Settled.{settled_field, settled_enum, settled_extension_range, settled_options, settled_oneof, settled_reserved_range}
 use Rattle.pbx_linked.specs.Linked.{linked_field, linked_extension}

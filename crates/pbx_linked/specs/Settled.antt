@@ -1,9 +1,9 @@
 -- Records as their own encoding gives them back: unknown records by ascending number, those of one number in their order, without
 -- what is never written (Protocol Buffers "Encoding": Field Order; "Language Guide": Unknown Fields). Options keep their order.
 use Rattle.std.specs.Prelude.{◌≡◌, [], map, Option, option_map}
-use Rattle.pbx_desc_shape.specs.Shape.{file_fields, message_fields, field_fields, extension_range_fields, reserved_range_fields, oneof_fields}
-use Rattle.pbx_desc_shape.specs.Shape.{enum_fields, enum_reserved_range_fields, enum_value_fields, service_fields, method_fields}
-use Rattle.pbx_desc_shape.specs.Shape.{source_code_info_fields, location_fields}
+use Rattle.pbx_desc_shape.specs.DescriptorShape.{file_fields, message_fields, field_fields, extension_range_fields, reserved_range_fields, oneof_fields}
+use Rattle.pbx_desc_shape.specs.DescriptorShape.{enum_fields, enum_reserved_range_fields, enum_value_fields, service_fields, method_fields}
+use Rattle.pbx_desc_shape.specs.DescriptorShape.{source_code_info_fields, location_fields}
 use Rattle.pbx_desc_records.specs.declared.enumeration.EnumDescriptorProto.{EnumDescriptorProto}
 use Rattle.pbx_desc_records.specs.declared.enumeration.EnumReservedRange.{EnumReservedRange}
 use Rattle.pbx_desc_records.specs.declared.enumeration.EnumValueDescriptorProto.{EnumValueDescriptorProto}

@@ -6,9 +6,9 @@ use Rattle.pbx_wire.specs.declared.rec.Rec.{Rec}
 use Rattle.pbx_meaning.specs.declared.shape.FieldShape.{FieldShape}
 use Rattle.pbx_meaning.specs.Records.{number_of, any, sorted}
 use Rattle.pbx_meaning.specs.Shape.{is_kept}
-use Rattle.pbx_desc_shape.specs.Shape.{file_fields, message_fields, field_fields, extension_range_fields, reserved_range_fields, oneof_fields}
-use Rattle.pbx_desc_shape.specs.Shape.{enum_fields, enum_reserved_range_fields, enum_value_fields, service_fields, method_fields}
-use Rattle.pbx_desc_shape.specs.Shape.{source_code_info_fields, location_fields}
+use Rattle.pbx_desc_shape.specs.DescriptorShape.{file_fields, message_fields, field_fields, extension_range_fields, reserved_range_fields, oneof_fields}
+use Rattle.pbx_desc_shape.specs.DescriptorShape.{enum_fields, enum_reserved_range_fields, enum_value_fields, service_fields, method_fields}
+use Rattle.pbx_desc_shape.specs.DescriptorShape.{source_code_info_fields, location_fields}
 use Rattle.pbx_linked.specs.declared.unknown.RecordType.{RecordType}
 use Rattle.pbx_linked.specs.declared.unknown.RecordType.TheVariants as types
 

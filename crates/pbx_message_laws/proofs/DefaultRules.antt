@@ -19,7 +19,7 @@ use Rattle.pbx_scope_rules.specs.Defaults.{is_default_of, has_bad_default, bad_d
 use Rattle.pbx_linked.specs.Linked.{linked_record, type_by, exact_by, exact}
 use Rattle.pbx_rules.specs.Breaches.{keeps_rules}
 use Rattle.pbx_rules.proofs.First.{rule_7, rule_8, rule_11}
-use Rattle.pbx_rules.proofs.Kept.{keeps_each}
+use Rattle.pbx_rules.proofs.RulesKept.{keeps_each}
 use Rattle.pbx_pool_laws.specs.Pool.{ArePooled}
 use Rattle.pbx_pool_laws.proofs.Lists.{neither, left_nil, right_nil, none_where}
 use Rattle.pbx_pool_laws.proofs.LinkedParts.{changed_in, field_linked, extension_linked, fields_of_linked, extensions_of_linked}

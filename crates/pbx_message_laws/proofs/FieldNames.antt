@@ -21,7 +21,7 @@ use Rattle.pbx_linked.specs.Linked.{linked_record}
 use Rattle.pbx_record_rules.specs.FileRules.{is_bad_package, is_bad_name, bad_names}
 use Rattle.pbx_rules.specs.Breaches.{keeps_rules}
 use Rattle.pbx_rules.proofs.First.{rule_4}
-use Rattle.pbx_rules.proofs.Kept.{keeps_each}
+use Rattle.pbx_rules.proofs.RulesKept.{keeps_each}
 use Rattle.pbx_pool_laws.specs.Pool.{ArePooled}
 use Rattle.pbx_pool_laws.proofs.Lists.{neither, no_other, right_nil, none_where, any_mapped, here, there}
 use Rattle.pbx_pool_laws.proofs.LinkedParts.{changed_in, field_linked, fields_of_linked}

@@ -19,7 +19,7 @@ use Rattle.pbx_pool_laws.proofs.Named.{same_name}
 use Rattle.pbx_pool_laws.proofs.Types.{source}
 use Rattle.pbx_described.specs.Descriptors.{Described, all_messages, fields_of_message, extensions_of_message}
 use Rattle.pbx_described.specs.Shapes.{message_place, field_shape, extension_shape, message_shape, shape_of}
-use Rattle.pbx_described.proofs.Lists.{parts_back}
+use Rattle.pbx_described.proofs.DescribedLists.{parts_back}
 use Rattle.pbx_shape_laws.proofs.Lists.{one_item}
 use Rattle.pbx_shape_laws.proofs.Proper.{types_are_proper}
 use Rattle.pbx_described.specs.Shapes.{place_of}

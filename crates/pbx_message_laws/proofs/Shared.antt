@@ -20,7 +20,7 @@ use Rattle.pbx_linked.specs.Settled.{settled_oneof}
 use Rattle.pbx_linked.specs.Laws.{linked_part}
 use Rattle.pbx_rules.specs.Breaches.{keeps_rules}
 use Rattle.pbx_rules.proofs.First.{rule_9}
-use Rattle.pbx_rules.proofs.Kept.{keeps_each}
+use Rattle.pbx_rules.proofs.RulesKept.{keeps_each}
 use Rattle.pbx_pool_laws.specs.Pool.{ArePooled}
 use Rattle.pbx_pool_laws.proofs.Lists.{here, there, left_nil, none_where, any_mapped, parts_from}
 use Rattle.pbx_pool_laws.proofs.LinkedParts.{changed_in, field_linked}

@@ -15,7 +15,7 @@ use Rattle.pbx_definitions.specs.Definitions.{Part, message_name, messages, fiel
 use Rattle.pbx_definitions.specs.Says.{is_number, number_or_zero}
 use Rattle.pbx_field_rules.specs.Rules.{all_fields}
 use Rattle.pbx_pool_laws.specs.Pool.{ArePooled}
-use Rattle.pbx_pool_laws.specs.Laws.{undotted, message_with_file}
+use Rattle.pbx_pool_laws.specs.PoolLaws.{undotted, message_with_file}
 use Rattle.pbx_pool_laws.proofs.Counted.{count}
 use Rattle.pbx_pool_laws.proofs.References.{types_are_there}
 use Rattle.pbx_pool_laws.proofs.Types.{source}

@@ -3,7 +3,7 @@
 use crate::said::add_got;
 use crate::stop::{Done, Stop};
 use pbx_link::{DescriptorPool, ExtensionDescriptor, FieldDescriptor};
-use pbx_message::{DynamicMessage, SetFieldError, Value};
+use pbx_message_dynamic::{DynamicMessage, SetFieldError, Value};
 use std::alloc::Global;
 
 /// A field, as a row names it.

@@ -4,12 +4,12 @@ use crate::json_deep::deep;
 use crate::json_faults::fault;
 use crate::pool_of;
 use crate::stop::Stop;
-use pbx_desc::Message;
+use pbx_desc_encoding::Message;
 use pbx_json::{
     DeserializeOptions, JsonMessage, NameFault, SerializeOptions, check_names, fits_levels,
 };
 use pbx_link::{DescriptorPool, MessageDescriptor};
-use pbx_message::DynamicMessage;
+use pbx_message_dynamic::DynamicMessage;
 use pbx_wkt_shape::has_shape;
 use serde_json::Value;
 use std::alloc::Global;

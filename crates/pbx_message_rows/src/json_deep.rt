@@ -4,7 +4,7 @@ use crate::json_faults::fault;
 use crate::stop::Stop;
 use pbx_json::{JsonMessage, fits_levels};
 use pbx_link::MessageDescriptor;
-use pbx_message::DynamicMessage;
+use pbx_message_dynamic::DynamicMessage;
 use serde_json::{Map, Value};
 use std::alloc::Global;
 

@@ -1,4 +1,4 @@
-//! Asks of `pbx_message`, `pbx_json` and `pbx_reflection`, as rows of data; or, with words, decodes a message and encodes it again.
+//! Asks of `pbx_message_dynamic`, `pbx_json` and `pbx_reflection`, as rows of data; or, with words, decodes a message and encodes it again.
 //!
 //! A row has a word, and what the word asks for. Of a dynamic message, the bytes of a `FileDescriptorSet` in hexadecimal digits follow, the full
 //! name of a type of its pool and the bytes of a message of the type. `read` asks for that message alone; `merge` for what it is with the bytes of

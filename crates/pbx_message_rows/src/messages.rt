@@ -6,7 +6,7 @@ use crate::records::{from_file, to_file};
 use crate::said::add_message;
 use crate::stop::Stop;
 use pbx_link::{DescriptorPool, MessageDescriptor};
-use pbx_message::{DynamicMessage, Value};
+use pbx_message_dynamic::{DynamicMessage, Value};
 use pbx_wire::DecodeError;
 use std::alloc::Global;
 use test_rows::Row;

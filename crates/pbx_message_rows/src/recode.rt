@@ -8,9 +8,9 @@
 use crate::stop::Stop;
 use hex::FromHexError;
 use pbx_codec::{decode, encode};
-use pbx_desc::Message;
+use pbx_desc_encoding::Message;
 use pbx_link::{DescriptorError, DescriptorPool};
-use pbx_message::DynamicMessage;
+use pbx_message_dynamic::DynamicMessage;
 use pbx_shape_text::{ShapeTextError, schema};
 use pbx_wire::{Blob, DecodeError, NoMemory};
 use protox_io::{ReadFault, RealSink, RealSource, Sink, SinkError, Source, read_to_end, write_all};

@@ -2,10 +2,10 @@
 
 use crate::said::add_message;
 use crate::stop::Stop;
-use pbx_desc::Message;
 use pbx_desc_decoding::DecodeMessage;
+use pbx_desc_encoding::Message;
 use pbx_desc_records::FileDescriptorProto;
-use pbx_message::DynamicMessage;
+use pbx_message_dynamic::DynamicMessage;
 use std::alloc::Global;
 use test_rows::Row;
 

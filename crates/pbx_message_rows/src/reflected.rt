@@ -1,9 +1,9 @@
 //! What is told of a value.
 
 use crate::stop::Stop;
-use pbx_desc::Message;
+use pbx_desc_encoding::Message;
 use pbx_link::{DescriptorPool, MessageDescriptor};
-use pbx_message::DynamicMessage;
+use pbx_message_dynamic::DynamicMessage;
 use pbx_reflection::{ReflectError, ReflectMessage};
 use std::alloc::{AllocError, Global};
 

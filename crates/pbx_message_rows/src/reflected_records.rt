@@ -2,15 +2,15 @@
 
 use crate::reflected::reflected;
 use crate::stop::Stop;
-use pbx_desc::{
+use pbx_desc_decoding::DecodeMessage;
+use pbx_desc_encoding::{
     DescriptorProto, EnumDescriptorProto, EnumReservedRange, EnumValueDescriptorProto,
     ExtensionRange, FieldDescriptorProto, FileDescriptorProto, FileDescriptorSet, Location,
     MethodDescriptorProto, OneofDescriptorProto, ReservedRange, ServiceDescriptorProto,
     SourceCodeInfo,
 };
-use pbx_desc_decoding::DecodeMessage;
 use pbx_link::DescriptorPool;
-use pbx_message::DynamicMessage;
+use pbx_message_dynamic::DynamicMessage;
 use pbx_reflection::ReflectMessage;
 use pbx_types::{Any, Duration, Empty, FieldMask, ListValue, Struct, Timestamp, Value};
 use pbx_wkt::make_wkt_descriptor_pool;

@@ -2,9 +2,9 @@
 
 use crate::stop::Done;
 use crate::values::add_value;
-use pbx_desc::Message;
+use pbx_desc_encoding::Message;
 use pbx_link::{ExtensionDescriptor, FieldDescriptor};
-use pbx_message::{DynamicMessage, Value};
+use pbx_message_dynamic::{DynamicMessage, Value};
 use pbx_wire::{Blob, write_recs};
 use std::alloc::Global;
 

@@ -2,8 +2,8 @@
 
 use crate::said::add_bytes;
 use crate::stop::Done;
-use pbx_desc::Message;
-use pbx_message::{DynamicMessage, MapKey, Value, ValueMap};
+use pbx_desc_encoding::Message;
+use pbx_message_dynamic::{DynamicMessage, MapKey, Value, ValueMap};
 use std::alloc::Global;
 
 fn add_text(alloc: Global, text: &mut String, value: &str) -> Done {

@@ -3,6 +3,6 @@
 //! contracts of functions that do nothing.
 #![tactic(auto)]
 
-mod laws;
+mod payload_laws;
 
 pub use laws::{encoded_is_read, meaning_shrinks, more_levels};

@@ -6,7 +6,7 @@ use Rattle.pbx_desc_records.specs.declared.file.FileDescriptorProto.{FileDescrip
 use Rattle.pbx_definitions.specs.Names.{text_or_empty}
 use Rattle.pbx_pooled.specs.Pooled.{has_file}
 use Rattle.pbx_pool_laws.specs.Pool.{IsLinked, ArePooled}
-use Rattle.pbx_pool_laws.specs.Laws.{AreBehind, PooledAreBehind}
+use Rattle.pbx_pool_laws.specs.PoolLaws.{AreBehind, PooledAreBehind}
 use Rattle.pbx_pool_laws.proofs.Kept.{has_name, name_is_new, imports_are_there}
 
 module _ (before : List FileDescriptorProto) (f g : FileDescriptorProto) (h : IsLinked before f g) where

@@ -14,7 +14,7 @@ use Rattle.pbx_scope.specs.Scope.{visible}
 use Rattle.pbx_pooled.specs.Pooled.{like_named}
 use Rattle.pbx_linked.proofs.FileDefines.{linked_record_defines}
 use Rattle.pbx_pool_laws.specs.Pool.{IsLinked, ArePooled}
-use Rattle.pbx_pool_laws.specs.Laws.{PooledAreDistinct}
+use Rattle.pbx_pool_laws.specs.PoolLaws.{PooledAreDistinct}
 use Rattle.pbx_pool_laws.proofs.Lists.{no_other, or_right, reversed, any_reversed, none_repeated}
 use Rattle.pbx_pool_laws.proofs.Kept.{not_pooled, once}
 

@@ -4,7 +4,7 @@ use Rattle.std.proofs.lemmas.List.{append_assoc, append-nil}
 use Rattle.pbx_desc_records.specs.declared.file.FileDescriptorProto.{FileDescriptorProto}
 use Rattle.pbx_linked.specs.Linked.{linked_record}
 use Rattle.pbx_pool_laws.specs.Pool.{IsLinked, ArePooled}
-use Rattle.pbx_pool_laws.specs.Laws.{EmptyIsPooled, PooledGrow}
+use Rattle.pbx_pool_laws.specs.PoolLaws.{EmptyIsPooled, PooledGrow}
 
 one_more : (before gs : List FileDescriptorProto) (f g : FileDescriptorProto) → ArePooled before gs → IsLinked (before ++ gs) f g
     → ArePooled before (gs ++ g ∷ [])

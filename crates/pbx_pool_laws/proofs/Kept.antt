@@ -17,8 +17,8 @@ use Rattle.pbx_pool_rules.specs.Rules.{missing_files, pool_names, taken_names, h
 use Rattle.pbx_pool_rules.proofs.Looked.{definition_there}
 use Rattle.pbx_rules.specs.Breaches.{keeps_rules}
 use Rattle.pbx_rules.proofs.First.{rule_1, rule_2, rule_4, rule_5}
-use Rattle.pbx_rules.proofs.Kept.{keeps_each}
-use Rattle.pbx_pool_laws.specs.Laws.{defined_names, HasNewNames, NewNames}
+use Rattle.pbx_rules.proofs.RulesKept.{keeps_each}
+use Rattle.pbx_pool_laws.specs.PoolLaws.{defined_names, HasNewNames, NewNames}
 use Rattle.pbx_pool_laws.proofs.Lists.{neither, left_nil, right_nil, map_nil, no_place_if, none_where}
 
 some_text : {X : Type 0} (o : Option X) → is_none o ≡ false → is_some o ≡ true

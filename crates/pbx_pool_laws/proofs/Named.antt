@@ -12,7 +12,7 @@ use Rattle.pbx_definitions.specs.Says.{own_fields}
 use Rattle.pbx_scope.specs.declared.types.Bound.{Bound}
 use Rattle.pbx_scope.specs.Scope.{bound_name}
 use Rattle.pbx_pooled.specs.Pooled.{by_file, file_types}
-use Rattle.pbx_pool_laws.specs.Laws.{TypesAreNamed, MessagesAreNamed, FieldsAreHeld}
+use Rattle.pbx_pool_laws.specs.PoolLaws.{TypesAreNamed, MessagesAreNamed, FieldsAreHeld}
 use Rattle.pbx_pool_laws.proofs.Lists.{parts_from}
 use Rattle.pbx_pool_laws.proofs.Counted.{count, count_append, count_map, typed_once, message_once}
 use Rattle.pbx_pool_laws.proofs.Distinct.{pooled_are_distinct}

@@ -10,7 +10,7 @@ use Rattle.pbx_desc_records.specs.declared.file.FileDescriptorProto.{FileDescrip
 use Rattle.pbx_definitions.specs.Names.{text_or_empty, is_named}
 use Rattle.pbx_pooled.specs.Pooled.{has_file, file_index}
 use Rattle.pbx_pool_laws.specs.Pool.{ArePooled}
-use Rattle.pbx_pool_laws.specs.Laws.{PooledHaveOwnNames}
+use Rattle.pbx_pool_laws.specs.PoolLaws.{PooledHaveOwnNames}
 use Rattle.pbx_pool_laws.proofs.Behind.{linked_has_name, linked_name_is_new}
 
 own_name : (o : Option (List ℕ)) → is_some o ≡ true → is_named o (text_or_empty o) ≡ true

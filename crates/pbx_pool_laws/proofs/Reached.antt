@@ -13,8 +13,8 @@ use Rattle.pbx_definitions.specs.Names.{text_or_empty, is_named}
 use Rattle.pbx_scope.specs.Scope.{item_at, public_imports, is_file_of, reached}
 use Rattle.pbx_pooled.specs.Pooled.{has_file}
 use Rattle.pbx_pool_laws.proofs.Lists.{or_cases, or_left, or_right, here, there}
-use Rattle.pbx_pool_laws.specs.Laws.{AreBehind, Reaches, ReachedIsReaches}
-use Rattle.pbx_pool_laws.specs.Laws.Reaches.{direct, further}
+use Rattle.pbx_pool_laws.specs.PoolLaws.{AreBehind, Reaches, ReachedIsReaches}
+use Rattle.pbx_pool_laws.specs.PoolLaws.Reaches.{direct, further}
 
 -- ---- lists
 

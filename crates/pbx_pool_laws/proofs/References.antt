@@ -20,10 +20,10 @@ use Rattle.pbx_scope_rules.specs.Rules.{unbound_in_fields, unbound_in_extensions
 use Rattle.pbx_linked.specs.Linked.{exact_by, exact, linked_record}
 use Rattle.pbx_rules.specs.Breaches.{keeps_rules}
 use Rattle.pbx_rules.proofs.First.{rule_7}
-use Rattle.pbx_rules.proofs.Kept.{keeps_each}
+use Rattle.pbx_rules.proofs.RulesKept.{keeps_each}
 use Rattle.pbx_pool_laws.specs.Pool.{IsLinked, ArePooled}
-use Rattle.pbx_pool_laws.specs.Laws.{undotted, message_with_file, HasType, HasMessages}
-use Rattle.pbx_pool_laws.specs.Laws.{TypesAreThere, ExtendeesAreThere, MethodsHaveMessages}
+use Rattle.pbx_pool_laws.specs.PoolLaws.{undotted, message_with_file, HasType, HasMessages}
+use Rattle.pbx_pool_laws.specs.PoolLaws.{TypesAreThere, ExtendeesAreThere, MethodsHaveMessages}
 use Rattle.pbx_pool_laws.proofs.Lists.{or_left, left_nil, right_nil, none_where}
 use Rattle.pbx_pool_laws.proofs.Named.{same_name}
 use Rattle.pbx_pool_laws.proofs.LinkedParts.{changed_in, extension_linked, extensions_of_linked, method_linked, methods_of_linked}

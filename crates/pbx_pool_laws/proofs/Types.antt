@@ -30,8 +30,8 @@ use Rattle.pbx_linked.proofs.Defines.{linking_is_change, settling_is_change}
 use Rattle.pbx_linked.proofs.FileDefines.{linked_record_messages}
 use Rattle.pbx_rules.specs.Breaches.{keeps_rules}
 use Rattle.pbx_rules.proofs.First.{rule_7, rule_8}
-use Rattle.pbx_rules.proofs.Kept.{keeps_each}
-use Rattle.pbx_pool_laws.specs.Laws.{undotted, message_with_file, enum_with_file, HasType}
+use Rattle.pbx_rules.proofs.RulesKept.{keeps_each}
+use Rattle.pbx_pool_laws.specs.PoolLaws.{undotted, message_with_file, enum_with_file, HasType}
 use Rattle.pbx_pool_laws.proofs.Lists.{neither, no_other, or_cases, or_left, or_right, here, there, left_nil, right_nil, none_where, any_mapped, reversed}
 use Rattle.pbx_pool_laws.proofs.Named.{same_name}
 use Rattle.pbx_pool_laws.proofs.LinkedParts.{changed_in, field_linked, extension_linked, fields_of_linked, extensions_of_linked, enums_of_linked}

@@ -1,2 +1,2 @@
-pub mod Laws
+pub mod PoolLaws
 pub mod Pool

@@ -2,7 +2,7 @@
 
 use crate::parts::{Done, add_text, hand_over, put_number, put_text, take_options, take_records};
 use crate::stop::Stop;
-use pbx_desc::{EnumDescriptorProto, EnumReservedRange, EnumValueDescriptorProto};
+use pbx_desc_encoding::{EnumDescriptorProto, EnumReservedRange, EnumValueDescriptorProto};
 use pbx_wire::Recs;
 use std::alloc::Global;
 

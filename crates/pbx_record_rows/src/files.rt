@@ -3,7 +3,7 @@
 use crate::made::Made;
 use crate::parts::{Done, add_number, add_text, hand_over, put_text, take_options, take_records};
 use crate::stop::Stop;
-use pbx_desc::{
+use pbx_desc_encoding::{
     DescriptorProto, EnumDescriptorProto, FieldDescriptorProto, FileDescriptorProto,
     ServiceDescriptorProto, SourceCodeInfo,
 };

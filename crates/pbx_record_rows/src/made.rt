@@ -12,7 +12,7 @@ use crate::messages::{
 use crate::parts::{Done, hand_over, put_text, records_step};
 use crate::sources::{SourceParts, location_step, method_step, service_step, source_step};
 use crate::stop::{Stop, cut};
-use pbx_desc::{DescriptorProto, FileDescriptorProto, FileDescriptorSet};
+use pbx_desc_encoding::{DescriptorProto, FileDescriptorProto, FileDescriptorSet};
 use pbx_wire::Recs;
 use std::alloc::Global;
 use test_rows::Row;

@@ -1,4 +1,4 @@
-//! Asks of `pbx_wire`, `pbx_codec`, `pbx_desc_shape`, `pbx_desc`, `pbx_json_reading` and `pbx_json_writing`, as rows of data.
+//! Asks of `pbx_wire`, `pbx_codec`, `pbx_desc_shape`, `pbx_desc_encoding`, `pbx_json_reading` and `pbx_json_writing`, as rows of data.
 //!
 //! A row's third field and those behind it are what the asked word needs, as written at its function. Where a record
 //! is asked about, the fields behind its first are steps, which make it part by part.

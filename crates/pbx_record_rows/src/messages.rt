@@ -5,7 +5,7 @@ use crate::parts::{
     Done, add_text, hand_over, put_number, put_text, put_truth, take_options, take_records,
 };
 use crate::stop::{Stop, cut};
-use pbx_desc::{
+use pbx_desc_encoding::{
     DescriptorProto, EnumDescriptorProto, ExtensionRange, FieldDescriptorProto,
     OneofDescriptorProto, ReservedRange,
 };

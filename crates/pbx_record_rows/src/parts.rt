@@ -1,7 +1,7 @@
 //! How a step gives a record one of its parts.
 
 use crate::stop::{Stop, cut, small};
-use pbx_desc::Options;
+use pbx_desc_encoding::Options;
 use pbx_wire::{List, Rec, Recs, Text, Texts, varints_text};
 use std::alloc::Global;
 use std::mem::replace;

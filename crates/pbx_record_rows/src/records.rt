@@ -1,4 +1,4 @@
-//! Asks of `pbx_desc`, and of records of the wire: what is written for what steps make.
+//! Asks of `pbx_desc_encoding`, and of records of the wire: what is written for what steps make.
 //!
 //! What is wanted of the file with each field of each record, and of its parts, is what
 //! `SerializeToString(deterministic=True)` of Python's `google.protobuf` 3.21 gives of the same
@@ -15,11 +15,11 @@ use crate::messages::MessageParts;
 use crate::stop::{Stop, shown, small, word};
 use crate::wire::text_of;
 use pbx_codec::{Contents, decode, decode_parts, encode};
-use pbx_desc::{
+use pbx_desc_encoding::{
     FileDescriptorProto, FileDescriptorSet, FileSet, Message, Options, descriptor_shape,
     file_contents,
 };
-use pbx_desc_shape::place;
+use pbx_desc_shape::descriptor_place as place;
 use pbx_meaning::Schema;
 use pbx_wire::{DecodeError, NoMemory, Recs, rec_len};
 use std::alloc::Global;

@@ -4,7 +4,7 @@
 
 use crate::parts::Done;
 use crate::stop::{Stop, small};
-use pbx_desc_shape::{descriptor_shape, place};
+use pbx_desc_shape::{descriptor_place as place, descriptor_shape};
 use pbx_meaning::{Cardinality, FieldShape, Kind, MessageShape, Schema, SchemaError, Shape};
 use pbx_wire::{List, NoMemory, Text};
 use std::alloc::Global;

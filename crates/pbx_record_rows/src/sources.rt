@@ -4,7 +4,7 @@ use crate::parts::{
     Done, add_number, add_text, hand_over, put_text, put_truth, take_options, take_records,
 };
 use crate::stop::Stop;
-use pbx_desc::{Location, MethodDescriptorProto, ServiceDescriptorProto, SourceCodeInfo};
+use pbx_desc_encoding::{Location, MethodDescriptorProto, ServiceDescriptorProto, SourceCodeInfo};
 use pbx_wire::Recs;
 use std::alloc::Global;
 

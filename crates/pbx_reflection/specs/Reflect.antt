@@ -8,7 +8,7 @@ use Rattle.pbx_described.specs.Descriptors.{Described}
 use Rattle.pbx_described.specs.Shapes.{shape_of, place_of}
 use Rattle.pbx_reflection.specs.declared.error.ReflectError.{ReflectError}
 use Rattle.pbx_reflection.specs.declared.error.ReflectError.TheVariants as errors
-use Rattle.pbx_message.specs.Message.{Dynamic}
+use Rattle.pbx_message_dynamic.specs.Message.{Dynamic}
 
 -- the message type is there, and the message is what the bytes mean as one of it
 abbrev pub IsReflected : Option (Described DescriptorProto) → List ℕ → Dynamic → Type 0

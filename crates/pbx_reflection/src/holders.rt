@@ -3,7 +3,7 @@ ghost use Rattle.std.specs.Prelude.{Some, box_value};
 
 use crate::reflect::ReflectMessage;
 use pbx_link::{DescriptorPool, MessageDescriptor};
-use pbx_message::DynamicMessage;
+use pbx_message_dynamic::DynamicMessage;
 
 /// Its own type, whatever the pool.
 impl ReflectMessage for DynamicMessage {

@@ -6,9 +6,9 @@ ghost use Rattle.pbx_described.specs.Descriptors.{Described};
 ghost use Rattle.pbx_reflection.specs.Reflect.{IsReflected, IsNotReflected};
 
 use crate::error::ReflectError;
-use pbx_desc::Message;
+use pbx_desc_encoding::Message;
 use pbx_link::{DescriptorPool, MessageDescriptor};
-use pbx_message::DynamicMessage;
+use pbx_message_dynamic::DynamicMessage;
 use pbx_wire::DecodeError;
 use std::alloc::Global;
 

@@ -1,2 +1,2 @@
 pub mod Breaches
-pub mod Laws
+pub mod RuleLaws

@@ -2,7 +2,7 @@
 #![tactic(auto)]
 
 mod breach;
-mod laws;
+mod rule_laws;
 mod searches;
 
 pub use breach::Breach;

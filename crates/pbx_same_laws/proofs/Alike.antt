@@ -18,22 +18,22 @@ use Rattle.pbx_desc_records.specs.declared.service.MethodDescriptorProto.{Method
 use Rattle.pbx_desc_records.specs.declared.service.ServiceDescriptorProto.{ServiceDescriptorProto}
 use Rattle.pbx_desc_records.specs.declared.source.Location.{Location}
 use Rattle.pbx_desc_records.specs.declared.source.SourceCodeInfo.{SourceCodeInfo}
-use Rattle.pbx_desc_shape.specs.Shape.{file_fields, message_fields, field_fields, extension_range_fields, reserved_range_fields, oneof_fields}
-use Rattle.pbx_desc_shape.specs.Shape.{enum_fields, enum_reserved_range_fields, enum_value_fields, service_fields, method_fields, source_code_info_fields}
-use Rattle.pbx_desc_shape.specs.Shape.{location_fields}
-use Rattle.pbx_desc.specs.Content.{record_content, extension_range_values, extension_range_content, reserved_range_values, reserved_range_content, field_values}
-use Rattle.pbx_desc.specs.Content.{field_content}
-use Rattle.pbx_desc.specs.Content.{oneof_values, oneof_content, enum_reserved_range_values, enum_reserved_range_content, enum_value_values, enum_value_content}
-use Rattle.pbx_desc.specs.Content.{enum_values, enum_content}
-use Rattle.pbx_desc.specs.Content.{method_values, method_content, service_values, service_content, location_values, location_content, source_code_info_values}
-use Rattle.pbx_desc.specs.Content.{source_code_info_content}
-use Rattle.pbx_desc.specs.Content.{listed, message_values, message_content, file_values, file_content}
+use Rattle.pbx_desc_shape.specs.DescriptorShape.{file_fields, message_fields, field_fields, extension_range_fields, reserved_range_fields, oneof_fields}
+use Rattle.pbx_desc_shape.specs.DescriptorShape.{enum_fields, enum_reserved_range_fields, enum_value_fields, service_fields, method_fields, source_code_info_fields}
+use Rattle.pbx_desc_shape.specs.DescriptorShape.{location_fields}
+use Rattle.pbx_desc_encoding.specs.Content.{record_content, extension_range_values, extension_range_content, reserved_range_values, reserved_range_content, field_values}
+use Rattle.pbx_desc_encoding.specs.Content.{field_content}
+use Rattle.pbx_desc_encoding.specs.Content.{oneof_values, oneof_content, enum_reserved_range_values, enum_reserved_range_content, enum_value_values, enum_value_content}
+use Rattle.pbx_desc_encoding.specs.Content.{enum_values, enum_content}
+use Rattle.pbx_desc_encoding.specs.Content.{method_values, method_content, service_values, service_content, location_values, location_content, source_code_info_values}
+use Rattle.pbx_desc_encoding.specs.Content.{source_code_info_content}
+use Rattle.pbx_desc_encoding.specs.Content.{listed, message_values, message_content, file_values, file_content}
 use Rattle.pbx_linked.specs.Settled.{settled_extension_range, settled_reserved_range, settled_field, settled_oneof, settled_enum_range, settled_value}
 use Rattle.pbx_linked.specs.Settled.{settled_enum, settled_method, settled_service, settled_location, settled_source, settled_message, settled_file}
 use Rattle.pbx_linked.proofs.Layers.{settled_open, settled_out}
-use Rattle.pbx_desc.proofs.Messages.{layer_with, message_content_at}
+use Rattle.pbx_desc_encoding.proofs.Messages.{layer_with, message_content_at}
 use Rattle.pbx_content_laws.proofs.Once.{settled_is_settled}
-use Rattle.pbx_same_laws.specs.Laws.{AlikeIsSettled}
+use Rattle.pbx_same_laws.specs.SameLaws.{AlikeIsSettled}
 use Rattle.pbx_same_laws.proofs.Contents.{settled_content}
 use Rattle.pbx_same_laws.proofs.Told.{Tells, content_tells, nth, text_told, number_told, truth_told, texts_told, numbers_told, list_told, items_told}
 use Rattle.pbx_same_laws.proofs.Told.{same_items}

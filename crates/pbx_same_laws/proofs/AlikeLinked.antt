@@ -8,7 +8,7 @@ use Rattle.pbx_content_laws.proofs.Once.{settled_is_settled}
 use Rattle.pbx_content_laws.proofs.Rules.{rules_are_of_contents}
 use Rattle.pbx_content_laws.proofs.Linking.{linking_is_of_contents}
 use Rattle.pbx_content_laws.proofs.Again.{settled_is_linked}
-use Rattle.pbx_same_laws.specs.Laws.{AlikeBreak, AlikeLink, AlikeIsLinked}
+use Rattle.pbx_same_laws.specs.SameLaws.{AlikeBreak, AlikeLink, AlikeIsLinked}
 use Rattle.pbx_same_laws.proofs.Alike.{alike_is_settled}
 
 pub alike_break : AlikeBreak

@@ -17,24 +17,24 @@ use Rattle.pbx_desc_records.specs.declared.service.MethodDescriptorProto.{Method
 use Rattle.pbx_desc_records.specs.declared.service.ServiceDescriptorProto.{ServiceDescriptorProto}
 use Rattle.pbx_desc_records.specs.declared.source.Location.{Location}
 use Rattle.pbx_desc_records.specs.declared.source.SourceCodeInfo.{SourceCodeInfo}
-use Rattle.pbx_desc_shape.specs.Shape.{descriptor_shape, file_fields, message_fields, field_fields, extension_range_fields, reserved_range_fields, oneof_fields}
-use Rattle.pbx_desc_shape.specs.Shape.{enum_fields, enum_reserved_range_fields, enum_value_fields, service_fields, method_fields, source_code_info_fields}
-use Rattle.pbx_desc_shape.specs.Shape.{location_fields}
-use Rattle.pbx_desc.specs.Content.{extension_range_values, extension_range_content, reserved_range_values, reserved_range_content, field_values}
-use Rattle.pbx_desc.specs.Content.{field_content}
-use Rattle.pbx_desc.specs.Content.{oneof_values, oneof_content, enum_reserved_range_values, enum_reserved_range_content, enum_value_values, enum_value_content}
-use Rattle.pbx_desc.specs.Content.{enum_values, enum_content}
-use Rattle.pbx_desc.specs.Content.{method_values, method_content, service_values, service_content, location_values, location_content, source_code_info_values}
-use Rattle.pbx_desc.specs.Content.{source_code_info_content}
-use Rattle.pbx_desc.specs.Content.{listed, message_values, message_step, message_content, file_values}
-use Rattle.pbx_desc.proofs.Messages.{layer_with, message_content_at}
-use Rattle.pbx_desc.proofs.Types.{file_type, message_type, field_type, extension_range_type, reserved_range_type, oneof_type, enum_type}
-use Rattle.pbx_desc.proofs.Types.{enum_reserved_range_type, enum_value_type, service_type, method_type, source_code_info_type, location_type}
+use Rattle.pbx_desc_shape.specs.DescriptorShape.{descriptor_shape, file_fields, message_fields, field_fields, extension_range_fields, reserved_range_fields, oneof_fields}
+use Rattle.pbx_desc_shape.specs.DescriptorShape.{enum_fields, enum_reserved_range_fields, enum_value_fields, service_fields, method_fields, source_code_info_fields}
+use Rattle.pbx_desc_shape.specs.DescriptorShape.{location_fields}
+use Rattle.pbx_desc_encoding.specs.Content.{extension_range_values, extension_range_content, reserved_range_values, reserved_range_content, field_values}
+use Rattle.pbx_desc_encoding.specs.Content.{field_content}
+use Rattle.pbx_desc_encoding.specs.Content.{oneof_values, oneof_content, enum_reserved_range_values, enum_reserved_range_content, enum_value_values, enum_value_content}
+use Rattle.pbx_desc_encoding.specs.Content.{enum_values, enum_content}
+use Rattle.pbx_desc_encoding.specs.Content.{method_values, method_content, service_values, service_content, location_values, location_content, source_code_info_values}
+use Rattle.pbx_desc_encoding.specs.Content.{source_code_info_content}
+use Rattle.pbx_desc_encoding.specs.Content.{listed, message_values, message_step, message_content, file_values}
+use Rattle.pbx_desc_encoding.proofs.Messages.{layer_with, message_content_at}
+use Rattle.pbx_desc_encoding.proofs.Types.{file_type, message_type, field_type, extension_range_type, reserved_range_type, oneof_type, enum_type}
+use Rattle.pbx_desc_encoding.proofs.Types.{enum_reserved_range_type, enum_value_type, service_type, method_type, source_code_info_type, location_type}
 use Rattle.pbx_linked.specs.Settled.{settled_extension_range, settled_reserved_range, settled_field, settled_oneof, settled_enum_range, settled_value}
 use Rattle.pbx_linked.specs.Settled.{settled_enum, settled_method, settled_service, settled_location, settled_source, settled_message, settled_file}
 use Rattle.pbx_linked.proofs.Layers.{settled_open, settled_out}
 use Rattle.pbx_content_laws.proofs.Lists.{map_twice}
-use Rattle.pbx_same_laws.specs.Laws.{SettledContent}
+use Rattle.pbx_same_laws.specs.SameLaws.{SettledContent}
 use Rattle.pbx_same_laws.proofs.Values.{settled_if, text_same, number_same, truth_same, list_same, texts_same, numbers_same, records_same, record_same}
 use Rattle.pbx_same_laws.proofs.Values.{options_same, content_settled}
 

@@ -11,8 +11,8 @@ use Rattle.pbx_meaning.specs.Content.{kept, get}
 use Rattle.pbx_meaning.specs.Meaning.{with_field}
 use Rattle.pbx_meaning.specs.Records.{sorted}
 use Rattle.pbx_desc_records.specs.declared.options.Options.{Options}
-use Rattle.pbx_desc.specs.Content.{fields_from, record_content, of_text, of_number, of_truth, of_record, listed, of_texts, of_numbers, of_records}
-use Rattle.pbx_desc.specs.Content.{options_content, of_options}
+use Rattle.pbx_desc_encoding.specs.Content.{fields_from, record_content, of_text, of_number, of_truth, of_record, listed, of_texts, of_numbers, of_records}
+use Rattle.pbx_desc_encoding.specs.Content.{options_content, of_options}
 use Rattle.pbx_linked.specs.Unknown.{unread, settled_unknown}
 use Rattle.pbx_linked.specs.Settled.{written_options, settled_options}
 

@@ -8,9 +8,9 @@ use Rattle.pbx_meaning.specs.Same.{settled_kept, type_in, settled, settled_field
 use Rattle.pbx_meaning.specs.Shape.{fields_of, keeps_order_of, field_of}
 use Rattle.pbx_meaning.proofs.Sorted.{filter-sorted}
 use Rattle.pbx_desc_records.specs.declared.options.Options.{Options}
-use Rattle.pbx_desc_shape.specs.Shape.{descriptor_shape}
-use Rattle.pbx_desc.specs.Content.{is_writable, writable, fields_from, record_content, of_text, of_number, of_truth, of_record, listed, of_texts, of_numbers}
-use Rattle.pbx_desc.specs.Content.{of_records, options_content, of_options}
+use Rattle.pbx_desc_shape.specs.DescriptorShape.{descriptor_shape}
+use Rattle.pbx_desc_encoding.specs.Content.{is_writable, writable, fields_from, record_content, of_text, of_number, of_truth, of_record, listed, of_texts, of_numbers}
+use Rattle.pbx_desc_encoding.specs.Content.{of_records, options_content, of_options}
 use Rattle.pbx_linked.specs.Unknown.{unread, settled_unknown}
 use Rattle.pbx_linked.specs.Settled.{written_options, settled_options}
 use Rattle.pbx_content_laws.proofs.Recs.{filter_again}

@@ -6,17 +6,17 @@ use Rattle.pbx_meaning.specs.Same.{Same, settled}
 use Rattle.pbx_meaning.specs.Shape.{keeps_order_of}
 use Rattle.pbx_wire.specs.declared.rec.Rec.{Rec}
 use Rattle.pbx_desc_records.specs.declared.file.FileDescriptorProto.{FileDescriptorProto}
-use Rattle.pbx_desc_shape.specs.Shape.{descriptor_shape, set_fields}
-use Rattle.pbx_desc.specs.Content.{record_content, of_records, file_value, file_content, files_content, file_set_content}
-use Rattle.pbx_desc.proofs.Types.{file_set_type}
+use Rattle.pbx_desc_shape.specs.DescriptorShape.{descriptor_shape, set_fields}
+use Rattle.pbx_desc_encoding.specs.Content.{record_content, of_records, file_value, file_content, files_content, file_set_content}
+use Rattle.pbx_desc_encoding.proofs.Types.{file_set_type}
 use Rattle.pbx_definitions.specs.Definitions.{Place}
 use Rattle.pbx_linked.specs.Settled.{settled_file}
 use Rattle.pbx_linked.specs.Unknown.{settled_unknown}
 use Rattle.pbx_rules.specs.Breaches.{keeps_rules}
-use Rattle.pbx_rules.proofs.Kept.{keeps_each}
+use Rattle.pbx_rules.proofs.RulesKept.{keeps_each}
 use Rattle.pbx_pool_laws.specs.Pool.{ArePooled, IsLinked, with_file}
 use Rattle.pbx_content_laws.proofs.Lists.{map_twice}
-use Rattle.pbx_same_laws.specs.Laws.{AreAlike}
+use Rattle.pbx_same_laws.specs.SameLaws.{AreAlike}
 use Rattle.pbx_same_laws.proofs.Contents.{settled_content}
 use Rattle.pbx_same_laws.proofs.Alike.{alike_is_settled}
 use Rattle.pbx_same_laws.proofs.AlikeLinked.{alike_is_linked}
@@ -25,7 +25,7 @@ use Rattle.pbx_same_laws.proofs.Told.{Tells, content_tells, nth, list_told, item
 use Rattle.pbx_link.specs.declared.error.DescriptorError.{DescriptorError}
 use Rattle.pbx_link.specs.declared.error.DescriptorError.TheVariants.{Rule, Decode, NoMemory}
 use Rattle.pbx_link.specs.Bytes.{with_files, IsFirstRefused, DecodesFiles, AreAdded, IsSetRefused}
-use Rattle.pbx_set_laws.specs.Laws.{SetsAreReadBack}
+use Rattle.pbx_set_laws.specs.SetLaws.{SetsAreReadBack}
 
 -- ---- sets of one content
 

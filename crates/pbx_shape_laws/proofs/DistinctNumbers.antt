@@ -16,7 +16,7 @@ use Rattle.pbx_pool_laws.proofs.Named.{same_name}
 use Rattle.pbx_pool_laws.proofs.Types.{not_at}
 use Rattle.pbx_described.specs.Descriptors.{Described, described, all_extensions, fields_of_message, extensions_of_message}
 use Rattle.pbx_described.specs.Shapes.{field_shape, extension_shape, message_shape}
-use Rattle.pbx_described.proofs.Lists.{File, parts_back}
+use Rattle.pbx_described.proofs.DescribedLists.{File, parts_back}
 use Rattle.pbx_shape_laws.specs.Laws.{NumbersAreDistinct}
 use Rattle.pbx_shape_laws.proofs.Extending.{extends_it, extends_so}
 use Rattle.pbx_shape_laws.proofs.ExtendedOnce.{extended_once}

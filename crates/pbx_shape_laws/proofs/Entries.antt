@@ -27,14 +27,14 @@ use Rattle.pbx_linked.specs.Linked.{linked_field, type_by, exact}
 use Rattle.pbx_linked.specs.Laws.{linked_part}
 use Rattle.pbx_rules.specs.Breaches.{keeps_rules}
 use Rattle.pbx_rules.proofs.First.{rule_8, rule_12}
-use Rattle.pbx_rules.proofs.Kept.{keeps_each}
+use Rattle.pbx_rules.proofs.RulesKept.{keeps_each}
 use Rattle.pbx_pool_laws.specs.Pool.{ArePooled}
 use Rattle.pbx_pool_laws.proofs.Lists.{neither, no_other, or_cases, left_nil, right_nil, none_where, parts_from}
 use Rattle.pbx_shape_laws.proofs.PoolParts.{linked_layer_is}
 use Rattle.pbx_pool_laws.proofs.Types.{not_at}
 use Rattle.pbx_described.specs.Descriptors.{Described, described, fields_of_message, with_number}
 use Rattle.pbx_described.specs.Shapes.{kind_by, part_kind}
-use Rattle.pbx_described.proofs.Lists.{File}
+use Rattle.pbx_described.proofs.DescribedLists.{File}
 use Rattle.pbx_shape_laws.proofs.Lists.{both_parts, equal_is, none_inside}
 use Rattle.pbx_shape_laws.proofs.Types.{each_message}
 

@@ -19,7 +19,7 @@ use Rattle.pbx_pool_laws.specs.Pool.{IsLinked, ArePooled}
 use Rattle.pbx_pool_laws.proofs.Counted.{count, count_append, count_map}
 use Rattle.pbx_pool_laws.proofs.LinkedParts.{changed_in, extension_linked, extensions_of_linked}
 use Rattle.pbx_shape_laws.proofs.PoolParts.{any_same}
-use Rattle.pbx_described.proofs.Lists.{File}
+use Rattle.pbx_described.proofs.DescribedLists.{File}
 use Rattle.pbx_shape_laws.proofs.Extending.{none_taken, none_again, none_unbound, extends_it, extends_so, is_so, so_alike, so_like}
 use Rattle.pbx_shape_laws.proofs.Lists.{any_weaker, same_count, none_counted, once}
 use Rattle.pbx_shape_laws.proofs.Numbers.{number_is, equal_is_number}

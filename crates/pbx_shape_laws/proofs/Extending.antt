@@ -18,10 +18,10 @@ use Rattle.pbx_scope_rules.specs.ExtensionNumbers.{bad_extension_numbers}
 use Rattle.pbx_linked.specs.Linked.{exact_by}
 use Rattle.pbx_rules.specs.Breaches.{keeps_rules}
 use Rattle.pbx_rules.proofs.First.{rule_6, rule_7}
-use Rattle.pbx_rules.proofs.Kept.{keeps_each}
+use Rattle.pbx_rules.proofs.RulesKept.{keeps_each}
 use Rattle.pbx_pool_laws.proofs.Lists.{left_nil, right_nil, map_nil, none_where}
 use Rattle.pbx_pool_laws.proofs.LinkedParts.{changed_in, extension_linked}
-use Rattle.pbx_described.proofs.Lists.{File}
+use Rattle.pbx_described.proofs.DescribedLists.{File}
 use Rattle.pbx_shape_laws.proofs.Lists.{both_parts, both_true}
 use Rattle.pbx_shape_laws.proofs.Numbers.{equal_numbers}
 

@@ -17,7 +17,7 @@ use Rattle.pbx_shape_laws.proofs.PoolParts.{found_there}
 use Rattle.pbx_described.specs.Descriptors.{Described, described, all_messages, all_extensions, message_of_name, message_referred, referred, is_entry_described}
 use Rattle.pbx_described.specs.Descriptors.{fields_of_message, extensions_of_message, with_number}
 use Rattle.pbx_described.specs.Shapes.{part_kind, entry_kind, cardinality_of, field_shape, extension_shape, message_shape}
-use Rattle.pbx_described.proofs.Lists.{File}
+use Rattle.pbx_described.proofs.DescribedLists.{File}
 use Rattle.pbx_shape_laws.specs.Laws.{KeysAreValid}
 use Rattle.pbx_shape_laws.proofs.Lists.{both_parts, both_true}
 use Rattle.pbx_shape_laws.proofs.Types.{of_pool, each_type}

@@ -19,13 +19,13 @@ use Rattle.pbx_linked.specs.Settled.{settled_extension_range}
 use Rattle.pbx_linked.specs.Laws.{linked_part}
 use Rattle.pbx_rules.specs.Breaches.{keeps_rules}
 use Rattle.pbx_rules.proofs.First.{rule_6}
-use Rattle.pbx_rules.proofs.Kept.{keeps_each}
+use Rattle.pbx_rules.proofs.RulesKept.{keeps_each}
 use Rattle.pbx_pool_laws.specs.Pool.{ArePooled}
 use Rattle.pbx_pool_laws.proofs.Counted.{count, count_map}
 use Rattle.pbx_pool_laws.proofs.Lists.{neither, left_nil, right_nil, map_nil, none_where, any_mapped}
 use Rattle.pbx_pool_laws.proofs.LinkedParts.{changed_in, field_linked}
 use Rattle.pbx_shape_laws.proofs.PoolParts.{map_twice, linked_layer_is, fields_in_linked}
-use Rattle.pbx_described.proofs.Lists.{File}
+use Rattle.pbx_described.proofs.DescribedLists.{File}
 use Rattle.pbx_shape_laws.proofs.Lists.{any_weaker, nil_inside, once}
 use Rattle.pbx_shape_laws.proofs.Numbers.{equal_numbers}
 use Rattle.pbx_shape_laws.proofs.Types.{each_message}

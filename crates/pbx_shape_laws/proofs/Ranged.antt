@@ -26,7 +26,7 @@ use Rattle.pbx_pool_laws.proofs.Lists.{neither, or_left, any_mapped}
 use Rattle.pbx_pool_laws.proofs.LinkedParts.{changed_in, extension_linked, extensions_of_linked}
 use Rattle.pbx_shape_laws.proofs.PoolParts.{any_same, in_pool}
 use Rattle.pbx_pool_laws.proofs.Types.{Source, source, any_of, not_at, told_joined, told_seen, bound_there}
-use Rattle.pbx_described.proofs.Lists.{File}
+use Rattle.pbx_described.proofs.DescribedLists.{File}
 use Rattle.pbx_shape_laws.proofs.Extending.{none_unfit, none_unbound, extends_it}
 use Rattle.pbx_shape_laws.proofs.Lists.{both_true}
 use Rattle.pbx_shape_laws.proofs.OwnNumbers.{ranges_kept}

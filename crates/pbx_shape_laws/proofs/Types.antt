@@ -17,7 +17,7 @@ use Rattle.pbx_pool_laws.proofs.Types.{source}
 use Rattle.pbx_shape_laws.proofs.PoolParts.{in_pool}
 use Rattle.pbx_described.specs.Descriptors.{Described, described, all_messages}
 use Rattle.pbx_described.specs.Shapes.{message_shape}
-use Rattle.pbx_described.proofs.Lists.{File}
+use Rattle.pbx_described.proofs.DescribedLists.{File}
 use Rattle.pbx_shape_laws.proofs.Lists.{told_of, is_told}
 
 -- what holds of the fields of each message holds of the fields of each type

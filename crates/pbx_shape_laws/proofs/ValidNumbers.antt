@@ -19,14 +19,14 @@ use Rattle.pbx_scope_rules.specs.ExtensionNumbers.{is_unfit, has_taken_number, e
 use Rattle.pbx_linked.specs.Linked.{linked_record}
 use Rattle.pbx_rules.specs.Breaches.{keeps_rules, bad_numbers}
 use Rattle.pbx_rules.proofs.First.{rule_6}
-use Rattle.pbx_rules.proofs.Kept.{keeps_each}
+use Rattle.pbx_rules.proofs.RulesKept.{keeps_each}
 use Rattle.pbx_pool_laws.specs.Pool.{ArePooled}
 use Rattle.pbx_pool_laws.proofs.Lists.{neither, no_other, left_nil, right_nil, none_where, any_mapped}
 use Rattle.pbx_pool_laws.proofs.LinkedParts.{changed_in, field_linked, extension_linked, fields_of_linked, extensions_of_linked}
 use Rattle.pbx_described.specs.Descriptors.{Described, described, all_extensions, fields_of_message, extensions_of_message}
 use Rattle.pbx_described.specs.Shapes.{field_shape, extension_shape, message_shape}
 use Rattle.pbx_shape_laws.specs.Laws.{NumbersAreValid}
-use Rattle.pbx_described.proofs.Lists.{File, parts_back}
+use Rattle.pbx_described.proofs.DescribedLists.{File, parts_back}
 use Rattle.pbx_shape_laws.proofs.Lists.{any_weaker, both_true}
 
 -- no number of a field

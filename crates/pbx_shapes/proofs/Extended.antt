@@ -22,7 +22,7 @@ use Rattle.pbx_pool_laws.proofs.Distinct.{pooled_are_distinct}
 use Rattle.pbx_described.specs.Shapes.{field_shape, extension_shape, message_place}
 use Rattle.pbx_shapes.specs.Items.{part_shape, with_field}
 use Rattle.pbx_shapes.specs.Extending.{extending, shape_with, shapes_with, changed_at, field_added, AddExtensions}
-use Rattle.pbx_described.proofs.Lists.{File, parts_back}
+use Rattle.pbx_described.proofs.DescribedLists.{File, parts_back}
 use Rattle.pbx_shapes.proofs.Lists.{first_at, position_is}
 use Rattle.pbx_shapes.proofs.FieldKinds.{extension_same}
 

@@ -18,7 +18,7 @@ use Rattle.pbx_described.specs.Descriptors.{Described, described, all_parts, mes
 use Rattle.pbx_described.specs.Shapes.{place_of_message, kind_of, part_kind, entry_kind, value_kind, cardinality_of, entry_place, field_shape, extension_shape, value_shape, enum_shape}
 use Rattle.pbx_shapes.specs.declared.kinds.FieldType.{FieldType}
 use Rattle.pbx_shapes.specs.Items.{message_item, item_at, item_kind, if_entry, entry_of, item_kind_if, item_numbered, item_entry_kind, value_kind_by, cardinality_by, entry_place_by, item_type, item_shape, part_shape, item_value, part_enum}
-use Rattle.pbx_described.proofs.Lists.{File, parts_back}
+use Rattle.pbx_described.proofs.DescribedLists.{File, parts_back}
 use Rattle.pbx_shapes.proofs.Lists.{find_mapped, items_of_parts, mapped_items, has_pool}
 
 -- ---- the message that a reference names

@@ -8,7 +8,7 @@ use Rattle.std.proofs.lemmas.List.{map-append}
 use Rattle.std.proofs.lemmas.List.Folds.{find-append}
 use Rattle.pbx_definitions.specs.Definitions.{Part, Place, part, parts}
 use Rattle.pbx_described.specs.Descriptors.{Described, described}
-use Rattle.pbx_described.proofs.Lists.{File, described_parts}
+use Rattle.pbx_described.proofs.DescribedLists.{File, described_parts}
 
 -- ---- options
 

@@ -12,7 +12,7 @@ use Rattle.pbx_pool.specs.Places.{place_with_file}
 use Rattle.pbx_pool.proofs.Found.{told_from}
 use Rattle.pbx_shapes.specs.Starts.{starts_from, total, counts, AreStarts}
 use Rattle.pbx_shapes.specs.declared.starts.Starts.{Starts}
-use Rattle.pbx_described.proofs.Lists.{File, parts_back}
+use Rattle.pbx_described.proofs.DescribedLists.{File, parts_back}
 use Rattle.pbx_shapes.proofs.Lists.{first_at, first_append, first_map, first_within, position_is, enumerated, find_mapped, map_map, no_image}
 
 -- ---- starts

@@ -15,7 +15,7 @@ use Rattle.pbx_described.specs.Descriptors.{described, all_messages, all_enums, 
 use Rattle.pbx_described.specs.Shapes.{field_shape, message_shape, enum_shape}
 use Rattle.pbx_shapes.specs.Items.{item_shape, own_shape, part_enum}
 use Rattle.pbx_shapes.specs.Extending.{shape_with, shapes_with}
-use Rattle.pbx_described.proofs.Lists.{File}
+use Rattle.pbx_described.proofs.DescribedLists.{File}
 use Rattle.pbx_shapes.proofs.Lists.{items_of_parts, mapped_items, mapped_parts}
 use Rattle.pbx_shapes.proofs.FieldKinds.{field_same, enum_same}
 

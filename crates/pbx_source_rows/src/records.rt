@@ -2,7 +2,7 @@
 
 use crate::words::source;
 use hex::encode;
-use pbx_desc::{FileDescriptorProto, Message};
+use pbx_desc_encoding::{FileDescriptorProto, Message};
 use pbx_parse::{ParseError, parse};
 use std::alloc::{AllocError, Global};
 use test_rows::Row;

@@ -1,4 +1,4 @@
 pub mod Digits
-pub mod Days
+pub mod TimestampDays
 pub mod Moments
 pub mod Timestamps

@@ -6,7 +6,7 @@ use Rattle.jiff_core.proofs.SignedLemmas.{one_part, signed_arith}
 use Rattle.pbx_text.specs.Clock.{fraction_text}
 use Rattle.pbx_text.specs.Decimal.{padded}
 use Rattle.pbx_text.specs.Timestamp.{greatest_seconds, instant_text, is_timestamp_second, least_seconds, timestamp_of, timestamp_read, timestamp_text, timestamp_written}
-use Rattle.pbx_text_laws.proofs.Days.{month_of, written_for, year_of}
+use Rattle.pbx_text_laws.proofs.TimestampDays.{month_of, written_for, year_of}
 use Rattle.pbx_text_laws.proofs.Moments.{moment, moment_read}
 use borrow.Author.Differences.{up, down}
 

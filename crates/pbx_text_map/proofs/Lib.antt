@@ -1,2 +1,2 @@
-pub mod Order
-pub mod Places
+pub mod TextOrder
+pub mod TextPlaces

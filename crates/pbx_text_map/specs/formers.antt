@@ -1,1 +1,1 @@
-pub mod map
+pub mod text_map

@@ -1,6 +1,6 @@
 //! Values under texts, in the order of the texts.
 #![tactic(auto)]
 
-mod map;
+mod text_map;
 
 pub use map::TextMap;

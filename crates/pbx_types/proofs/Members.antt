@@ -7,8 +7,8 @@ use Rattle.pbx_meaning.specs.declared.shape.FieldShape.{FieldShape}
 use Rattle.pbx_meaning.specs.Content.{Content, content, fields, kept, Fields, no_fields, field, Val, get, has}
 use Rattle.pbx_meaning.specs.Shape.{fields_of}
 use Rattle.pbx_meaning.specs.Sound.{IsSound, has_one_member}
-use Rattle.pbx_types_shape.specs.Shape.{types_shape, value_fields}
-use Rattle.pbx_types_contents.specs.Content.{record_content}
+use Rattle.pbx_types_shape.specs.TypesShape.{types_shape, value_fields}
+use Rattle.pbx_types_contents.specs.FieldContent.{record_content}
 use Rattle.pbx_types.specs.Content.{last_member}
 use Rattle.pbx_types_contents.proofs.Sound.{AreAt, AreTaken, shown_again, sound_at, whole}
 use Rattle.pbx_types_contents.proofs.Types.{value_type}

@@ -10,7 +10,7 @@ use Rattle.pbx_codec.specs.View.{pair_of}
 use Rattle.pbx_types_contents.proofs.Told.{mapped_more}
 use Rattle.pbx_text_map.specs.Texts.{IsBeforeAll, IsInOrder}
 use Rattle.pbx_types.specs.declared.tree.Value.{Value}
-use Rattle.pbx_types_shape.specs.Shape.{types_shape}
+use Rattle.pbx_types_shape.specs.TypesShape.{types_shape}
 use Rattle.pbx_types.specs.Content.{value_content}
 use Rattle.pbx_types.specs.Layers.{value_pair}
 

@@ -14,9 +14,9 @@ use Rattle.pbx_codec.specs.declared.contents.Pair.{Pair}
 use Rattle.pbx_codec.specs.declared.contents.Contents.{Contents}
 use Rattle.pbx_codec.specs.View.{content_of, val_of, pair_of}
 use Rattle.pbx_text_map.specs.Texts.{IsInOrder, with_entry}
-use Rattle.pbx_text_map.proofs.Places.{with_last}
-use Rattle.pbx_types_shape.specs.Shape.{types_shape, value_fields, struct_fields, list_fields}
-use Rattle.pbx_types_contents.specs.Content.{record_content}
+use Rattle.pbx_text_map.proofs.TextPlaces.{with_last}
+use Rattle.pbx_types_shape.specs.TypesShape.{types_shape, value_fields, struct_fields, list_fields}
+use Rattle.pbx_types_contents.specs.FieldContent.{record_content}
 use Rattle.pbx_types_contents.specs.Sound.{IsOf, MayBe}
 use Rattle.pbx_types_contents.specs.Taking.{IsAt, Takes}
 use Rattle.pbx_types_contents.proofs.Lists.{message_is}

@@ -6,9 +6,9 @@ use Rattle.pbx_wire.specs.declared.rec.Rec.{Rec}
 use Rattle.pbx_meaning.specs.Content.{Content, content, fields, no_fields, with_fields, Key, Val, message}
 use Rattle.pbx_codec.specs.declared.contents.Contents.{Contents}
 use Rattle.pbx_codec.specs.View.{content_of}
-use Rattle.pbx_types_shape.specs.Shape.{value_fields}
+use Rattle.pbx_types_shape.specs.TypesShape.{value_fields}
 use Rattle.pbx_types_contents.specs.Building.{Holds}
-use Rattle.pbx_types_contents.specs.Content.{fields_from}
+use Rattle.pbx_types_contents.specs.FieldContent.{fields_from}
 use Rattle.pbx_types_contents.specs.Unknown.{is_writable_beside}
 use Rattle.pbx_types_contents.proofs.Built.{made}
 use Rattle.pbx_types_contents.proofs.Types.{value_type}

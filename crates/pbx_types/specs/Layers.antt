@@ -5,8 +5,8 @@ use Rattle.pbx_meaning.specs.Content.{Content, fields, no_fields, with_fields, K
 use Rattle.pbx_meaning.specs.Sound.{has_one_member}
 use Rattle.pbx_codec.specs.declared.contents.Held.{Held}
 use Rattle.pbx_codec.specs.View.{val_of}
-use Rattle.pbx_types_shape.specs.Shape.{value_fields}
-use Rattle.pbx_types_contents.specs.Content.{fields_from}
+use Rattle.pbx_types_shape.specs.TypesShape.{value_fields}
+use Rattle.pbx_types_contents.specs.FieldContent.{fields_from}
 use Rattle.pbx_types_contents.specs.Sound.{AreValues}
 use Rattle.pbx_types.specs.declared.tree.ListValue.{ListValue, out-ListValue}
 use Rattle.pbx_types.specs.declared.tree.ListValue.TheOpen.{ListValue-F, Struct-F, Value-F}

@@ -5,7 +5,7 @@ ghost use Rattle.pbx_meaning.specs.Meaning.{meaning_of};
 ghost use Rattle.pbx_meaning.specs.Faults.{IsFaultOf};
 ghost use Rattle.pbx_meaning.specs.Sound.{IsSound, ArePairs, IsKeyOf};
 ghost use Rattle.pbx_codec.specs.View.{content_of, val_of, pair_of};
-ghost use Rattle.pbx_types_shape.specs.Shape.{types_shape};
+ghost use Rattle.pbx_types_shape.specs.TypesShape.{types_shape};
 ghost use Rattle.pbx_types_contents.specs.Sound.{AreOf};
 ghost use Rattle.pbx_types_contents.specs.Taking.{Takes};
 ghost use Rattle.pbx_types.specs.Content.{struct_content, list_content, value_content};
@@ -19,7 +19,7 @@ use pbx_types_contents::{
     FromContents, kept_records, message_of, record_from_bytes, take_int32, take_pairs, take_text,
     take_truth, take_values,
 };
-use pbx_types_shape::place;
+use pbx_types_shape::well_known_place as place;
 use pbx_wire::{DecodeError, List, NoMemory, Text};
 use std::alloc::Global;
 

@@ -6,8 +6,8 @@ mod decoding;
 mod encoding;
 mod tree;
 
-pub use pbx_desc::Message;
 pub use pbx_desc_decoding::DecodeMessage;
+pub use pbx_desc_encoding::Message;
 pub use pbx_text_map::TextMap;
 pub use pbx_types_plain::{Any, Duration, Empty, FieldMask, Timestamp};
 pub use pbx_types_shape::types_shape;

@@ -18,9 +18,9 @@ use Rattle.pbx_codec.specs.View.{content_of, val_of, pair_of}
 use Rattle.pbx_codec.proofs.Tree.{val_of-Many, val_of-Pairs}
 use Rattle.pbx_meaning.specs.declared.shape.Cardinality.{Cardinality}
 use Rattle.pbx_meaning.specs.declared.shape.Cardinality.TheVariants.{Repeated, Map}
-use Rattle.pbx_types_shape.specs.Shape.{types_shape}
+use Rattle.pbx_types_shape.specs.TypesShape.{types_shape}
 use Rattle.pbx_types_contents.specs.Building.{put_in, Puts, Holds}
-use Rattle.pbx_types_contents.specs.Content.{fields_from, record_content}
+use Rattle.pbx_types_contents.specs.FieldContent.{fields_from, record_content}
 use Rattle.pbx_types_contents.specs.Sound.{Fits, MayHave, AreValues, some_field}
 use Rattle.pbx_types_contents.specs.Unknown.{is_writable_beside}
 use Rattle.pbx_types_contents.proofs.Fields.{numbers, AreRead, kept_is, content_sound}

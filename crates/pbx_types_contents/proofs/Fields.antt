@@ -11,9 +11,9 @@ use Rattle.pbx_meaning.specs.Shape.{fields_of, field_of, is_float, is_kept, is_r
 use Rattle.pbx_meaning.specs.Meaning.{with_field, shown, is_default}
 use Rattle.pbx_meaning.specs.Sound.{IsSound, AreSound, IsSoundAt, AreKept, IsShown, has_one_member}
 use Rattle.pbx_meaning.proofs.WrittenOrder.{AreAbove, AreListed, all_listed, fields_above}
-use Rattle.pbx_types_shape.specs.Shape.{types_shape}
-use Rattle.pbx_types_shape.proofs.Proper.{types_shape_proper}
-use Rattle.pbx_types_contents.specs.Content.{writable, fields_from, record_content}
+use Rattle.pbx_types_shape.specs.TypesShape.{types_shape}
+use Rattle.pbx_types_shape.proofs.WellKnownProper.{types_shape_proper}
+use Rattle.pbx_types_contents.specs.FieldContent.{writable, fields_from, record_content}
 use Rattle.pbx_types_contents.specs.Sound.{Fits, MayHave, AreValues}
 use Rattle.pbx_types_contents.specs.Taking.{IsAt}
 use Rattle.pbx_types_contents.specs.Unknown.{has_one_of, is_writable_beside}

@@ -12,7 +12,7 @@ use Rattle.pbx_codec.specs.declared.contents.Held as held
 use Rattle.pbx_codec.specs.declared.contents.Pair.{Pair}
 use Rattle.pbx_codec.specs.View.{content_of, val_of, pair_of}
 use Rattle.pbx_codec.proofs.Tree.{val_of-Many, val_of-Pairs}
-use Rattle.pbx_types_shape.specs.Shape.{types_shape}
+use Rattle.pbx_types_shape.specs.TypesShape.{types_shape}
 use Rattle.pbx_types_contents.specs.Sound.{IsOf, AreOf, some_field}
 use Rattle.pbx_types_contents.specs.Taking.{IsAt, IsList, IsMap, TakesList, TakesPairs}
 

@@ -13,9 +13,9 @@ use Rattle.pbx_meaning.specs.Meaning.{with_field, shown, is_default}
 use Rattle.pbx_meaning.specs.Sound.{IsSound, AreSound, IsSoundAt, AreKept}
 use Rattle.pbx_meaning.proofs.WrittenOrder.{AreAbove, AreListed, all_listed, known_above, fields_above}
 use Rattle.pbx_meaning.proofs.WrittenFields.{get-above}
-use Rattle.pbx_types_shape.specs.Shape.{types_shape}
-use Rattle.pbx_types_shape.proofs.Proper.{types_shape_proper}
-use Rattle.pbx_types_contents.specs.Content.{writable, fields_from, record_content}
+use Rattle.pbx_types_shape.specs.TypesShape.{types_shape}
+use Rattle.pbx_types_shape.proofs.WellKnownProper.{types_shape_proper}
+use Rattle.pbx_types_contents.specs.FieldContent.{writable, fields_from, record_content}
 use Rattle.pbx_types_contents.specs.Taking.{IsAt}
 
 -- ---- values by number

@@ -9,7 +9,7 @@ use Rattle.pbx_codec.specs.declared.contents.Held.{Held}
 use Rattle.pbx_meaning.specs.Content.{Val, vals_of}
 use Rattle.pbx_meaning.specs.Sound.{IsElement, AreElements}
 use Rattle.pbx_codec.specs.View.{val_of}
-use Rattle.pbx_types_shape.specs.Shape.{types_shape}
+use Rattle.pbx_types_shape.specs.TypesShape.{types_shape}
 
 -- ---- one more of a list
 

@@ -1,7 +1,7 @@
 -- The fields of the types of records.
 use Rattle.std.proofs.Common.{◌≡◌, [], refl}
 use Rattle.pbx_meaning.specs.Shape.{fields_of}
-use Rattle.pbx_types_shape.specs.Shape.{types_shape, any_fields, time_fields, mask_fields, struct_fields, value_fields, list_fields}
+use Rattle.pbx_types_shape.specs.TypesShape.{types_shape, any_fields, time_fields, mask_fields, struct_fields, value_fields, list_fields}
 
 pub any_type : fields_of types_shape 0 ≡ any_fields
 unfolding types_shape

@@ -11,8 +11,8 @@ use Rattle.pbx_meaning.specs.Content.{Content, content, fields, kept, Fields, no
 use Rattle.pbx_meaning.specs.Shape.{fields_of}
 use Rattle.pbx_meaning.specs.Meaning.{shown}
 use Rattle.pbx_meaning.specs.Sound.{IsSound, IsElement, AreElements, ArePairs, IsNumber}
-use Rattle.pbx_types_shape.specs.Shape.{types_shape}
-use Rattle.pbx_types_contents.specs.Content.{record_content}
+use Rattle.pbx_types_shape.specs.TypesShape.{types_shape}
+use Rattle.pbx_types_contents.specs.FieldContent.{record_content}
 use Rattle.pbx_types_contents.specs.Sound.{IsOf, MayBe, AreOf, some_field}
 use Rattle.pbx_types_contents.specs.Taking.{IsAt, Takes, TakesList, TakesPairs}
 use Rattle.pbx_types_contents.proofs.Sound.{shown_again, whole}

@@ -7,7 +7,7 @@ use Rattle.pbx_meaning.specs.declared.shape.Kind.{Kind}
 use Rattle.pbx_meaning.specs.Content.{Content, Fields, fields, with_fields, with_value, Val}
 use Rattle.pbx_meaning.specs.Meaning.{shown}
 use Rattle.pbx_meaning.specs.Sound.{IsSound}
-use Rattle.pbx_types_shape.specs.Shape.{types_shape}
+use Rattle.pbx_types_shape.specs.TypesShape.{types_shape}
 use Rattle.pbx_types_contents.specs.Sound.{MayHave, some_field}
 
 -- the fields with this at a number, if there is a value

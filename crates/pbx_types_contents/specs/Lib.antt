@@ -1,5 +1,5 @@
 pub mod Unknown
-pub mod Content
+pub mod FieldContent
 pub mod Sound
 pub mod Building
 pub mod Taking

@@ -10,7 +10,7 @@ use Rattle.pbx_meaning.specs.declared.shape.Kind.{Kind}
 use Rattle.pbx_meaning.specs.declared.shape.Kind.TheVariants as kind
 use Rattle.pbx_meaning.specs.Content.{Val, number, truth, text, octets, message, many, keyed}
 use Rattle.pbx_meaning.specs.Sound.{IsSound, IsElement, AreElements, ArePairs}
-use Rattle.pbx_types_shape.specs.Shape.{types_shape}
+use Rattle.pbx_types_shape.specs.TypesShape.{types_shape}
 
 -- the field may have the value, where the value is no default
 abbrev pub Fits : FieldShape → Val → Type 0

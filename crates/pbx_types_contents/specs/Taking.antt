@@ -6,7 +6,7 @@ use Rattle.pbx_meaning.specs.declared.shape.Kind.{Kind}
 use Rattle.pbx_meaning.specs.Content.{Content, fields, get, without, with_fields, Key, Val, many, keyed, vals_of, pairs_of}
 use Rattle.pbx_meaning.specs.Meaning.{shown}
 use Rattle.pbx_meaning.specs.Sound.{IsSoundAt, AreElements, ArePairs}
-use Rattle.pbx_types_shape.specs.Shape.{types_shape}
+use Rattle.pbx_types_shape.specs.TypesShape.{types_shape}
 use Rattle.pbx_types_contents.specs.Sound.{MayBe, some_field}
 
 -- no value, or one that a field may have

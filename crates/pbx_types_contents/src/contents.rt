@@ -8,7 +8,7 @@ ghost use Rattle.pbx_meaning.specs.Content.{many, vals_of, keyed, pairs_of};
 ghost use Rattle.pbx_meaning.specs.Sound.{AreElements, ArePairs};
 ghost use Rattle.pbx_codec.specs.View.{content_of, val_of, pair_of};
 ghost use Rattle.pbx_meaning.specs.declared.shape.Cardinality.TheVariants.{Singular, Repeated, Map};
-ghost use Rattle.pbx_types_shape.specs.Shape.{types_shape};
+ghost use Rattle.pbx_types_shape.specs.TypesShape.{types_shape};
 ghost use Rattle.pbx_types_contents.specs.Building.{Puts, Holds};
 ghost use Rattle.pbx_types_contents.specs.Unknown.{is_writable_beside};
 

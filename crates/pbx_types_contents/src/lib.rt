@@ -2,9 +2,9 @@
 #![tactic(auto)]
 
 mod contents;
-mod decoding;
 mod elements;
-mod encoding;
+mod record_decoding;
+mod record_encoding;
 mod taking;
 mod unknown;
 

@@ -4,7 +4,7 @@ ghost use Rattle.pbx_meaning.specs.declared.shape.Kind.TheVariants as kind;
 ghost use Rattle.pbx_meaning.specs.Content.{Content, kept, number as number_val, truth, text, octets};
 ghost use Rattle.pbx_meaning.specs.Sound.{IsSound};
 ghost use Rattle.pbx_codec.specs.View.{content_of, val_of, pair_of};
-ghost use Rattle.pbx_types_shape.specs.Shape.{types_shape};
+ghost use Rattle.pbx_types_shape.specs.TypesShape.{types_shape};
 ghost use Rattle.pbx_types_contents.specs.Taking.{Takes, TakesList, TakesPairs};
 
 use crate::elements::{int32_of, int64_of, octets_of, pairs_in, text_of, truth_of, values_of};

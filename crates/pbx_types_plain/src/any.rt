@@ -1,19 +1,19 @@
 ghost use Rattle.std.specs.Prelude.{◌≡◌, None, [], IfOk};
 ghost use Rattle.pbx_meaning.specs.Meaning.{meaning_of};
 ghost use Rattle.pbx_meaning.specs.Faults.{IsFaultOf};
-ghost use Rattle.pbx_types_shape.specs.Shape.{types_shape};
-ghost use Rattle.pbx_types_plain.specs.Content.{any_content, empty_content};
+ghost use Rattle.pbx_types_shape.specs.TypesShape.{types_shape};
+ghost use Rattle.pbx_types_plain.specs.PlainContent.{any_content, empty_content};
 
 use crate::copying::{copied_octets, copied_text};
 use bytes::Bytes;
 use pbx_codec::Contents;
-use pbx_desc::Message;
 use pbx_desc_decoding::DecodeMessage;
+use pbx_desc_encoding::Message;
 use pbx_types_contents::{
     FromContents, HasContents, kept_contents, kept_records, put_octets, put_text, record_bytes,
     record_from_bytes, take_octets, take_text,
 };
-use pbx_types_shape::place;
+use pbx_types_shape::well_known_place as place;
 use pbx_wire::{DecodeError, NoMemory, Recs, Text, copy_recs};
 use std::alloc::Global;
 

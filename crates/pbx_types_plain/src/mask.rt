@@ -1,18 +1,18 @@
 ghost use Rattle.std.specs.Prelude.{◌≡◌, [], IfOk};
 ghost use Rattle.pbx_meaning.specs.Meaning.{meaning_of};
 ghost use Rattle.pbx_meaning.specs.Faults.{IsFaultOf};
-ghost use Rattle.pbx_types_shape.specs.Shape.{types_shape};
-ghost use Rattle.pbx_types_plain.specs.Content.{mask_content};
+ghost use Rattle.pbx_types_shape.specs.TypesShape.{types_shape};
+ghost use Rattle.pbx_types_plain.specs.PlainContent.{mask_content};
 
 use crate::copying::copied_texts;
 use pbx_codec::Contents;
-use pbx_desc::Message;
 use pbx_desc_decoding::DecodeMessage;
+use pbx_desc_encoding::Message;
 use pbx_types_contents::{
     FromContents, HasContents, kept_contents, kept_records, put_list, record_bytes,
     record_from_bytes, take_values, text_list, text_values,
 };
-use pbx_types_shape::place;
+use pbx_types_shape::well_known_place as place;
 use pbx_wire::{DecodeError, NoMemory, Recs, Texts, copy_recs};
 use std::alloc::Global;
 

@@ -1,17 +1,17 @@
 ghost use Rattle.std.specs.Prelude.{◌≡◌, None, [], IfOk};
 ghost use Rattle.pbx_meaning.specs.Meaning.{meaning_of};
 ghost use Rattle.pbx_meaning.specs.Faults.{IsFaultOf};
-ghost use Rattle.pbx_types_shape.specs.Shape.{types_shape};
-ghost use Rattle.pbx_types_plain.specs.Content.{duration_content, timestamp_content};
+ghost use Rattle.pbx_types_shape.specs.TypesShape.{types_shape};
+ghost use Rattle.pbx_types_plain.specs.PlainContent.{duration_content, timestamp_content};
 
 use pbx_codec::Contents;
-use pbx_desc::Message;
 use pbx_desc_decoding::DecodeMessage;
+use pbx_desc_encoding::Message;
 use pbx_types_contents::{
     FromContents, HasContents, kept_contents, kept_records, put_int32, put_int64, record_bytes,
     record_from_bytes, take_int32, take_int64,
 };
-use pbx_types_shape::place;
+use pbx_types_shape::well_known_place as place;
 use pbx_wire::{DecodeError, NoMemory, Recs, copy_recs};
 use std::alloc::Global;
 

@@ -1,2 +1,2 @@
-pub mod Rows
-pub mod Shape
+pub mod TypesRows
+pub mod TypesShape

@@ -10,7 +10,7 @@ use Rattle.pbx_wire.specs.Text.{is_numbered, is_record_number}
 use Rattle.pbx_wire.specs.declared.rec.Rec.{Rec, the_lemmas as rec_lemmas}
 use Rattle.pbx_wire.specs.declared.rec.Rec.{Varint, Fixed64, Bytes, Group', Fixed32}
 use Rattle.pbx_wire.proofs.Written.{both}
-use Rattle.pbx_desc_shape.specs.Shape.{file_fields, message_fields, field_fields, enum_fields, enum_value_fields}
+use Rattle.pbx_desc_shape.specs.DescriptorShape.{file_fields, message_fields, field_fields, enum_fields, enum_value_fields}
 use Rattle.pbx_meaning.specs.declared.shape.FieldShape.{FieldShape}
 use Rattle.pbx_desc_records.specs.declared.enumeration.EnumReservedRange.{EnumReservedRange}
 use Rattle.pbx_desc_records.specs.declared.enumeration.EnumDescriptorProto.{EnumDescriptorProto}

@@ -4,7 +4,7 @@
 //! What is wanted is made and compared with protoc's by checks/built-in-files.
 #![tactic(auto)]
 
-use pbx_desc::Message;
+use pbx_desc_encoding::Message;
 use pbx_wire::NoMemory;
 use pbx_wkt_files::wkt_file;
 use std::alloc::{AllocError, Global};

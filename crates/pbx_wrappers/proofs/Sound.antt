@@ -13,7 +13,7 @@ use Rattle.pbx_meaning.specs.declared.shape.Shape.{Shape}
 use Rattle.pbx_meaning.specs.Same.{Decodes, DecodesParts}
 use Rattle.pbx_meaning.specs.Sound.{IsSound, AreSound, IsSoundAt, IsShown, IsNumber, PartsFit, depth}
 use Rattle.pbx_meaning.specs.Faults.{IsToldFault}
-use Rattle.pbx_types_shape.specs.Shape.{types_shape, wrapped, wrapper_field}
+use Rattle.pbx_types_shape.specs.TypesShape.{types_shape, wrapped, wrapper_field}
 use Rattle.pbx_wrappers.specs.Scalars.{is_zero, wrapper_content}
 use Rattle.pbx_wrappers.specs.Wrapped.{IsOf, MayBeOf, is_scalar, IsWrapper, MayHold, IsRead}
 

@@ -8,7 +8,7 @@ use Rattle.pbx_meaning.specs.declared.shape.Kind.TheVariants as kind
 use Rattle.pbx_meaning.specs.Content.{Content, Val, number, truth, text, octets}
 use Rattle.pbx_meaning.specs.Meaning.{or_else, zero_of}
 use Rattle.pbx_meaning.specs.Shape.{fields_of}
-use Rattle.pbx_types_shape.specs.Shape.{types_shape, wrapped}
+use Rattle.pbx_types_shape.specs.TypesShape.{types_shape, wrapped}
 use Rattle.pbx_wrappers.specs.Scalars.{wrapper_content}
 
 -- a value of the kind

@@ -5,7 +5,7 @@ ghost use Rattle.pbx_meaning.specs.Meaning.{meaning_of};
 ghost use Rattle.pbx_meaning.specs.Faults.{IsFaultOf, IsToldFault};
 ghost use Rattle.pbx_meaning.specs.Sound.{IsSound};
 ghost use Rattle.pbx_codec.specs.View.{content_of, val_of};
-ghost use Rattle.pbx_types_shape.specs.Shape.{types_shape as types_shape_of};
+ghost use Rattle.pbx_types_shape.specs.TypesShape.{types_shape as types_shape_of};
 ghost use Rattle.pbx_wrappers.specs.Wrapped.{IsRead, IsWrapper};
 
 use pbx_codec::{Contents, Held, decode};

@@ -3,7 +3,7 @@ ghost use Rattle.pbx_meaning.specs.Encoding.{encoded};
 ghost use Rattle.pbx_meaning.specs.Same.{Decodes, DecodesParts};
 ghost use Rattle.pbx_meaning.specs.Sound.{IsSound, PartsFit, depth};
 ghost use Rattle.pbx_codec.specs.View.{content_of, val_of};
-ghost use Rattle.pbx_types_shape.specs.Shape.{types_shape as types_shape_of};
+ghost use Rattle.pbx_types_shape.specs.TypesShape.{types_shape as types_shape_of};
 ghost use Rattle.pbx_wrappers.specs.Scalars.{is_zero as is_zero_of, wrapper_content};
 ghost use Rattle.pbx_wrappers.specs.Wrapped.{MayHold};
 

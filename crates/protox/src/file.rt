@@ -1,6 +1,6 @@
-//! Files, paths, resolvers and errors: another name of `protox_file`.
+//! Files, paths, resolvers and errors: another name of `protox_file_sources`.
 
-pub use protox_file::{
+pub use protox_file_sources::{
     Disk, DiskAnswer, DiskError, Error, ErrorKind, File, FileMetadata, FileResolver,
     GoogleFileResolver, IncludeFileResolver, MemoryDisk, MemoryResolver, RealDisk, join_path,
     looked_up_once, names_name_themselves, path_eq, path_to_file_name, resolved_stand_below,

@@ -7,11 +7,11 @@
 
 pub mod file;
 
-pub use pbx_desc;
 pub use pbx_desc_decoding;
+pub use pbx_desc_encoding;
 pub use pbx_json;
 pub use pbx_link;
-pub use pbx_message;
+pub use pbx_message_dynamic;
 pub use pbx_parse;
 pub use pbx_reflection;
 pub use pbx_text;
@@ -20,8 +20,8 @@ pub use pbx_wire;
 pub use pbx_wkt;
 pub use protox_compile;
 pub use protox_compile::{Compiled, Compiler, compile};
-pub use protox_file;
-pub use protox_file::Error;
+pub use protox_file_sources;
+pub use protox_file_sources::Error;
 pub use protox_io;
 pub use protox_resolvers;
 pub use protox_run::{Ran, Refusal, done_is_determined, run};

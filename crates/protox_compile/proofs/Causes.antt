@@ -2,8 +2,8 @@
 use Rattle.std.proofs.Common.{◌≡◌, [], ℕ, List, inr, sym, subst}
 use Rattle.protox_io.specs.Count.{Count}
 use Rattle.protox_error.specs.declared.error.ErrorKind.{ErrorKind}
-use Rattle.protox_file.specs.Causes.{FaultCause}
-use Rattle.protox_file.specs.Library.{Library}
+use Rattle.protox_file_sources.specs.Causes.{FaultCause}
+use Rattle.protox_file_sources.specs.Library.{Library}
 use Rattle.protox_walk.specs.Refusals.{HasOpeningsCause}
 use Rattle.protox_compile.specs.State.{State, fresh, most_files}
 use Rattle.protox_compile.specs.Compiling.{HasCompilingCause}

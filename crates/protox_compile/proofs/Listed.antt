@@ -10,7 +10,7 @@ use Rattle.pbx_definitions.specs.Names.{text_or_empty}
 use Rattle.pbx_described.specs.Descriptors.{FileDescribed, all_files}
 use Rattle.protox_error.specs.declared.error.ErrorKind.{ErrorKind}
 use Rattle.protox_error.specs.declared.error.ErrorKind.TheVariants as kinds
-use Rattle.protox_file.specs.Metadata.{Metadata}
+use Rattle.protox_file_sources.specs.Metadata.{Metadata}
 use Rattle.protox_walk.specs.Walk.{Done, records}
 use Rattle.protox_walk.specs.Compiled.{done_by, done_of, metadata_of}
 use Rattle.protox_compile.specs.Sets.{with_info, listed, next_done, is_undecodable, AreDecodable, IsUndecodable, IsUnencodable}

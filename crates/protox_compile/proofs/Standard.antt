@@ -3,7 +3,7 @@ use Rattle.std.proofs.Common.{◌≡◌, ◌∷◌, ◌∙◌, [], IsTrue, ℕ, 
 use Rattle.pbx_wkt_files.specs.Files.{wkt_files}
 use Rattle.protox_io.specs.Count.{Count}
 use Rattle.protox_io.specs.Disk.{Volume}
-use Rattle.protox_file.specs.Library.{Library}
+use Rattle.protox_file_sources.specs.Library.{Library}
 use Rattle.protox_resolvers.specs.Standard.{Folders, standard}
 
 -- what is said of the resolver is said of the disk

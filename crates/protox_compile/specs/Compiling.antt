@@ -3,8 +3,8 @@ use Rattle.std.specs.Prelude.{◌≡◌, ◌⊎◌, [], ℕ, List, Bool, true}
 use Rattle.pbx_desc_records.specs.declared.file.FileDescriptorSet.{FileDescriptorSet}
 use Rattle.protox_error.specs.declared.error.ErrorKind.{ErrorKind}
 use Rattle.protox_error.specs.declared.error.ErrorKind.TheVariants.{NoMemory}
-use Rattle.protox_file.specs.Library.{Library}
-use Rattle.protox_file.specs.Told.{ByLookups}
+use Rattle.protox_file_sources.specs.Library.{Library}
+use Rattle.protox_file_sources.specs.Told.{ByLookups}
 use Rattle.protox_walk.specs.Walk.{Done}
 use Rattle.protox_walk.specs.Opening.{Accepted, closure}
 use Rattle.protox_walk.specs.Closures.{StopsAt}

@@ -7,7 +7,7 @@ use Rattle.pbx_described.specs.Descriptors.{FileDescribed}
 use Rattle.pbx_definitions.specs.Names.{text_or_empty}
 use Rattle.protox_error.specs.declared.error.ErrorKind.{ErrorKind}
 use Rattle.protox_error.specs.declared.error.ErrorKind.TheVariants.{Undecodable, NoMemory}
-use Rattle.protox_file.specs.Metadata.{Metadata}
+use Rattle.protox_file_sources.specs.Metadata.{Metadata}
 use Rattle.protox_walk.specs.Compiled.{done_by}
 use Rattle.protox_walk.specs.Walk.{Done, records}
 

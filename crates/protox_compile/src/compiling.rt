@@ -4,7 +4,7 @@ ghost use Rattle.std.specs.Prelude.{◌≡◌, [], IsTrue, IfOk, IfErr, List};
 ghost use Rattle.pbx_pool_laws.specs.Pool.{ArePooled};
 ghost use Rattle.pbx_wkt_files.specs.Files.{wkt_files};
 ghost use Rattle.protox_io.specs.Count.{Later};
-ghost use Rattle.protox_file.specs.Causes.{FaultCause};
+ghost use Rattle.protox_file_sources.specs.Causes.{FaultCause};
 ghost use Rattle.protox_resolvers.specs.Standard.{standard};
 ghost use Rattle.protox_walk.specs.Walk.{Done, records};
 ghost use Rattle.protox_walk.specs.Compiled.{IsOrdered};
@@ -13,7 +13,7 @@ ghost use Rattle.protox_compile.specs.Compiling.{Compiles, StopsCompiling, HasCo
 use crate::compiler::Compiler;
 use pbx_desc_records::FileDescriptorSet;
 use pbx_wire::{NoMemory, Texts};
-use protox_file::{Disk, Error, FileResolver};
+use protox_file_sources::{Disk, Error, FileResolver};
 use protox_resolvers::StandardResolver;
 use std::alloc::Global;
 

@@ -4,7 +4,7 @@ use crate::errors::add_long_line;
 use crate::told::Told;
 use pbx_link::DescriptorPool;
 use pbx_wkt::make_wkt_descriptor_pool;
-use protox_file::{File, FileResolver, GoogleFileResolver};
+use protox_file_sources::{File, FileResolver, GoogleFileResolver};
 use std::alloc::Global;
 use std::mem::drop;
 use test_rows::Row;

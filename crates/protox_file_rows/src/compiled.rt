@@ -6,7 +6,7 @@ use crate::told::Told;
 use hex::encode;
 use pbx_desc_records::FileDescriptorSet;
 use protox_compile::{Compiler, compile};
-use protox_file::FileResolver;
+use protox_file_sources::FileResolver;
 use std::alloc::Global;
 use std::mem::drop;
 use test_rows::Row;

@@ -4,7 +4,7 @@ use crate::files::say_file;
 use crate::step::{Step, number, step_at, steps};
 use crate::told::Told;
 use pbx_wire::NoMemory;
-use protox_file::File;
+use protox_file_sources::File;
 use protox_io::{Disk, DiskAnswer, DiskError, MemoryDisk, RealDisk};
 use std::alloc::Global;
 use std::mem::drop;

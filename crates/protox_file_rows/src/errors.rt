@@ -5,7 +5,7 @@ use crate::told::Told;
 use pbx_link::DescriptorError;
 use pbx_parse::ParseError;
 use pbx_wire::{DecodeError, List, NoMemory, Text};
-use protox_file::{Error, ErrorKind};
+use protox_file_sources::{Error, ErrorKind};
 use std::alloc::Global;
 use test_rows::Row;
 

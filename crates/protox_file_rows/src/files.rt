@@ -4,7 +4,7 @@ use crate::errors::add_file_and_sort;
 use crate::told::Told;
 use pbx_desc_records::FileDescriptorProto;
 use pbx_wire::{NoMemory, Text};
-use protox_file::{Error, File, FileMetadata, looked_up_once};
+use protox_file_sources::{Error, File, FileMetadata, looked_up_once};
 use std::alloc::Global;
 use std::mem::drop;
 use test_rows::Row;

@@ -6,7 +6,7 @@ use crate::step::{Step, add_texts, halves, number, step_at, steps};
 use crate::told::Told;
 use pbx_desc_records::FileDescriptorProto;
 use pbx_wire::{NoMemory, Text};
-use protox_file::{
+use protox_file_sources::{
     Error, ErrorKind, File, FileResolver, IncludeFileResolver, MemoryResolver,
     names_name_themselves, path_to_file_name,
 };

@@ -6,7 +6,7 @@ use hex::encode;
 use pbx_desc_decoding::DecodeMessage;
 use pbx_desc_records::FileDescriptorSet;
 use pbx_wire::{DecodeError, Rec};
-use protox_file::{File, FileResolver};
+use protox_file_sources::{File, FileResolver};
 use protox_resolvers::DescriptorSetFileResolver;
 use std::alloc::Global;
 use std::mem::drop;

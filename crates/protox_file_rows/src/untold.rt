@@ -2,12 +2,12 @@
 
 ghost use Rattle.std.specs.Prelude.{true};
 ghost use Rattle.protox_io.specs.Count.{counted};
-ghost use Rattle.protox_file.specs.Library.{unknown};
+ghost use Rattle.protox_file_sources.specs.Library.{unknown};
 
 use crate::told::Told;
 use crate::walk;
 use pbx_wire::{NoMemory, Text};
-use protox_file::{Error, File, FileResolver};
+use protox_file_sources::{Error, File, FileResolver};
 use std::alloc::Global;
 use test_rows::Row;
 

@@ -11,7 +11,7 @@ use pbx_desc_records::FieldDescriptorProto;
 use pbx_link::DescriptorPool;
 use pbx_wire::Texts;
 use protox_compile::Compiler;
-use protox_file::{Error, ErrorKind, FileResolver};
+use protox_file_sources::{Error, ErrorKind, FileResolver};
 use protox_resolvers::DescriptorSetFileResolver;
 use std::alloc::Global;
 use std::mem::drop;

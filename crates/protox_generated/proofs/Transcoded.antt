@@ -8,7 +8,7 @@ use Rattle.pbx_json_meaning.specs.Laws.{CanonicalIsPlain}
 use Rattle.pbx_json_meaning.specs.Options.{default_writing}
 use Rattle.protox_io.specs.Count.{Count}
 use Rattle.protox_error.specs.declared.error.ErrorKind.TheVariants as kinds
-use Rattle.protox_file.specs.Causes.{FaultCause}
+use Rattle.protox_file_sources.specs.Causes.{FaultCause}
 use Rattle.protox_walk.specs.Walk.{records}
 use Rattle.protox_transcode.specs.Top.{ForFiles, IsCaused, IsTranscoded, Refuses, is_refusal}
 use Rattle.protox_transcode.specs.declared.error.TopError.{TopError}

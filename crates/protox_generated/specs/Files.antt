@@ -1,8 +1,8 @@
 -- The files of a number as what a resolver tells.
 use Rattle.std.specs.Prelude.{ℕ, List, [], ◌∷◌, true, None, if◌then◌else◌}
 use Rattle.std.specs.Str.{bytes_eq}
-use Rattle.protox_file.specs.Library.{Library, never, resolves_nothing}
-use Rattle.protox_file.specs.Told.{Told, Absent, told_source}
+use Rattle.protox_file_sources.specs.Library.{Library, never, resolves_nothing}
+use Rattle.protox_file_sources.specs.Told.{Told, Absent, told_source}
 use Rattle.protox_generated.specs.Sources.{files_to}
 
 -- the first source under a name

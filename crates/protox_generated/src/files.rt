@@ -2,14 +2,14 @@
 
 ghost use Rattle.std.specs.Prelude.{◌≡◌, IfOk, MatchOption, None};
 ghost use Rattle.protox_io.specs.Count.{counted};
-ghost use Rattle.protox_file.specs.Told.{Absent, told_source};
+ghost use Rattle.protox_file_sources.specs.Told.{Absent, told_source};
 ghost use Rattle.protox_generated.specs.Sources.{files_to};
 ghost use Rattle.protox_generated.specs.Files.{first_source, sources as sources_of};
 
 use crate::sources::{file_name, source};
 use pbx_wire::{NoMemory, Text};
 use protox_error::Error;
-use protox_file::{File, FileResolver};
+use protox_file_sources::{File, FileResolver};
 use std::alloc::Global;
 use std::marker::Model;
 

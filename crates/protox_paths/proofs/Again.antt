@@ -3,7 +3,7 @@ use Rattle.std.proofs.Common.{◌≡◌, ◌≢◌, ◌<◌, ℕ, zero, suc, ◌
 use Rattle.std.specs.List.{filter, list_all, join_with_byte, slice_split, onto_first}
 use Rattle.std.proofs.lemmas.Bool.Decides.{nat_tests}
 use Rattle.protox_io.specs.Paths.{Root, Current, Parent, Named, parts, is_rooted, is_dot, is_first_dot, component, components}
-use Rattle.protox_paths.specs.Paths.{is_ordinary, name_bytes, joined_names, name_of}
+use Rattle.protox_paths.specs.FileNames.{is_ordinary, name_bytes, joined_names, name_of}
 use Rattle.protox_paths.specs.Left.{body}
 use Rattle.protox_paths.proofs.Bodies.{other, is_parent}
 use Rattle.protox_paths.proofs.Split.{is_slash, is_part, parts_none, parts_split, rooted_none, rooted_split}

@@ -5,7 +5,7 @@ use Rattle.std.specs.List.{filter, list_all, join_with_byte, slice_split}
 use Rattle.protox_io.specs.Paths.{Component, Root, Current, Parent, Named, is_current, is_rooted, is_first_dot, is_dot, parts, start, component, component_eq, components, bare}
 use Rattle.protox_io.proofs.Keys.{component_decides}
 use Rattle.protox_paths.specs.Laws.{ResolvedStandBelow}
-use Rattle.protox_paths.specs.Paths.{is_ordinary, name_bytes, joined_names, behind_folder, stripped}
+use Rattle.protox_paths.specs.FileNames.{is_ordinary, name_bytes, joined_names, behind_folder, stripped}
 use Rattle.protox_paths.specs.Left.{body}
 use Rattle.protox_paths.proofs.Bodies.{other, is_parent}
 use Rattle.protox_paths.proofs.Split.{is_slash, is_part}

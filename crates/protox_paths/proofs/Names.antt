@@ -3,7 +3,7 @@ use Rattle.std.proofs.Common.{◌≡◌, ◌<◌, ℕ, ◌==◌, List, [], ◌�
 use Rattle.std.specs.List.{filter, list_all, join_with_byte, slice_split}
 use Rattle.std.proofs.lemmas.Bool.Decides.{nat_tests}
 use Rattle.protox_io.specs.Paths.{Component, Root, Current, Parent, Named, is_rooted, is_dot, start, component, bare}
-use Rattle.protox_paths.specs.Paths.{is_ordinary, name_bytes, joined_names, name_of}
+use Rattle.protox_paths.specs.FileNames.{is_ordinary, name_bytes, joined_names, name_of}
 use Rattle.protox_paths.specs.Left.{body, left, named_from}
 use Rattle.protox_paths.proofs.Bodies.{other, is_parent, bare-is}
 use Rattle.protox_paths.proofs.Split.{is_part}

@@ -3,7 +3,7 @@
 ghost use Rattle.std.specs.Prelude.{◌≡◌, Some, ℕ, List, IfOk, OnOk, option_map, string_bytes};
 ghost use Rattle.std.specs.Io.BufRead.{ends_with_byte};
 ghost use Rattle.protox_io.specs.Paths.{components};
-ghost use Rattle.protox_paths.specs.Paths.{name_of, path_equal, stripped, joined};
+ghost use Rattle.protox_paths.specs.FileNames.{name_of, path_equal, stripped, joined};
 ghost use Rattle.protox_paths.specs.Laws.{NamesNameThemselves, ResolvedStandBelow};
 ghost use Rattle.protox_paths.specs.Left.{with_part, named_so_far};
 

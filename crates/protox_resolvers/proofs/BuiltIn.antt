@@ -7,10 +7,10 @@ use Rattle.pbx_wkt_files.specs.Files.{wkt_files, wkt_file_named}
 use Rattle.protox_error.specs.Errors.{UnlessMemory}
 use Rattle.protox_error.specs.declared.error.ErrorKind.{ErrorKind}
 use Rattle.protox_error.specs.declared.error.ErrorKind.TheVariants as kinds
-use Rattle.protox_file.specs.Causes.{IsToldRefusal}
-use Rattle.protox_file.specs.Google.{told_described}
-use Rattle.protox_file.specs.Library.{pooled, alone}
-use Rattle.protox_file.specs.Told.{Told, Absent, Recorded, IsFound, NoFile, IsFile}
+use Rattle.protox_file_sources.specs.Causes.{IsToldRefusal}
+use Rattle.protox_file_sources.specs.Google.{told_described}
+use Rattle.protox_file_sources.specs.Library.{pooled, alone}
+use Rattle.protox_file_sources.specs.Told.{Told, Absent, Recorded, IsFound, NoFile, IsFile}
 
 abbrev told_record : Option Record → Told
 told_record None = Absent

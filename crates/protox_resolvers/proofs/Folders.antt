@@ -8,9 +8,9 @@ use Rattle.protox_io.specs.Count.{Count, Rose, Later}
 use Rattle.protox_io.specs.Disk.{Volume}
 use Rattle.protox_io.proofs.Counts.{rose_later}
 use Rattle.protox_error.specs.declared.error.ErrorKind.{ErrorKind}
-use Rattle.protox_file.specs.Causes.{HasCause, IsTold}
-use Rattle.protox_file.specs.Library.{Library, below, pooled, never}
-use Rattle.protox_file.specs.Told.{Entry, Told, Absent, Recorded, Source, TooLarge, NotText}
+use Rattle.protox_file_sources.specs.Causes.{HasCause, IsTold}
+use Rattle.protox_file_sources.specs.Library.{Library, below, pooled, never}
+use Rattle.protox_file_sources.specs.Told.{Entry, Told, Absent, Recorded, Source, TooLarge, NotText}
 use Rattle.protox_resolvers.specs.Chained.{or_told, first_told, first_resolved, chained, is_missing}
 use Rattle.protox_resolvers.specs.Standard.{standard}
 use Rattle.protox_resolvers.proofs.Joined.{told_joined, resolved_joined}

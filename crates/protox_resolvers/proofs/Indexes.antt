@@ -5,7 +5,7 @@ use Rattle.std.specs.Prelude.{Option, Some, None, option_map, slice_get}
 use Rattle.std.specs.Str.{bytes_eq}
 use Rattle.std.specs.Cmp.Lexicographic.{nat_list_eq_equiv}
 use Rattle.pbx_names.specs.Names.{first_under}
-use Rattle.protox_file.specs.Told.{Entry, Recorded}
+use Rattle.protox_file_sources.specs.Told.{Entry, Recorded}
 use Rattle.protox_resolvers.specs.Listed.{declared_name, first_declared}
 use Rattle.protox_resolvers.specs.Indexes.{indexed_from, told_at, told_entry}
 

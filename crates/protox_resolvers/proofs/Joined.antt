@@ -1,8 +1,8 @@
 -- Two lists of members joined, and no members.
 use Rattle.std.proofs.Common.{◌≡◌, ◌++◌, ℕ, List, [], ◌∷◌, Option, Some, None, refl}
 use Rattle.std.specs.Option.{option_or}
-use Rattle.protox_file.specs.Library.{Library}
-use Rattle.protox_file.specs.Told.{Told, Absent, Recorded, Source, TooLarge, NotText}
+use Rattle.protox_file_sources.specs.Library.{Library}
+use Rattle.protox_file_sources.specs.Told.{Told, Absent, Recorded, Source, TooLarge, NotText}
 use Rattle.protox_resolvers.specs.Chained.{or_told, first_told, first_resolved}
 use Rattle.protox_resolvers.specs.Laws.{ChainsJoin, NoneHasNothing}
 

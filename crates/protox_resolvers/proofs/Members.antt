@@ -10,9 +10,9 @@ use Rattle.protox_error.specs.declared.error.ErrorKind.{ErrorKind}
 use Rattle.protox_error.specs.declared.error.ErrorKind.TheVariants.{Parse, Check, OpenFile, FileTooLarge, FileInvalidUtf8, FileNotFound}
 use Rattle.protox_error.specs.declared.error.ErrorKind.TheVariants.{ImportNotFound, CircularImport, FileNotIncluded, FileShadowed}
 use Rattle.protox_error.specs.declared.error.ErrorKind.TheVariants.{DuplicateImport, Custom, NameMismatch, FileLimit, Undecodable, NoMemory}
-use Rattle.protox_file.specs.Causes.{HasCause, IsTold}
-use Rattle.protox_file.specs.Library.{Library}
-use Rattle.protox_file.specs.Told.{Entry, Told, Absent, Recorded, Source, TooLarge, NotText, Lookup, NoFile, IsFile, TextFault, IsFound}
+use Rattle.protox_file_sources.specs.Causes.{HasCause, IsTold}
+use Rattle.protox_file_sources.specs.Library.{Library}
+use Rattle.protox_file_sources.specs.Told.{Entry, Told, Absent, Recorded, Source, TooLarge, NotText, Lookup, NoFile, IsFile, TextFault, IsFound}
 use Rattle.protox_resolvers.specs.Chained.{or_told, first_told, first_resolved, chained, count_of_all, is_missing}
 
 -- ---- counts

@@ -20,14 +20,14 @@ use Rattle.pbx_meaning.proofs.FaultyLaw.{are_records, one_inner}
 use Rattle.pbx_meaning.proofs.OntoSplits.{inner_at, meaning_is}
 use Rattle.pbx_meaning.proofs.SoundLaw.{parts_sound}
 use Rattle.pbx_meaning.proofs.Sorted.{after_last_none}
-use Rattle.pbx_desc_shape.specs.Shape.{descriptor_shape, set_fields, list_field}
-use Rattle.pbx_desc_shape.proofs.Proper.{descriptor_shape_proper}
-use Rattle.pbx_desc.specs.Content.{listed, of_records, file_content, file_value}
-use Rattle.pbx_desc.specs.Sets.{set_meaning_of}
-use Rattle.pbx_desc.proofs.Types.{file_set_type}
+use Rattle.pbx_desc_shape.specs.DescriptorShape.{descriptor_shape, set_fields, list_field}
+use Rattle.pbx_desc_shape.proofs.DescriptorsProper.{descriptor_shape_proper}
+use Rattle.pbx_desc_encoding.specs.Content.{listed, of_records, file_content, file_value}
+use Rattle.pbx_desc_encoding.specs.Sets.{set_meaning_of}
+use Rattle.pbx_desc_encoding.proofs.Types.{file_set_type}
 use Rattle.pbx_desc_decoding.proofs.Walk.{whole}
 use Rattle.pbx_link.specs.Bytes.{DecodesFiles}
-use Rattle.protox_file.specs.Told.{Entry}
+use Rattle.protox_file_sources.specs.Told.{Entry}
 use Rattle.protox_resolvers.specs.Sets.{records_of, IsFileOf, AreFilesOf, AreFilesIn, IsAdded}
 
 -- ---- lists

@@ -5,10 +5,10 @@ use Rattle.std.specs.declared.dyn_box.DynBox.{DynBox}
 use Rattle.std.specs.Global.{Global}
 use Rattle.std.specs.Option.{option_or}
 use Rattle.protox_io.specs.Count.{Count}
-use Rattle.protox_file.specs.Library.{Library}
+use Rattle.protox_file_sources.specs.Library.{Library}
 use Rattle.protox_error.specs.declared.error.ErrorKind.{ErrorKind}
 use Rattle.protox_error.specs.declared.error.ErrorKind.TheVariants.{FileNotFound}
-use Rattle.protox_file.specs.Told.{Entry, Told, Absent}
+use Rattle.protox_file_sources.specs.Told.{Entry, Told, Absent}
 use Rattle.protox_resolvers.specs.declared.chain.ChainFileResolver.{ChainFileResolver}
 
 -- the members of a chain, in the order in which they are asked

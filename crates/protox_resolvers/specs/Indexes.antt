@@ -2,7 +2,7 @@
 use Rattle.std.specs.Prelude.{◌≡◌, ◌+◌, ℕ, List, [], ◌∷◌, Option, Some, None, option_and_then, slice_get, IfSome}
 use Rattle.pbx_names.specs.declared.name_map.NameMap.{NameMap}
 use Rattle.pbx_names.specs.Names.{under}
-use Rattle.protox_file.specs.Told.{Entry, Told, Absent, Recorded}
+use Rattle.protox_file_sources.specs.Told.{Entry, Told, Absent, Recorded}
 use Rattle.protox_resolvers.specs.Listed.{declared_name, first_declared}
 
 -- the names that the files declare, each with the index of its file, counted from n

@@ -1,8 +1,8 @@
 -- What holds of resolvers that are asked in turn.
 use Rattle.std.specs.Prelude.{◌≡◌, ◌++◌, [], ℕ, List, None}
 use Rattle.std.specs.Option.{option_or}
-use Rattle.protox_file.specs.Library.{Library}
-use Rattle.protox_file.specs.Told.{Absent}
+use Rattle.protox_file_sources.specs.Library.{Library}
+use Rattle.protox_file_sources.specs.Told.{Absent}
 use Rattle.protox_resolvers.specs.Chained.{or_told, first_told, first_resolved}
 
 -- Two lists of members joined have what the first has, and else what the second has.

@@ -1,8 +1,8 @@
 -- The files of a list, as a descriptor set is one (Protocol Buffers `descriptor.proto`: FileDescriptorSet).
 use Rattle.std.specs.Prelude.{ℕ, List, [], ◌∷◌, true, if◌then◌else◌, unwrap_or}
 use Rattle.std.specs.Str.{bytes_eq}
-use Rattle.protox_file.specs.Library.{Library, resolves_nothing, never}
-use Rattle.protox_file.specs.Told.{Entry, Told, Absent, Recorded}
+use Rattle.protox_file_sources.specs.Library.{Library, resolves_nothing, never}
+use Rattle.protox_file_sources.specs.Told.{Entry, Told, Absent, Recorded}
 
 -- the name that a file declares, which is empty where it declares none
 abbrev pub declared_name : Entry → List ℕ

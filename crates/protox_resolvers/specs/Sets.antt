@@ -5,8 +5,8 @@ use Rattle.pbx_wire.specs.Spelling.{Spells}
 use Rattle.pbx_meaning.specs.Records.{bytes_of, those_of, each}
 use Rattle.pbx_desc_records.specs.declared.file.FileDescriptorProto.{FileDescriptorProto}
 use Rattle.pbx_link.specs.Bytes.{DecodesFile}
-use Rattle.protox_file.specs.Library.{alone}
-use Rattle.protox_file.specs.Told.{Entry}
+use Rattle.protox_file_sources.specs.Library.{alone}
+use Rattle.protox_file_sources.specs.Told.{Entry}
 use Rattle.protox_resolvers.specs.declared.descriptor_set.Files.{Files}
 use Rattle.protox_resolvers.specs.declared.descriptor_set.Files.TheVariants.{Records, Decoded}
 

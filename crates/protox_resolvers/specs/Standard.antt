@@ -2,7 +2,7 @@
 use Rattle.std.specs.Prelude.{ℕ, List, [], ◌∷◌, ◌++◌, map}
 use Rattle.pbx_desc_records.specs.declared.file.FileDescriptorProto.{FileDescriptorProto}
 use Rattle.protox_io.specs.Disk.{Volume}
-use Rattle.protox_file.specs.Library.{Library, below, pooled}
+use Rattle.protox_file_sources.specs.Library.{Library, below, pooled}
 use Rattle.protox_resolvers.specs.Chained.{chained}
 
 -- the paths of folders, and the disk that they stand on

@@ -3,12 +3,12 @@
 ghost use Rattle.std.specs.Prelude.{◌≡◌, ◌<◌, ◌∷◌, ◌++◌, [], Some, map, vec_len, slice_index_or};
 ghost use Rattle.std.specs.Prelude.{IsTrue, IfOk, IfErr, IfSome, OnOk, OnErr};
 ghost use Rattle.protox_io.specs.Count.{Rose, Later};
-ghost use Rattle.protox_paths.specs.Paths.{name_of};
-ghost use Rattle.protox_file.specs.Causes.{HasCause, IsTold};
+ghost use Rattle.protox_paths.specs.FileNames.{name_of};
+ghost use Rattle.protox_file_sources.specs.Causes.{HasCause, IsTold};
 ghost use Rattle.protox_resolvers.specs.Chained.{chained, count_of_all, is_missing, members_of};
 
 use pbx_wire::{NoMemory, Text};
-use protox_file::{Error, ErrorKind, File, FileResolver};
+use protox_file_sources::{Error, ErrorKind, File, FileResolver};
 use std::alloc::Global;
 
 type Member = Box<dyn FileResolver + Drop>;

@@ -4,10 +4,10 @@ ghost use Rattle.std.specs.Prelude.{◌≡◌, [], Some, map, unwrap_or, option_
 ghost use Rattle.std.specs.Option.{option_copied};
 ghost use Rattle.pbx_wire.specs.View.{rec_of};
 ghost use Rattle.pbx_meaning.specs.Faults.{IsToldFault};
-ghost use Rattle.pbx_desc.specs.Sets.{set_meaning_of, IsSetFault};
+ghost use Rattle.pbx_desc_encoding.specs.Sets.{set_meaning_of, IsSetFault};
 ghost use Rattle.pbx_link.specs.Bytes.{DecodesFiles};
 ghost use Rattle.protox_io.specs.Count.{counted};
-ghost use Rattle.protox_file.specs.Library.{alone};
+ghost use Rattle.protox_file_sources.specs.Library.{alone};
 ghost use Rattle.protox_resolvers.specs.Listed.{declared_name, first_declared, listed_files};
 ghost use Rattle.protox_resolvers.specs.Sets.{entries_of, records_of, AreFilesIn, IsAdded};
 ghost use Rattle.protox_resolvers.specs.Indexes.{indexed_from, told_entry, told_at, AreIndexesOf};
@@ -17,7 +17,7 @@ use pbx_desc_records::{FileDescriptorProto, FileDescriptorSet};
 use pbx_names::NameMap;
 use pbx_wire::{DecodeError, List, NoMemory, RecRef, Text, read_rec_ref};
 use protox_error::Error;
-use protox_file::{File, FileResolver};
+use protox_file_sources::{File, FileResolver};
 use std::alloc::Global;
 use std::marker::Model;
 
@@ -47,7 +47,7 @@ impl Model for DescriptorSetFileResolver {
     ghost use Rattle.std.specs.Prelude.{List};
     ghost use Rattle.std.specs.Coded.{codes};
     ghost use Rattle.pbx_desc_records.specs.contracts.file.FileDescriptorProto as proto;
-    ghost use Rattle.protox_file.specs.Told.{Entry};
+    ghost use Rattle.protox_file_sources.specs.Told.{Entry};
     ghost use Rattle.protox_resolvers.specs.Sets.{entries_of};
     ghost use Rattle.protox_resolvers.specs.Indexes.{AreIndexesOf};
 

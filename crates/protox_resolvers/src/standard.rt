@@ -3,17 +3,19 @@
 ghost use Rattle.std.specs.Prelude.{◌≡◌, Some, map, IsTrue, IfOk, IfErr, IfSome};
 ghost use Rattle.protox_io.specs.Count.{Rose, Later};
 ghost use Rattle.protox_io.specs.Disk.{Volume};
-ghost use Rattle.protox_paths.specs.Paths.{name_of, resolved};
+ghost use Rattle.protox_paths.specs.FileNames.{name_of, resolved};
 ghost use Rattle.pbx_wkt_files.specs.Files.{wkt_files};
-ghost use Rattle.protox_file.specs.Causes.{HasCause, IsTold};
-ghost use Rattle.protox_file.specs.Library.{below, never, pooled};
+ghost use Rattle.protox_file_sources.specs.Causes.{HasCause, IsTold};
+ghost use Rattle.protox_file_sources.specs.Library.{below, never, pooled};
 ghost use Rattle.protox_resolvers.specs.Chained.{chained, first_told, first_resolved};
 ghost use Rattle.protox_resolvers.specs.Standard.{standard};
 
 use crate::chain::is_not_found;
 use pbx_wire::{NoMemory, Text, Texts};
 use pbx_wkt_files::wkt_file;
-use protox_file::{Disk, Error, File, FileResolver, join_path, path_to_file_name, strip_prefix};
+use protox_file_sources::{
+    Disk, Error, File, FileResolver, join_path, path_to_file_name, strip_prefix,
+};
 use std::alloc::Global;
 use std::marker::Model;
 

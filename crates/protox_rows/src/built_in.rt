@@ -5,7 +5,7 @@ use hex::encode;
 use pbx_wire::NoMemory;
 use pbx_wkt::make_wkt_descriptor_pool;
 use protox::{TopError, Transcoded};
-use protox_file::{FileResolver, GoogleFileResolver};
+use protox_file_sources::{FileResolver, GoogleFileResolver};
 use protox_resolvers::DescriptorSetFileResolver;
 use serde_json::Value;
 use std::alloc::Global;

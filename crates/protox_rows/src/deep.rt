@@ -4,7 +4,7 @@ use crate::objects::came_of;
 use pbx_desc_records::{DescriptorProto, FileDescriptorProto};
 use pbx_wire::{NoMemory, Text, Texts};
 use protox::{TopError, Transcoded};
-use protox_file::{File, MemoryResolver};
+use protox_file_sources::{File, MemoryResolver};
 use serde_json::Value;
 use std::alloc::Global;
 use test_rows::Row;

@@ -2,7 +2,7 @@
 
 use pbx_wire::{Blob, NoMemory, Text, Texts};
 use protox::{TopError, Transcoded, compile_and_transcode};
-use protox_file::FileResolver;
+use protox_file_sources::FileResolver;
 use protox_io::{MemoryDisk, MemorySink, MemorySource};
 use serde_json::Value;
 use std::alloc::Global;

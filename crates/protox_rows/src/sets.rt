@@ -4,7 +4,7 @@ use crate::objects::{came_of, words};
 use hex::encode;
 use pbx_wire::NoMemory;
 use protox::{TopError, Transcoded};
-use protox_file::MemoryResolver;
+use protox_file_sources::MemoryResolver;
 use serde_json::Value;
 use std::alloc::Global;
 use test_rows::Row;

@@ -4,7 +4,7 @@ use Rattle.serde_json.specs.Data.{Data}
 use Rattle.serde_json.specs.Written.{compact_text}
 use Rattle.pbx_desc_records.specs.declared.file.FileDescriptorProto.{FileDescriptorProto}
 use Rattle.protox_io.specs.Disk.{Volume}
-use Rattle.protox_file.specs.Library.{Library}
+use Rattle.protox_file_sources.specs.Library.{Library}
 use Rattle.protox_walk.specs.Walk.{Done}
 use Rattle.protox_walk.specs.Opening.{closure}
 use Rattle.protox_walk.specs.Laws.{ClosesOnce}

@@ -13,10 +13,10 @@ use Rattle.protox_io.specs.Count.{Count, Rose}
 use Rattle.protox_io.specs.Disk.{Volume, untold}
 use Rattle.protox_error.specs.declared.error.ErrorKind.{ErrorKind}
 use Rattle.protox_error.specs.declared.error.ErrorKind.TheVariants as kinds
-use Rattle.protox_file.specs.Causes.{IsNamedFault, FaultCause}
-use Rattle.protox_file.specs.Library.{Library, below, pooled, may_fail_at}
-use Rattle.protox_paths.specs.Paths.{joined}
-use Rattle.protox_file.specs.Told.{ByLookups}
+use Rattle.protox_file_sources.specs.Causes.{IsNamedFault, FaultCause}
+use Rattle.protox_file_sources.specs.Library.{Library, below, pooled, may_fail_at}
+use Rattle.protox_paths.specs.FileNames.{joined}
+use Rattle.protox_file_sources.specs.Told.{ByLookups}
 use Rattle.protox_resolvers.specs.Standard.{Folders, standard}
 use Rattle.protox_walk.specs.Walk.{Done, records}
 use Rattle.protox_walk.specs.Opening.{Accepted, closure}

@@ -10,7 +10,7 @@ use Rattle.pbx_wkt_files.specs.Files.{wkt_files}
 use Rattle.protox_io.specs.Disk.{Volume}
 use Rattle.protox_error.specs.Lines.{long_line_of}
 use Rattle.protox_error.specs.declared.error.ErrorKind.{ErrorKind}
-use Rattle.protox_file.specs.Library.{Library}
+use Rattle.protox_file_sources.specs.Library.{Library}
 use Rattle.protox_resolvers.specs.Standard.{standard}
 use Rattle.protox_walk.specs.Walk.{Done}
 use Rattle.protox_compile.specs.Sets.{listed, IsSet, AreDecodable, IsUndecodable}

@@ -6,7 +6,7 @@ use Rattle.protox_io.specs.Paths.{disk_key}
 use Rattle.protox_io.specs.Sink.{Begins}
 use Rattle.protox_error.specs.Lines.{long_line_of}
 use Rattle.protox_error.specs.declared.error.ErrorKind.{ErrorKind}
-use Rattle.protox_file.specs.Causes.{IsNamedFault}
+use Rattle.protox_file_sources.specs.Causes.{IsNamedFault}
 use Rattle.protox_compile.specs.Compiling.{StopsWalk}
 use Rattle.protox_words.specs.Words.{Args, WordFault}
 use Rattle.protox_run.specs.Class.{Write, Ready, Judges, ForTree, library_of, reads_input}

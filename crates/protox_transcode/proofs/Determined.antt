@@ -14,7 +14,7 @@ use Rattle.pbx_json_meaning.specs.declared.names_fault.NameFault.TheVariants as 
 use Rattle.pbx_json_meaning.specs.Fits.{fits}
 use Rattle.pbx_described.specs.Shapes.{shape_of, place_of}
 use Rattle.pbx_parse.specs.declared.error.ParseError.TheVariants as parse
-use Rattle.protox_file.specs.Told.{Told, Lookup, ByLookups}
+use Rattle.protox_file_sources.specs.Told.{Told, Lookup, ByLookups}
 use Rattle.protox_error.specs.declared.error.ErrorKind.{ErrorKind}
 use Rattle.protox_error.specs.declared.error.ErrorKind.TheVariants as kinds
 use Rattle.protox_walk.specs.Walk.{Done, NotRead, records}

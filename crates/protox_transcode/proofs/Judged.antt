@@ -4,9 +4,9 @@ use Rattle.serde_json.specs.Data.{Data}
 use Rattle.pbx_desc_records.specs.declared.file.FileDescriptorProto.{FileDescriptorProto}
 use Rattle.pbx_pool_laws.specs.Pool.{ArePooled}
 use Rattle.protox_io.specs.Count.{Count}
-use Rattle.protox_file.specs.Causes.{FaultCause}
-use Rattle.protox_file.specs.Library.{Library}
-use Rattle.protox_file.specs.Told.{Told, ByLookups}
+use Rattle.protox_file_sources.specs.Causes.{FaultCause}
+use Rattle.protox_file_sources.specs.Library.{Library}
+use Rattle.protox_file_sources.specs.Told.{Told, ByLookups}
 use Rattle.protox_error.specs.declared.error.ErrorKind.{ErrorKind}
 use Rattle.protox_error.specs.declared.error.ErrorKind.TheVariants as kinds
 use Rattle.protox_walk.specs.Walk.{Done, records}

@@ -25,7 +25,7 @@ use Rattle.pbx_json_meaning.specs.declared.kind.JsonKind.{JsonKind}
 use Rattle.pbx_json_meaning.specs.declared.kind.JsonKind.TheVariants as fault
 use Rattle.pbx_json_meaning.specs.declared.place.Step.{Step}
 use Rattle.pbx_json_meaning.specs.Fits.{fits, payloads_fit}
-use Rattle.pbx_message.specs.Trees as read_specs
+use Rattle.pbx_message_dynamic.specs.Trees as read_specs
 use Rattle.protox_transcode.specs.Parts.{IsClear, IsNamed, IsNoSet, IsNotClear, IsNotNamed, IsNotTold, IsNotWritten, IsWritten}
 use Rattle.pbx_decodable.proofs.Found.{has_place, found_at}
 use Rattle.protox_compile.specs.Sets.{AreDecodable}

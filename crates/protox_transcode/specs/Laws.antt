@@ -1,7 +1,7 @@
 -- What holds of transcodings.
 use Rattle.std.specs.Prelude.{◌≡◌, ℕ, List, Option, true}
 use Rattle.serde_json.specs.Data.{Data}
-use Rattle.protox_file.specs.Told.{Told}
+use Rattle.protox_file_sources.specs.Told.{Told}
 use Rattle.protox_transcode.specs.Top.{ForFiles, IsTranscoded, Refuses, is_refusal}
 use Rattle.protox_transcode.specs.declared.error.TopError.{TopError}
 

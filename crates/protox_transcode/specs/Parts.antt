@@ -14,7 +14,7 @@ use Rattle.pbx_json_meaning.specs.Clash.{name_fault}
 use Rattle.pbx_json_meaning.specs.Named.{IsWellNamed}
 use Rattle.pbx_json_meaning.specs.Options.{default_writing}
 use Rattle.pbx_json_meaning.specs.declared.names_fault.NameFault.TheVariants as names
-use Rattle.pbx_message.specs.Message.{Dynamic, text_in}
+use Rattle.pbx_message_dynamic.specs.Message.{Dynamic, text_in}
 use Rattle.protox_compile.specs.Sets.{IsUndecodable}
 use Rattle.protox_transcode.specs.Top.{ForType, Transcodes, IsUnread, IsTooDeep}
 use Rattle.protox_transcode.specs.declared.error.TopError.{TopError}

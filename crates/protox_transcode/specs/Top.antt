@@ -22,7 +22,7 @@ use Rattle.pbx_json_meaning.specs.declared.names_fault.NameFault.TheVariants as 
 use Rattle.pbx_json_meaning.specs.Fits.{fits}
 use Rattle.pbx_pool_laws.specs.Pool.{ArePooled}
 use Rattle.protox_error.specs.Lines.{long_line_of}
-use Rattle.protox_file.specs.Told.{Told, ByLookups}
+use Rattle.protox_file_sources.specs.Told.{Told, ByLookups}
 use Rattle.protox_error.specs.declared.error.ErrorKind.{ErrorKind}
 use Rattle.protox_error.specs.declared.error.ErrorKind.TheVariants as kinds
 use Rattle.protox_walk.specs.Walk.{Done, records}

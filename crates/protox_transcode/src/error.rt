@@ -7,7 +7,7 @@ ghost use Rattle.protox_transcode.specs.Top.{top_line, is_refusal, is_fault, is_
 use crate::json_line::json_line;
 use pbx_json::{JsonError, JsonKind, NameFault};
 use pbx_wire::{NoMemory, Text};
-use protox_file::{Error, ErrorKind};
+use protox_file_sources::{Error, ErrorKind};
 use std::alloc::Global;
 
 /// Why files, a type's name and a tree are refused.

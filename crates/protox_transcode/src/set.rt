@@ -10,7 +10,7 @@ use crate::error::TopError;
 use pbx_decodable::{encode_decodable, is_decodable};
 use pbx_link::{DescriptorPool, FileDescriptor, file_set};
 use pbx_wire::{Blob, NoMemory, Text};
-use protox_file::{Error, ErrorKind};
+use protox_file_sources::{Error, ErrorKind};
 use std::alloc::Global;
 
 /// The first file of a pool that cannot be read again.

@@ -1,6 +1,6 @@
 -- Opening a path whose name is finished.
 use Rattle.std.proofs.Common.{◌≡◌, ◌∙◌, inl, inr, ℕ, List, [], Bool, true, false, if◌then◌else◌, Option, Some, None, refl, ap, sym, subst}
-use Rattle.protox_paths.specs.Paths.{path_equal}
+use Rattle.protox_paths.specs.FileNames.{path_equal}
 use Rattle.protox_walk.specs.Walk.{Done, Shadowed, visits}
 use Rattle.protox_walk.specs.Laws.{IsOpenedAgain, OpeningAgainMarks}
 use Rattle.protox_walk.specs.Opening.{Opened, Accepted, Refused, mark, path_in, opening, open_name, open_done, open_root}

@@ -4,8 +4,8 @@ use Rattle.std.specs.Prelude.{Option, Some, None, Result, Ok, Err, IfErr}
 use Rattle.protox_error.specs.declared.error.ErrorKind.{ErrorKind}
 use Rattle.protox_error.specs.declared.error.ErrorKind.TheVariants.{Check, OpenFile, ImportNotFound, CircularImport, FileNotIncluded, FileShadowed, DuplicateImport, Custom, NameMismatch, FileLimit, Undecodable, NoMemory}
 use Rattle.protox_io.specs.Count.{Count, Rose}
-use Rattle.protox_file.specs.Causes.{HasCause, FaultCause}
-use Rattle.protox_file.specs.Library.{Library}
+use Rattle.protox_file_sources.specs.Causes.{HasCause, FaultCause}
+use Rattle.protox_file_sources.specs.Library.{Library}
 use Rattle.protox_walk.specs.Walk.{Done}
 use Rattle.protox_walk.specs.Opening.{asked_path}
 use Rattle.protox_walk.specs.Opens.{IsShadowedBy}

@@ -2,7 +2,7 @@
 use Rattle.std.proofs.Common.{◌≡◌, ◌+◌, ◌<◌, ◌∷◌, ◌++◌, ◌∙◌, [], ℕ, suc, List, refl, sym, ap, length, take, drop, get_or, add-one}
 use Rattle.std.proofs.Math.Seq.{take-suc, split_at}
 use Rattle.std.specs.Prelude.{Option}
-use Rattle.protox_file.specs.Told.{Told, Lookup, ByLookups}
+use Rattle.protox_file_sources.specs.Told.{Told, Lookup, ByLookups}
 use Rattle.protox_error.specs.declared.error.ErrorKind.{ErrorKind}
 use Rattle.protox_walk.specs.Walk.{Done}
 use Rattle.protox_walk.specs.Opening.{Opened, Accepted, NotIncluded, Refused, opening, closure, after_opening}

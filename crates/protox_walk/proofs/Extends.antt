@@ -6,8 +6,8 @@ use Rattle.std.proofs.lemmas.List.{append-nil}
 use Rattle.std.specs.Str.{bytes_eq}
 use Rattle.pbx_rules.specs.Breaches.{keeps_rules}
 use Rattle.pbx_definitions.specs.Names.{among}
-use Rattle.protox_paths.specs.Paths.{path_equal}
-use Rattle.protox_file.specs.Told.{Entry, Lookup, NoFile, IsFile, TextFault, Unread}
+use Rattle.protox_paths.specs.FileNames.{path_equal}
+use Rattle.protox_file_sources.specs.Told.{Entry, Lookup, NoFile, IsFile, TextFault, Unread}
 use Rattle.protox_walk.specs.Places.{place_of_import}
 use Rattle.protox_walk.specs.Walk.{Done, Fault, Limit, Mismatch, Shadowed, Duplicate, Circular, Unlinked, Visited, Finished, Missing, Faulted, Open, records, imports_of, declared_name, done_as, is_done, chain_text, after_visit, visit_imports, finish, unless_shadowed, visit_lookup, visit, visits}
 use Rattle.protox_walk.specs.Resume.{names_of, go_on, resume}

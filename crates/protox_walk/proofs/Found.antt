@@ -6,7 +6,7 @@ use Rattle.std.specs.Prelude.{if◌then◌else◌, Option, Some, None, is_some}
 use Rattle.std.specs.List.{list_any}
 use Rattle.std.specs.Str.{bytes_eq}
 use Rattle.pbx_definitions.specs.Names.{among}
-use Rattle.protox_file.specs.Metadata.{Metadata}
+use Rattle.protox_file_sources.specs.Metadata.{Metadata}
 use Rattle.protox_walk.specs.declared.indexes.Indexes.{Indexes}
 use Rattle.protox_walk.specs.Indexes.{first_index, AreIndexed}
 use Rattle.protox_walk.specs.Compiled.{opened_at, opened_in, path_at, path_known, names_known}

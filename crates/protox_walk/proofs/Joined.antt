@@ -2,7 +2,7 @@
 use Rattle.std.proofs.Common.{◌≡◌, ◌⊎◌, inl, inr, ◌∙◌, ℕ, List, refl, sym, subst}
 use Rattle.std.specs.Prelude.{Option}
 use Rattle.pbx_parse.specs.declared.error.ParseError.TheVariants as parse
-use Rattle.protox_file.specs.Told.{Told, Lookup, NoFile, IsFile, TextFault, Unread, IsFound, IsLookup, AreLookups, AreComplete}
+use Rattle.protox_file_sources.specs.Told.{Told, Lookup, NoFile, IsFile, TextFault, Unread, IsFound, IsLookup, AreLookups, AreComplete}
 use Rattle.protox_error.specs.declared.error.ErrorKind.{ErrorKind}
 use Rattle.protox_error.specs.declared.error.ErrorKind.TheVariants.{Parse, Check, OpenFile, FileTooLarge, FileInvalidUtf8, FileNotFound, ImportNotFound, CircularImport, FileNotIncluded, FileShadowed, DuplicateImport, Custom, NameMismatch, FileLimit, Undecodable, NoMemory}
 use Rattle.protox_walk.specs.Walk.{Done, NoImport}

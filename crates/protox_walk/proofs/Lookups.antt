@@ -3,9 +3,9 @@ use Rattle.std.proofs.Common.{◌≡◌, inl, inr, ℕ, List, Bool, true, false,
 use Rattle.std.specs.Prelude.{Option, Some}
 use Rattle.std.specs.Str.{bytes_eq}
 use Rattle.pbx_parse.specs.declared.error.ParseError.TheVariants as parse
-use Rattle.protox_paths.specs.Paths.{path_equal}
-use Rattle.protox_file.specs.Told.{Entry, Told, NoFile, IsFile, TextFault, Unread, IsFound}
-use Rattle.protox_file.specs.Causes.{IsToldRefusal, HasCause}
+use Rattle.protox_paths.specs.FileNames.{path_equal}
+use Rattle.protox_file_sources.specs.Told.{Entry, Told, NoFile, IsFile, TextFault, Unread, IsFound}
+use Rattle.protox_file_sources.specs.Causes.{IsToldRefusal, HasCause}
 use Rattle.protox_error.specs.declared.error.ErrorKind.{ErrorKind}
 use Rattle.protox_error.specs.declared.error.ErrorKind.TheVariants.{Parse, Check, OpenFile, FileTooLarge, FileInvalidUtf8, FileNotFound, ImportNotFound, CircularImport, FileNotIncluded, FileShadowed, DuplicateImport, Custom, NameMismatch, FileLimit, Undecodable, NoMemory}
 use Rattle.protox_walk.specs.Walk.{Open, declared_name}

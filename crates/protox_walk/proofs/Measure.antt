@@ -4,7 +4,7 @@ use Rattle.std.specs.Prelude.{nat_lt}
 use Rattle.std.proofs.lemmas.List.{drop_all}
 use Rattle.std.proofs.lemmas.Bool.{ltb-false}
 use Rattle.pbx_rules.specs.Breaches.{keeps_rules}
-use Rattle.protox_file.specs.Told.{Lookup}
+use Rattle.protox_file_sources.specs.Told.{Lookup}
 use Rattle.protox_walk.specs.Walk.{Open, Done, Visited, Finished, Faulted, Unlinked, records, imports_of, done_as}
 use Rattle.protox_walk.specs.Resume.{past, resume}
 use Rattle.protox_walk.specs.Refusals.{Extends}

@@ -3,8 +3,8 @@ use Rattle.std.proofs.Common.{◌≡◌, ◌⊎◌, inl, inr, ◌+◌, ◌-◌, 
 use Rattle.std.specs.Prelude.{nat_lt, if◌then◌else◌, reverse, Option, Some, None}
 use Rattle.std.specs.Str.{bytes_eq}
 use Rattle.pbx_definitions.specs.Names.{among}
-use Rattle.protox_paths.specs.Paths.{path_equal}
-use Rattle.protox_file.specs.Told.{Entry, Lookup, NoFile, IsFile, TextFault, Unread}
+use Rattle.protox_paths.specs.FileNames.{path_equal}
+use Rattle.protox_file_sources.specs.Told.{Entry, Lookup, NoFile, IsFile, TextFault, Unread}
 use Rattle.protox_walk.specs.Places.{place_of_import}
 use Rattle.protox_walk.specs.Walk.{Done, Fault, Limit, Mismatch, Shadowed, Duplicate, Circular, NotRead, Visited, Finished, Missing, Faulted, imports_of, declared_name, is_done, chain_text, after_visit, visit_imports, finish, unless_shadowed, visit_lookup, visit, visits}
 use Rattle.protox_walk.specs.Opening.{Opened, Accepted, NotIncluded, Refused, IsDecided, path_in, root_of, open_done, open_root, open_name, opening, after_opening, closure, grown}

@@ -5,15 +5,15 @@ use Rattle.std.proofs.lemmas.List.{set_split, append-nil, length-append}
 use Rattle.std.specs.Prelude.{if◌then◌else◌, Option, Some, None, Result, Ok, Err, IfErr, OnOk, OnErr}
 use Rattle.std.specs.Str.{bytes_eq}
 use Rattle.pbx_parse.specs.declared.error.ParseError.TheVariants as parse
-use Rattle.protox_file.specs.Told.{Told, Lookup, ByLookups}
+use Rattle.protox_file_sources.specs.Told.{Told, Lookup, ByLookups}
 use Rattle.protox_error.specs.declared.error.ErrorKind.{ErrorKind}
 use Rattle.protox_error.specs.declared.error.ErrorKind.TheVariants.{Parse, Check, OpenFile, FileTooLarge, FileInvalidUtf8, FileNotFound, ImportNotFound, CircularImport, FileNotIncluded, FileShadowed, DuplicateImport, Custom, NameMismatch, FileLimit, Undecodable, NoMemory}
 use Rattle.protox_walk.specs.Walk.{Done, Visited, Finished, Missing, Faulted, Shadowed, NoImport, is_done, visits}
 use Rattle.protox_io.specs.Count.{Count, Later}
 use Rattle.protox_io.proofs.Counts.{rose_later}
-use Rattle.protox_file.specs.Causes.{IsNamedFault, FaultCause}
-use Rattle.protox_file.specs.Library.{Library}
-use Rattle.protox_paths.specs.Paths.{name_of, path_equal}
+use Rattle.protox_file_sources.specs.Causes.{IsNamedFault, FaultCause}
+use Rattle.protox_file_sources.specs.Library.{Library}
+use Rattle.protox_paths.specs.FileNames.{name_of, path_equal}
 use Rattle.protox_walk.specs.Opens.{IsShadowedBy, IsRoot, Opens, is_settled}
 use Rattle.protox_walk.specs.Refusals.{Walk, Extends, Ends, OrNoMemory, IsToldBy, is_absent, RefusesWith, RefusesOpening, IsLeftOut, EndsWithout, RefusedWithout, Grows, HasRootCause, HasOpeningCause}
 use Rattle.protox_walk.specs.Opening.{Opened, Accepted, NotIncluded, Refused, mark, asked_path, path_in, open_done, open_root, open_name, root_of, opening, grown}

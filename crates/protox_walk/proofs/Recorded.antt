@@ -9,16 +9,16 @@ use Rattle.pbx_definitions.specs.Definitions.{Place}
 use Rattle.pbx_pooled.specs.Pooled.{has_file}
 use Rattle.pbx_linked.specs.Linked.{linked_record}
 use Rattle.pbx_rules.specs.Breaches.{breaches, keeps_rules}
-use Rattle.pbx_rules.proofs.Kept.{keeps_each}
+use Rattle.pbx_rules.proofs.RulesKept.{keeps_each}
 use Rattle.pbx_pool_laws.specs.Pool.{ArePooled, with_file}
-use Rattle.pbx_pool_laws.specs.Laws.{AreBehind}
+use Rattle.pbx_pool_laws.specs.PoolLaws.{AreBehind}
 use Rattle.pbx_pool_laws.proofs.Kept.{has_name}
 use Rattle.pbx_pool_laws.proofs.Behind.{pooled_are_behind}
 use Rattle.pbx_link.specs.declared.error.DescriptorError.{DescriptorError}
 use Rattle.pbx_link.specs.declared.error.DescriptorError.TheVariants as check
 use Rattle.pbx_link.specs.Pool.{IsRefused}
 use Rattle.protox_error.specs.Errors.{of_descriptor}
-use Rattle.protox_file.specs.Metadata.{Metadata}
+use Rattle.protox_file_sources.specs.Metadata.{Metadata}
 use Rattle.protox_walk.specs.Walk.{Done, Open, is_done, records, done_as, declared_name}
 use Rattle.protox_walk.specs.Opening.{mark, path_in}
 use Rattle.protox_walk.specs.Compiled.{done_by, done_of, AreRecorded, metadata_of, opened_in, path_known, AllDone, IsOrdered, IsUnlinked}

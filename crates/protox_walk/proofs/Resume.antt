@@ -6,7 +6,7 @@ use Rattle.std.specs.Str.{bytes_eq}
 use Rattle.std.proofs.lemmas.Bool.{lt-ltb, le-ltb}
 use Rattle.pbx_rules.specs.Breaches.{keeps_rules}
 use Rattle.pbx_definitions.specs.Names.{among}
-use Rattle.protox_file.specs.Told.{Entry, Lookup, NoFile, IsFile, TextFault}
+use Rattle.protox_file_sources.specs.Told.{Entry, Lookup, NoFile, IsFile, TextFault}
 use Rattle.protox_walk.specs.Places.{place_of_import}
 use Rattle.protox_walk.specs.Resume.{names_of, imports_left, go_on, resume}
 use Rattle.protox_walk.specs.Walk.{Done, Fault, Limit, Text, Mismatch, Duplicate, Circular, NoImport, Unlinked, Visited, Finished, Faulted, Open, records, imports_of, declared_name, done_as, is_done, chain_text, after_visit, visit_imports, finish, visit_lookup, visit, visits}

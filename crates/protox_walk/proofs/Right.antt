@@ -5,7 +5,7 @@ use Rattle.std.specs.Str.{bytes_eq}
 use Rattle.std.proofs.lemmas.List.Folds.{list_any-append}
 use Rattle.std.proofs.lemmas.Slice.Eq.{bytes_eq-Decides}
 use Rattle.pbx_definitions.specs.Names.{among}
-use Rattle.protox_file.specs.Told.{Told, Lookup, NoFile, Unread, IsLookup, AreLookups}
+use Rattle.protox_file_sources.specs.Told.{Told, Lookup, NoFile, Unread, IsLookup, AreLookups}
 use Rattle.protox_walk.specs.Walk.{Done, Open, is_done, done_as}
 use Rattle.protox_walk.specs.Refusals.{with_lookup, without}
 use Rattle.protox_walk.specs.Resume.{names_of, was_opened, IsMore}

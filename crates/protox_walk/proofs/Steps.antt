@@ -6,7 +6,7 @@ use Rattle.pbx_link.specs.Pool.{IsRefused}
 use Rattle.pbx_rules.specs.Breaches.{keeps_rules}
 use Rattle.pbx_definitions.specs.Names.{among}
 use Rattle.pbx_parse.specs.declared.error.ParseError.TheVariants as parse
-use Rattle.protox_file.specs.Told.{Told, Lookup, NoFile, IsFile, Unread}
+use Rattle.protox_file_sources.specs.Told.{Told, Lookup, NoFile, IsFile, Unread}
 use Rattle.protox_error.specs.declared.error.ErrorKind.{ErrorKind}
 use Rattle.protox_error.specs.declared.error.ErrorKind.TheVariants.{Parse, Check, OpenFile, FileTooLarge, FileInvalidUtf8, FileNotFound, ImportNotFound, CircularImport, FileNotIncluded, FileShadowed, DuplicateImport, Custom, NameMismatch, FileLimit, Undecodable, NoMemory}
 use Rattle.std.proofs.lemmas.List.{length-map}

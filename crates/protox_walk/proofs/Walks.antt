@@ -2,7 +2,7 @@
 use Rattle.std.proofs.Common.{◌≡◌, ◌∷◌, ◌∙◌, [], ℕ, List, true, false, length, ap, subst, sym, OnOk, IfErr}
 use Rattle.std.specs.Prelude.{nat_lt, Result, Ok, Err}
 use Rattle.std.specs.Str.{bytes_eq}
-use Rattle.protox_file.specs.Told.{Told, ByLookups}
+use Rattle.protox_file_sources.specs.Told.{Told, ByLookups}
 use Rattle.protox_error.specs.declared.error.ErrorKind.{ErrorKind}
 use Rattle.protox_error.specs.declared.error.ErrorKind.TheVariants.{Check, OpenFile, Custom, NoMemory}
 use Rattle.protox_walk.specs.Walk.{Done, Open, Finished, records, imports_of, declared_name, is_done}

@@ -1,6 +1,6 @@
 -- How openings one after another were refused.
 use Rattle.std.specs.Prelude.{◌≡◌, ◌++◌, ◌∷◌, ℕ, List, Option}
-use Rattle.protox_file.specs.Told.{Lookup}
+use Rattle.protox_file_sources.specs.Told.{Lookup}
 use Rattle.protox_error.specs.declared.error.ErrorKind.{ErrorKind}
 use Rattle.protox_walk.specs.Walk.{Done}
 use Rattle.protox_walk.specs.Opening.{Accepted, closure}

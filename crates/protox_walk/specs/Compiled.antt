@@ -4,7 +4,7 @@ use Rattle.std.specs.Str.{bytes_eq}
 use Rattle.pbx_desc_records.specs.declared.file.FileDescriptorProto.{FileDescriptorProto}
 use Rattle.pbx_rules.specs.Breaches.{keeps_rules}
 use Rattle.pbx_link.specs.Pool.{IsRefused}
-use Rattle.protox_file.specs.Metadata.{Metadata}
+use Rattle.protox_file_sources.specs.Metadata.{Metadata}
 use Rattle.protox_error.specs.declared.error.ErrorKind.{ErrorKind}
 use Rattle.protox_error.specs.declared.error.ErrorKind.TheVariants.{Check, NoMemory}
 use Rattle.protox_walk.specs.Walk.{Done, is_done}

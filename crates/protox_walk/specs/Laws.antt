@@ -1,6 +1,6 @@
 -- What holds of openings.
 use Rattle.std.specs.Prelude.{◌≡◌, ◌⊎◌, ℕ, List, true, Option, Some}
-use Rattle.protox_file.specs.Told.{Told, Lookup, AreLookups, AreComplete, ByLookups}
+use Rattle.protox_file_sources.specs.Told.{Told, Lookup, AreLookups, AreComplete, ByLookups}
 use Rattle.protox_error.specs.declared.error.ErrorKind.{ErrorKind}
 use Rattle.protox_walk.specs.Walk.{Done, Fault, is_done}
 use Rattle.protox_walk.specs.Opening.{Opened, Accepted, Refused, IsDecided, mark, opening, closure, root_of}

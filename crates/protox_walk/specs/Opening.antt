@@ -1,8 +1,8 @@
 -- What opening a path does to the finished files and their marks.
 use Rattle.std.specs.Prelude.{◌∷◌, [], ℕ, List, Bool, true, false, if◌then◌else◌, Option, Some, None}
 use Rattle.std.specs.Str.{bytes_eq}
-use Rattle.protox_paths.specs.Paths.{name_of, path_equal}
-use Rattle.protox_file.specs.Told.{Lookup}
+use Rattle.protox_paths.specs.FileNames.{name_of, path_equal}
+use Rattle.protox_file_sources.specs.Told.{Lookup}
 use Rattle.protox_walk.specs.Walk.{Done, Fault, Shadowed, NotRead, Visited, Finished, Missing, Faulted, is_done, visits}
 
 -- the files, that of this name marked as opened

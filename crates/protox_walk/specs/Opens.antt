@@ -1,6 +1,6 @@
 -- What opening paths does to the finished files, over every resolver.
 use Rattle.std.specs.Prelude.{◌≡◌, ◌<◌, ℕ, zero, suc, List, Bool, true, false, Option, Some, None}
-use Rattle.protox_paths.specs.Paths.{name_of, path_equal}
+use Rattle.protox_paths.specs.FileNames.{name_of, path_equal}
 use Rattle.protox_error.specs.declared.error.ErrorKind.{ErrorKind}
 use Rattle.protox_error.specs.declared.error.ErrorKind.TheVariants.{FileShadowed, NoMemory}
 use Rattle.protox_walk.specs.Walk.{Done, is_done}

@@ -2,7 +2,7 @@
 use Rattle.std.specs.Prelude.{ℕ, ◌+◌, ◌==◌, ◌&&◌, ℤ, pos, List, [], ◌∷◌, Bool, false, if◌then◌else◌, Option, Some, None, option_and_then}
 use Rattle.std.specs.Option.{option_or}
 use Rattle.pbx_desc_records.specs.declared.source.Location.{Location}
-use Rattle.protox_file.specs.Told.{Entry}
+use Rattle.protox_file_sources.specs.Told.{Entry}
 
 -- the path is that of the import of this index: `dependency` is the field 3 of a file
 abbrev pub is_import_path : ℕ → List ℤ → Bool

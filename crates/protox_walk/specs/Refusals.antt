@@ -7,8 +7,8 @@ use Rattle.pbx_definitions.specs.Names.{text_or_empty}
 use Rattle.pbx_link.specs.declared.error.DescriptorError.{DescriptorError}
 use Rattle.pbx_link.specs.Pool.{IsRefused}
 use Rattle.pbx_parse.specs.declared.error.ParseError.TheVariants as parse
-use Rattle.protox_paths.specs.Paths.{path_equal}
-use Rattle.protox_file.specs.Told.{Entry, Lookup, NoFile, IsFile, TextFault}
+use Rattle.protox_paths.specs.FileNames.{path_equal}
+use Rattle.protox_file_sources.specs.Told.{Entry, Lookup, NoFile, IsFile, TextFault}
 use Rattle.protox_error.specs.declared.error.ErrorKind.{ErrorKind}
 use Rattle.protox_error.specs.declared.error.ErrorKind.TheVariants.{Parse, Check, OpenFile, FileTooLarge, FileInvalidUtf8, FileNotFound}
 use Rattle.protox_error.specs.declared.error.ErrorKind.TheVariants.{ImportNotFound, CircularImport, FileNotIncluded, FileShadowed}

@@ -1,7 +1,7 @@
 -- What is left of a walk whose open files stand on a stack, the innermost first.
 use Rattle.std.specs.Prelude.{◌≡◌, ◌⊎◌, ◌+◌, ◌∷◌, [], ℕ, List, Bool, false, ◌||◌, map, take, drop, slice_index_or, Option, None}
 use Rattle.pbx_definitions.specs.Names.{among}
-use Rattle.protox_file.specs.Told.{Told, Lookup, Unread, IsLookup, AreLookups, ByLookups}
+use Rattle.protox_file_sources.specs.Told.{Told, Lookup, Unread, IsLookup, AreLookups, ByLookups}
 use Rattle.protox_walk.specs.Places.{place_of_import}
 use Rattle.protox_walk.specs.Walk.{Done, Fault, Visited, Finished, Missing, Faulted, Open, imports_of, is_done, visit_imports, finish, visits}
 use Rattle.protox_error.specs.declared.error.ErrorKind.{ErrorKind}

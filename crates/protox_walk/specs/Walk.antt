@@ -7,8 +7,8 @@ use Rattle.pbx_desc_records.specs.declared.file.FileDescriptorProto.{FileDescrip
 use Rattle.pbx_definitions.specs.Names.{among, text_or_empty}
 use Rattle.pbx_linked.specs.Linked.{linked_record}
 use Rattle.pbx_rules.specs.Breaches.{keeps_rules}
-use Rattle.protox_paths.specs.Paths.{path_equal}
-use Rattle.protox_file.specs.Told.{Entry, Lookup, NoFile, IsFile, TextFault, Unread}
+use Rattle.protox_paths.specs.FileNames.{path_equal}
+use Rattle.protox_file_sources.specs.Told.{Entry, Lookup, NoFile, IsFile, TextFault, Unread}
 use Rattle.protox_walk.specs.Places.{place_of_import}
 
 -- a finished file: its name, its linked record, the path that it was read from, and whether it was opened or only imported

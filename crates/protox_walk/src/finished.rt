@@ -11,7 +11,7 @@ use crate::frame::Frame;
 use crate::known::Known;
 use pbx_link::DescriptorPool;
 use pbx_wire::{NoMemory, Text};
-use protox_file::{Error, File, FileMetadata};
+use protox_file_sources::{Error, File, FileMetadata};
 use std::alloc::Global;
 use std::marker::Model;
 use std::mem::drop;

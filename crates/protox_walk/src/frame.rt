@@ -8,7 +8,7 @@ ghost use Rattle.protox_walk.specs.Indexes.{AreIndexed, is_below};
 use crate::indexes::Indexes;
 use crate::place::place_of_import;
 use pbx_wire::{NoMemory, Text};
-use protox_file::File;
+use protox_file_sources::File;
 use std::alloc::Global;
 use std::marker::Model;
 use std::mem::drop;

@@ -3,12 +3,12 @@ ghost use Rattle.std.specs.Prelude.{◌≡◌, ◌<◌, [], ◌∷◌, ◌++◌,
 ghost use Rattle.std.specs.Option.{option_copied};
 ghost use Rattle.std.specs.List.{list_any};
 ghost use Rattle.std.specs.Str.{bytes_eq};
-ghost use Rattle.protox_file.specs.Metadata.{Metadata};
+ghost use Rattle.protox_file_sources.specs.Metadata.{Metadata};
 ghost use Rattle.protox_walk.specs.Compiled.{opened_at, opened_in, path_at, path_known};
 
 use crate::indexes::Indexes;
 use pbx_wire::NoMemory;
-use protox_file::FileMetadata;
+use protox_file_sources::FileMetadata;
 use std::alloc::Global;
 use std::marker::Model;
 
@@ -21,7 +21,7 @@ pub(crate) struct Known {
 
 impl Model for Known {
     ghost use Rattle.std.specs.Prelude.{List};
-    ghost use Rattle.protox_file.specs.Metadata.{Metadata};
+    ghost use Rattle.protox_file_sources.specs.Metadata.{Metadata};
     ghost use Rattle.protox_walk.specs.Compiled.{names_known};
     ghost use Rattle.protox_walk.specs.Indexes.{AreIndexed};
 

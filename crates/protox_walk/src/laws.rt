@@ -1,6 +1,6 @@
 ghost use Rattle.protox_walk.specs.Laws.{OpeningAgainMarks, OpensOnce, ClosesOnce, OpensByAll, RefusesByAll, ClosesByAll, StopsByAll};
 
-use protox_file::looked_up_once;
+use protox_file_sources::looked_up_once;
 
 /// Opening a path whose name is finished changes the mark of that name alone, to opened, or is refused and changes nothing.
 pub fn opening_again_marks()

@@ -2,8 +2,8 @@ ghost use Rattle.std.specs.Prelude.{◌≡◌, ◌≤◌, ◌<◌, ◌^◌, leng
 ghost use Rattle.std.specs.Option.{option_copied};
 ghost use Rattle.std.specs.Str.{bytes_eq};
 ghost use Rattle.protox_io.specs.Count.{Later};
-ghost use Rattle.protox_file.specs.Causes.{FaultCause};
-ghost use Rattle.protox_paths.specs.Paths.{path_equal};
+ghost use Rattle.protox_file_sources.specs.Causes.{FaultCause};
+ghost use Rattle.protox_paths.specs.FileNames.{path_equal};
 ghost use Rattle.protox_walk.specs.Walk.{imports_of, declared_name};
 ghost use Rattle.protox_walk.specs.Opening.{asked_path};
 ghost use Rattle.protox_walk.specs.Refusals.{IsOpenOf, IsUnshadowed, StopsOpening, HasOpenCause};
@@ -12,7 +12,7 @@ ghost use Rattle.protox_walk.specs.Resume.{ByLookup};
 use crate::frame::Frame;
 use crate::refusal::{mismatch, shadowed};
 use pbx_wire::NoMemory;
-use protox_file::{Error, File, FileResolver, path_eq};
+use protox_file_sources::{Error, File, FileResolver, path_eq};
 use std::alloc::Global;
 use std::mem::drop;
 

@@ -4,7 +4,7 @@ ghost use Rattle.std.specs.Prelude.{◌≡◌};
 ghost use Rattle.protox_walk.specs.Places.{is_import_path, place_of_span, place_of_location, first_place, place_of_import};
 
 use pbx_desc_records::Location;
-use protox_file::File;
+use protox_file_sources::File;
 
 fn is_import_path(path: &[i32], index: usize) -> bool
     ensures { result ≡ is_import_path index path.now }

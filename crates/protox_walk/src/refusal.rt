@@ -10,7 +10,7 @@ ghost use Rattle.protox_walk.specs.Refusals.{OrNoMemory, IsToldBy, is_absent};
 use crate::frame::Frame;
 use crate::stack::Stack;
 use pbx_wire::{NoMemory, Text};
-use protox_file::{Error, ErrorKind, File};
+use protox_file_sources::{Error, ErrorKind, File};
 use std::alloc::Global;
 
 /// An index as an error holds it; past that it counts as want of memory.

@@ -2,9 +2,9 @@
 
 ghost use Rattle.std.specs.Prelude.{◌≡◌, ◌≤◌, [], IfOk, IfErr, OnOk, OnErr, IsTrue, length, true, false, Some, IfSome};
 ghost use Rattle.protox_io.specs.Count.{Later};
-ghost use Rattle.protox_file.specs.Causes.{FaultCause};
-ghost use Rattle.protox_paths.specs.Paths.{name_of};
-ghost use Rattle.protox_file.specs.Told.{ByLookups};
+ghost use Rattle.protox_file_sources.specs.Causes.{FaultCause};
+ghost use Rattle.protox_paths.specs.FileNames.{name_of};
+ghost use Rattle.protox_file_sources.specs.Told.{ByLookups};
 ghost use Rattle.protox_walk.specs.Walk.{is_done};
 ghost use Rattle.protox_walk.specs.Opening.{mark, opening, open_name as open_name_in, open_done, path_in, root_of, grown, Accepted, asked_path};
 ghost use Rattle.protox_walk.specs.Refusals.{RefusesWith, RefusesOpening, HasOpeningCause, Grows};
@@ -15,7 +15,7 @@ use crate::opening::shadow_of;
 use crate::refusal::{not_included, root_error, shadowed};
 use crate::walk::visit_root;
 use pbx_wire::{NoMemory, Text};
-use protox_file::{Error, FileResolver, names_name_themselves, path_to_file_name};
+use protox_file_sources::{Error, FileResolver, names_name_themselves, path_to_file_name};
 use std::alloc::Global;
 
 /// The name that a path asks for, and whether the resolver knows the path.

@@ -2,8 +2,8 @@ ghost use Rattle.std.specs.Prelude.{◌≡◌, ◌≤◌, ◌<◌, ◌^◌, ◌+
 ghost use Rattle.std.specs.Str.{bytes_eq};
 ghost use Rattle.pbx_definitions.specs.Names.{among};
 ghost use Rattle.protox_io.specs.Count.{Later};
-ghost use Rattle.protox_file.specs.Causes.{FaultCause};
-ghost use Rattle.protox_file.specs.Told.{Told};
+ghost use Rattle.protox_file_sources.specs.Causes.{FaultCause};
+ghost use Rattle.protox_file_sources.specs.Told.{Told};
 ghost use Rattle.protox_walk.specs.Walk.{imports_of};
 ghost use Rattle.protox_walk.specs.Refusals.{HasStepCause};
 ghost use Rattle.protox_walk.specs.Resume.{past, names_of, AdvancesOrVisits, IsVisit, EndsWalks, LeadsTo};
@@ -14,7 +14,7 @@ use crate::opening::open_frame;
 use crate::refusal::{circular, duplicate, import_error, too_many};
 use crate::stack::Stack;
 use pbx_wire::{NoMemory, Text};
-use protox_file::{Error, FileResolver};
+use protox_file_sources::{Error, FileResolver};
 use std::alloc::Global;
 
 /// What an import asks for: nothing, since it is finished, or a visit of this name.

@@ -1,7 +1,7 @@
 ghost use Rattle.std.specs.Prelude.{◌≡◌, ◌≤◌, ◌<◌, ◌^◌, ◌+◌, ◌∷◌, [], true, false, IfOk, IfErr, OnOk, OnErr, IsTrue, length, ◌++◌};
 ghost use Rattle.protox_io.specs.Count.{Later};
-ghost use Rattle.protox_file.specs.Causes.{FaultCause};
-ghost use Rattle.protox_file.specs.Told.{ByLookups};
+ghost use Rattle.protox_file_sources.specs.Causes.{FaultCause};
+ghost use Rattle.protox_file_sources.specs.Told.{ByLookups};
 ghost use Rattle.protox_walk.specs.Walk.{imports_of, visits, Finished, is_done};
 ghost use Rattle.protox_walk.specs.Opening.{asked_path};
 ghost use Rattle.protox_walk.specs.Refusals.{Walk, Ends, HasStepCause, HasRootCause, Grows};
@@ -14,7 +14,7 @@ use crate::refusal::too_many;
 use crate::stack::Stack;
 use crate::step::{Import, next_import, open_import};
 use pbx_wire::NoMemory;
-use protox_file::{Error, FileResolver};
+use protox_file_sources::{Error, FileResolver};
 use std::alloc::Global;
 use std::mem::drop;
 

@@ -1,9 +1,9 @@
 use Rattle.std.proofs.Common.{refl}
 use Rattle.pbx_codec.specs.View.{content_of}
-use Rattle.pbx_desc_shape.specs.Shape.{file_fields}
+use Rattle.pbx_desc_shape.specs.DescriptorShape.{file_fields}
 use Rattle.pbx_desc_records.specs.declared.file.FileDescriptorProto.{FileDescriptorProto}
-use Rattle.pbx_desc.specs.Content.{file_values}
-use Rattle.pbx_desc.proofs.Types.{file_options_type}
+use Rattle.pbx_desc_encoding.specs.Content.{file_values}
+use Rattle.pbx_desc_encoding.proofs.Types.{file_options_type}
 use Rattle.pbx_desc_decoding.proofs.Walk.{start, next, taken}
 use Rattle.pbx_desc_decoding.proofs.file.fill.Goals as goal
 

@@ -2,7 +2,7 @@ use Rattle.std.proofs.Common.{map}
 use Rattle.pbx_meaning.specs.declared.shape.Kind.TheVariants as kind
 use Rattle.pbx_meaning.specs.Content.{message}
 use Rattle.pbx_codec.specs.View.{content_of, val_of}
-use Rattle.pbx_desc.specs.Content.{message_content}
+use Rattle.pbx_desc_encoding.specs.Content.{message_content}
 use Rattle.pbx_desc_decoding.proofs.Lists.{message_is, value_more}
 use Rattle.pbx_desc_decoding.proofs.Nested.{made_whole}
 use Rattle.pbx_desc_decoding.proofs.message.+nested.Goals as goal

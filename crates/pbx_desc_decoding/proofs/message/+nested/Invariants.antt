@@ -1,7 +1,7 @@
 use Rattle.std.proofs.Common.{◌+◌, ◌*◌}
 use Rattle.pbx_meaning.specs.declared.shape.Kind.TheVariants as kind
 use Rattle.pbx_meaning.specs.Content.{message}
-use Rattle.pbx_desc.specs.Content.{message_content}
+use Rattle.pbx_desc_encoding.specs.Content.{message_content}
 use Rattle.pbx_desc_decoding.proofs.Lists.{AreValues}
 use Rattle.pbx_desc_decoding.proofs.message.+nested.Given as goal
 

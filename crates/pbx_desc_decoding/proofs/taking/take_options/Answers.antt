@@ -2,7 +2,7 @@ use Rattle.std.proofs.Common.{Some, ap}
 use Rattle.pbx_meaning.specs.declared.shape.Kind.TheVariants as kind
 use Rattle.pbx_meaning.specs.Content.{message}
 use Rattle.pbx_codec.specs.View.{content_of}
-use Rattle.pbx_desc.specs.Content.{options_content}
+use Rattle.pbx_desc_encoding.specs.Content.{options_content}
 use Rattle.pbx_desc_decoding.proofs.Lists.{took_some, message_is}
 use Rattle.pbx_desc_decoding.proofs.taking.take_options.Goals as goal
 

@@ -2,7 +2,7 @@ use Rattle.std.proofs.Common.{List, sym, ◌∙◌, ap}
 use Rattle.pbx_meaning.specs.declared.shape.EnumShape.{EnumShape}
 use Rattle.pbx_meaning.specs.declared.shape.Shape.{Shape}
 use Rattle.pbx_well_known.specs.Types.{enum_name_at}
-use Rattle.pbx_json_kinds.proofs.Places.{enum_here, enum_past}
+use Rattle.pbx_json_kinds.proofs.KindPlaces.{enum_here, enum_past}
 use Rattle.pbx_json_kinds.proofs.enums.enum_name.Goals as goal
 
 pub returns-then-place-enums : goal.returns-then-place-enums

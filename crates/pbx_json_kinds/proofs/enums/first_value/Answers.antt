@@ -4,7 +4,7 @@ use Rattle.std.proofs.Common.{List, ap, ◌∙◌}
 use Rattle.pbx_meaning.specs.declared.shape.EnumShape.{EnumShape}
 use Rattle.pbx_meaning.specs.declared.shape.Shape.{Shape}
 use Rattle.pbx_meaning.specs.Shape.{first_of, enum_values_at}
-use Rattle.pbx_json_kinds.proofs.Places.{values_here, no_values}
+use Rattle.pbx_json_kinds.proofs.KindPlaces.{values_here, no_values}
 use Rattle.pbx_json_kinds.proofs.enums.first_value.Goals as goal
 
 pub returns-then-enum_at-enums : goal.returns-then-enum_at-enums

@@ -7,7 +7,7 @@ use Rattle.pbx_codec.specs.declared.contents.Held as held
 use Rattle.pbx_codec.specs.View.{content_of, val_of, pair_of}
 use Rattle.pbx_codec.proofs.Tree.{val_of_message}
 use Rattle.pbx_text_map.specs.Texts.{IsInOrder}
-use Rattle.pbx_types_shape.specs.Shape.{types_shape}
+use Rattle.pbx_types_shape.specs.TypesShape.{types_shape}
 use Rattle.pbx_types_contents.specs.Building.{Holds}
 use Rattle.pbx_types_contents.proofs.Built.{one_made, puts_some, puts_pairs}
 use Rattle.pbx_types_contents.proofs.Told.{values_more, are_more}

@@ -3,7 +3,7 @@ use Rattle.pbx_meaning.specs.declared.shape.Kind.TheVariants as kind
 use Rattle.pbx_meaning.specs.Content.{vals_of}
 use Rattle.pbx_meaning.specs.Sound.{AreElements}
 use Rattle.pbx_codec.specs.View.{val_of, pair_of}
-use Rattle.pbx_types_shape.specs.Shape.{types_shape}
+use Rattle.pbx_types_shape.specs.TypesShape.{types_shape}
 use Rattle.pbx_types.specs.Layers.{value_message, value_pair}
 use Rattle.pbx_types.proofs.Pairs.{AreGood}
 use Rattle.pbx_types.proofs.encoding.+contents.Given as goal

@@ -3,7 +3,7 @@ use Rattle.pbx_meaning.specs.declared.shape.Kind.TheVariants as kind
 use Rattle.pbx_meaning.specs.Content.{text, vals_of}
 use Rattle.pbx_meaning.specs.Sound.{AreElements}
 use Rattle.pbx_codec.specs.View.{val_of}
-use Rattle.pbx_types_shape.specs.Shape.{types_shape}
+use Rattle.pbx_types_shape.specs.TypesShape.{types_shape}
 use Rattle.pbx_types_contents.proofs.contents.text_values.Given as goal
 
 abbrev pub invariant-loop-text : goal.invariant-loop-text

@@ -1,5 +1,5 @@
 use Rattle.std.proofs.Common.{◌≡◌, IfOk, IfErr}
-use Rattle.protox_file.specs.Causes.{FaultCause}
+use Rattle.protox_file_sources.specs.Causes.{FaultCause}
 use Rattle.protox_compile.specs.Compiling.{Compiles, StopsCompiling, HasCompilingCause, whole_set}
 use Rattle.protox_compile.proofs.Standard.{of_folders, of_counts}
 use Rattle.protox_compile.proofs.compiling.compile.Goals as goal

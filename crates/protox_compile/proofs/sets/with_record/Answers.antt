@@ -1,6 +1,6 @@
 use Rattle.std.proofs.Common.{◌∙◌, ◌∷◌, ◌++◌, [], List, IfOk, ap, sym, subst}
 use Rattle.pbx_desc_records.specs.declared.file.FileDescriptorProto.{FileDescriptorProto}
-use Rattle.pbx_desc.specs.Sets.{IsSetOf}
+use Rattle.pbx_desc_encoding.specs.Sets.{IsSetOf}
 use Rattle.protox_compile.specs.Sets.{with_info}
 use Rattle.protox_compile.proofs.sets.with_record.Goals as goal
 

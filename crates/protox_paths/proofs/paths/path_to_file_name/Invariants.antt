@@ -1,5 +1,5 @@
 use Rattle.std.proofs.Common.{◌≡◌, length, string_bytes}
-use Rattle.protox_paths.specs.Paths.{name_of}
+use Rattle.protox_paths.specs.FileNames.{name_of}
 use Rattle.protox_paths.specs.Left.{left, named_from}
 use Rattle.protox_paths.proofs.paths.path_to_file_name.Given as goal
 

@@ -1,6 +1,6 @@
 use Rattle.std.proofs.Common.{◌≡◌, length}
 use Rattle.protox_io.specs.Paths.{bare}
-use Rattle.protox_paths.specs.Paths.{behind_folder}
+use Rattle.protox_paths.specs.FileNames.{behind_folder}
 use Rattle.protox_paths.specs.Left.{left}
 use Rattle.protox_paths.proofs.paths.strip_prefix.Given as goal
 

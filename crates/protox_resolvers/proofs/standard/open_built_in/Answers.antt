@@ -1,7 +1,7 @@
 use Rattle.std.proofs.Common.{◌∙◌, sym, subst}
 use Rattle.pbx_wkt_files.specs.Files.{wkt_files}
-use Rattle.protox_file.specs.Library.{pooled}
-use Rattle.protox_file.specs.Told.{Entry, IsFound, IsFile}
+use Rattle.protox_file_sources.specs.Library.{pooled}
+use Rattle.protox_file_sources.specs.Told.{Entry, IsFound, IsFile}
 use Rattle.protox_resolvers.proofs.BuiltIn.{built_in_told, no_built_in, not_found_told}
 use Rattle.protox_resolvers.proofs.standard.open_built_in.Goals as goal
 

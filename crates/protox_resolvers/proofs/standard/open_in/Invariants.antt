@@ -1,6 +1,6 @@
 use Rattle.std.proofs.Common.{◌≡◌, IsTrue, map}
 use Rattle.protox_io.specs.Count.{Later}
-use Rattle.protox_file.specs.Library.{below}
+use Rattle.protox_file_sources.specs.Library.{below}
 use Rattle.protox_resolvers.proofs.Members.{ArePassed}
 use Rattle.protox_resolvers.proofs.standard.open_in.Given as goal
 

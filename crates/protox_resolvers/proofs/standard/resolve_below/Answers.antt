@@ -1,4 +1,4 @@
-use Rattle.protox_file.proofs.Readings.{named_again}
+use Rattle.protox_file_sources.proofs.Readings.{named_again}
 use Rattle.protox_resolvers.proofs.standard.resolve_below.Goals as goal
 
 pub returns-in-Some-clause-named : goal.returns-in-Some-clause-named

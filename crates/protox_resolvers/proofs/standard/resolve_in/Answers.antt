@@ -1,5 +1,5 @@
 use Rattle.std.proofs.Common.{◌∙◌, sym, rules}
-use Rattle.protox_file.specs.Library.{below}
+use Rattle.protox_file_sources.specs.Library.{below}
 use Rattle.protox_resolvers.proofs.Members.{name_here, name_next}
 use Rattle.protox_resolvers.proofs.standard.resolve_in.Goals as goal
 

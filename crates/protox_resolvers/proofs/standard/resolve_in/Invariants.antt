@@ -1,6 +1,6 @@
 use Rattle.std.proofs.Common.{map}
 use Rattle.protox_io.specs.Disk.{Volume}
-use Rattle.protox_file.specs.Library.{below}
+use Rattle.protox_file_sources.specs.Library.{below}
 use Rattle.protox_resolvers.proofs.Members.{ResolveNot}
 use Rattle.protox_resolvers.proofs.standard.resolve_in.Given as goal
 

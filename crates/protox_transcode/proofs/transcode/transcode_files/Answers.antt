@@ -1,5 +1,5 @@
 use Rattle.serde_json.specs.View.{view}
-use Rattle.protox_file.specs.Causes.{FaultCause}
+use Rattle.protox_file_sources.specs.Causes.{FaultCause}
 use Rattle.protox_transcode.specs.Input.{data_of}
 use Rattle.protox_transcode.proofs.Judged.{stopped, accepted, all_refused, all_given, all_pooled, of_resolver, resolver_kept, walk_caused, pool_caused, walk_judged, pool_judged}
 use Rattle.protox_transcode.proofs.Transcoding.{ok_then, err_then}

@@ -1,5 +1,5 @@
 use Rattle.std.proofs.Common.{◌≡◌, ◌∙◌, ap, get_or, rules}
-use Rattle.protox_file.specs.Metadata.{Metadata}
+use Rattle.protox_file_sources.specs.Metadata.{Metadata}
 use Rattle.protox_walk.proofs.Found.{path_is}
 use Rattle.protox_walk.proofs.known.path_at.Goals as goal
 

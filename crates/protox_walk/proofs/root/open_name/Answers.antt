@@ -1,5 +1,5 @@
 use Rattle.std.proofs.Common.{◌∙◌, sym}
-use Rattle.protox_file.specs.Causes.{FaultCause}
+use Rattle.protox_file_sources.specs.Causes.{FaultCause}
 use Rattle.protox_walk.specs.Opening.{asked_path}
 use Rattle.protox_walk.proofs.Openings.{ok_again, err_again, ok_new, err_new, opening_cause, opens_again, opens_new, longer}
 use Rattle.protox_walk.proofs.Causes.{shadowed_cause}

@@ -1,5 +1,5 @@
 use Rattle.std.proofs.Common.{arith}
-use Rattle.protox_file.specs.Causes.{FaultCause}
+use Rattle.protox_file_sources.specs.Causes.{FaultCause}
 use Rattle.protox_walk.proofs.Causes.{import_cause}
 use Rattle.protox_walk.proofs.Steps.{ends_limit, visit_leads, ends_import}
 use Rattle.protox_walk.proofs.step.open_import.Goals as goal

@@ -2,8 +2,8 @@ use Rattle.std.proofs.Common.{◌≡◌, ◌+◌, ◌∙◌, sym, ◌∷◌, ◌
 use Rattle.std.proofs.lemmas.List.{length_push}
 use Rattle.std.proofs.lemmas.Result.{err_from_is_err_and}
 use Rattle.protox_io.proofs.Counts.{later_again}
-use Rattle.protox_file.specs.Library.{Library}
-use Rattle.protox_file.specs.Causes.{FaultCause}
+use Rattle.protox_file_sources.specs.Library.{Library}
+use Rattle.protox_file_sources.specs.Causes.{FaultCause}
 use Rattle.protox_walk.specs.Walk.{done_as, is_done}
 use Rattle.protox_walk.specs.Resume.{past, IsVisit}
 use Rattle.protox_walk.proofs.Fresh.{on_err, fresh_root, fresh_top, fresh_finish, fresh_visit, root_done}

@@ -1,6 +1,6 @@
 use Rattle.std.proofs.Common.{◌≤◌, ◌+◌, ◌∷◌, [], rules, length, IsTrue, ap}
-use Rattle.protox_file.specs.Library.{Library}
-use Rattle.protox_file.specs.Causes.{FaultCause}
+use Rattle.protox_file_sources.specs.Library.{Library}
+use Rattle.protox_file_sources.specs.Causes.{FaultCause}
 use Rattle.protox_walk.specs.Resume.{Follows}
 use Rattle.protox_walk.specs.Opening.{asked_path}
 use Rattle.protox_walk.proofs.Roots.{root_limit, root_follows, root_stops, root_walk}

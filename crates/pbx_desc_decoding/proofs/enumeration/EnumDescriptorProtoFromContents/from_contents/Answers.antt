@@ -1,9 +1,9 @@
 use Rattle.std.proofs.Common.{refl}
 use Rattle.pbx_codec.specs.View.{content_of}
-use Rattle.pbx_desc_shape.specs.Shape.{enum_fields}
+use Rattle.pbx_desc_shape.specs.DescriptorShape.{enum_fields}
 use Rattle.pbx_desc_records.specs.declared.enumeration.EnumDescriptorProto.{EnumDescriptorProto}
-use Rattle.pbx_desc.specs.Content.{enum_values}
-use Rattle.pbx_desc.proofs.Types.{enum_type, enum_options_type}
+use Rattle.pbx_desc_encoding.specs.Content.{enum_values}
+use Rattle.pbx_desc_encoding.proofs.Types.{enum_type, enum_options_type}
 use Rattle.pbx_desc_decoding.proofs.Walk.{start, next, done}
 use Rattle.pbx_desc_decoding.proofs.enumeration.EnumDescriptorProtoFromContents.from_contents.Goals as goal
 

@@ -1,9 +1,9 @@
 use Rattle.std.proofs.Common.{refl}
 use Rattle.pbx_codec.specs.View.{content_of}
-use Rattle.pbx_desc_shape.specs.Shape.{enum_value_fields}
+use Rattle.pbx_desc_shape.specs.DescriptorShape.{enum_value_fields}
 use Rattle.pbx_desc_records.specs.declared.enumeration.EnumValueDescriptorProto.{EnumValueDescriptorProto}
-use Rattle.pbx_desc.specs.Content.{enum_value_values}
-use Rattle.pbx_desc.proofs.Types.{enum_value_type, enum_value_options_type}
+use Rattle.pbx_desc_encoding.specs.Content.{enum_value_values}
+use Rattle.pbx_desc_encoding.proofs.Types.{enum_value_type, enum_value_options_type}
 use Rattle.pbx_desc_decoding.proofs.Walk.{start, next, done}
 use Rattle.pbx_desc_decoding.proofs.enumeration.EnumValueDescriptorProtoFromContents.from_contents.Goals as goal
 

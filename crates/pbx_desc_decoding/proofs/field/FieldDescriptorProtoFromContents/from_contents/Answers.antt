@@ -1,9 +1,9 @@
 use Rattle.std.proofs.Common.{refl}
 use Rattle.pbx_codec.specs.View.{content_of}
-use Rattle.pbx_desc_shape.specs.Shape.{field_fields}
+use Rattle.pbx_desc_shape.specs.DescriptorShape.{field_fields}
 use Rattle.pbx_desc_records.specs.declared.field.FieldDescriptorProto.{FieldDescriptorProto}
-use Rattle.pbx_desc.specs.Content.{field_values}
-use Rattle.pbx_desc.proofs.Types.{field_type, field_options_type}
+use Rattle.pbx_desc_encoding.specs.Content.{field_values}
+use Rattle.pbx_desc_encoding.proofs.Types.{field_type, field_options_type}
 use Rattle.pbx_desc_decoding.proofs.Walk.{start, next, done}
 use Rattle.pbx_desc_decoding.proofs.field.FieldDescriptorProtoFromContents.from_contents.Goals as goal
 

@@ -1,9 +1,9 @@
 use Rattle.std.proofs.Common.{refl}
 use Rattle.pbx_codec.specs.View.{content_of}
-use Rattle.pbx_desc_shape.specs.Shape.{oneof_fields}
+use Rattle.pbx_desc_shape.specs.DescriptorShape.{oneof_fields}
 use Rattle.pbx_desc_records.specs.declared.field.OneofDescriptorProto.{OneofDescriptorProto}
-use Rattle.pbx_desc.specs.Content.{oneof_values}
-use Rattle.pbx_desc.proofs.Types.{oneof_type, oneof_options_type}
+use Rattle.pbx_desc_encoding.specs.Content.{oneof_values}
+use Rattle.pbx_desc_encoding.proofs.Types.{oneof_type, oneof_options_type}
 use Rattle.pbx_desc_decoding.proofs.Walk.{start, next, done}
 use Rattle.pbx_desc_decoding.proofs.field.OneofDescriptorProtoFromContents.from_contents.Goals as goal
 

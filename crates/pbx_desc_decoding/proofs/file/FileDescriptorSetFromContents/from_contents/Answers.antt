@@ -1,9 +1,9 @@
 use Rattle.std.proofs.Common.{refl}
 use Rattle.pbx_codec.specs.View.{content_of}
-use Rattle.pbx_desc_shape.specs.Shape.{set_fields}
+use Rattle.pbx_desc_shape.specs.DescriptorShape.{set_fields}
 use Rattle.pbx_desc_records.specs.declared.file.FileDescriptorSet.{FileDescriptorSet}
-use Rattle.pbx_desc.specs.Content.{file_set_values}
-use Rattle.pbx_desc.proofs.Types.{file_set_type}
+use Rattle.pbx_desc_encoding.specs.Content.{file_set_values}
+use Rattle.pbx_desc_encoding.proofs.Types.{file_set_type}
 use Rattle.pbx_desc_decoding.proofs.Walk.{start, next, done}
 use Rattle.pbx_desc_decoding.proofs.file.FileDescriptorSetFromContents.from_contents.Goals as goal
 

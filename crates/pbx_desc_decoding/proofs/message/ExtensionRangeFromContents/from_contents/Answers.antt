@@ -1,9 +1,9 @@
 use Rattle.std.proofs.Common.{refl}
 use Rattle.pbx_codec.specs.View.{content_of}
-use Rattle.pbx_desc_shape.specs.Shape.{extension_range_fields}
+use Rattle.pbx_desc_shape.specs.DescriptorShape.{extension_range_fields}
 use Rattle.pbx_desc_records.specs.declared.message.ExtensionRange.{ExtensionRange}
-use Rattle.pbx_desc.specs.Content.{extension_range_values}
-use Rattle.pbx_desc.proofs.Types.{extension_range_type, extension_range_options_type}
+use Rattle.pbx_desc_encoding.specs.Content.{extension_range_values}
+use Rattle.pbx_desc_encoding.proofs.Types.{extension_range_type, extension_range_options_type}
 use Rattle.pbx_desc_decoding.proofs.Walk.{start, next, done}
 use Rattle.pbx_desc_decoding.proofs.message.ExtensionRangeFromContents.from_contents.Goals as goal
 

@@ -1,7 +1,7 @@
 use Rattle.std.proofs.Common.{refl}
 use Rattle.pbx_codec.specs.View.{content_of}
-use Rattle.pbx_desc_shape.specs.Shape.{message_fields}
-use Rattle.pbx_desc.proofs.Types.{message_options_type}
+use Rattle.pbx_desc_shape.specs.DescriptorShape.{message_fields}
+use Rattle.pbx_desc_encoding.proofs.Types.{message_options_type}
 use Rattle.pbx_desc_decoding.specs.declared.message.OwnParts.{OwnParts}
 use Rattle.pbx_desc_decoding.specs.Messages.{beside, own_values}
 use Rattle.pbx_desc_decoding.proofs.Walk.{start, next, taken}

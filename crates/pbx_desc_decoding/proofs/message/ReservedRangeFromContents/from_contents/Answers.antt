@@ -1,9 +1,9 @@
 use Rattle.std.proofs.Common.{refl}
 use Rattle.pbx_codec.specs.View.{content_of}
-use Rattle.pbx_desc_shape.specs.Shape.{reserved_range_fields}
+use Rattle.pbx_desc_shape.specs.DescriptorShape.{reserved_range_fields}
 use Rattle.pbx_desc_records.specs.declared.message.ReservedRange.{ReservedRange}
-use Rattle.pbx_desc.specs.Content.{reserved_range_values}
-use Rattle.pbx_desc.proofs.Types.{reserved_range_type}
+use Rattle.pbx_desc_encoding.specs.Content.{reserved_range_values}
+use Rattle.pbx_desc_encoding.proofs.Types.{reserved_range_type}
 use Rattle.pbx_desc_decoding.proofs.Walk.{start, next, done}
 use Rattle.pbx_desc_decoding.proofs.message.ReservedRangeFromContents.from_contents.Goals as goal
 

@@ -1,4 +1,4 @@
-use Rattle.pbx_desc.proofs.Types.{file_options_type}
+use Rattle.pbx_desc_encoding.proofs.Types.{file_options_type}
 use Rattle.pbx_desc_decoding.proofs.options.OptionsFromContents.from_contents.Goals as goal
 
 pub returns : goal.returns

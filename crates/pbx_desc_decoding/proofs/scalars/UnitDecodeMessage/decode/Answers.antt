@@ -1,6 +1,6 @@
 use Rattle.pbx_codec.specs.View.{content_of}
 use Rattle.pbx_meaning.specs.Meaning.{meaning_of}
-use Rattle.pbx_types_shape.specs.Shape.{types_shape}
+use Rattle.pbx_types_shape.specs.TypesShape.{types_shape}
 use Rattle.pbx_wrappers.proofs.Wrappers.{empty_type}
 use Rattle.pbx_wrappers.proofs.Sound.{nothing_read}
 use Rattle.pbx_desc_decoding.proofs.scalars.UnitDecodeMessage.decode.Goals as goal

@@ -1,9 +1,9 @@
 use Rattle.std.proofs.Common.{refl}
 use Rattle.pbx_codec.specs.View.{content_of}
-use Rattle.pbx_desc_shape.specs.Shape.{method_fields}
+use Rattle.pbx_desc_shape.specs.DescriptorShape.{method_fields}
 use Rattle.pbx_desc_records.specs.declared.service.MethodDescriptorProto.{MethodDescriptorProto}
-use Rattle.pbx_desc.specs.Content.{method_values}
-use Rattle.pbx_desc.proofs.Types.{method_type, method_options_type}
+use Rattle.pbx_desc_encoding.specs.Content.{method_values}
+use Rattle.pbx_desc_encoding.proofs.Types.{method_type, method_options_type}
 use Rattle.pbx_desc_decoding.proofs.Walk.{start, next, done}
 use Rattle.pbx_desc_decoding.proofs.service.MethodDescriptorProtoFromContents.from_contents.Goals as goal
 

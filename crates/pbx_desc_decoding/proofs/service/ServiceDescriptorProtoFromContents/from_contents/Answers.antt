@@ -1,9 +1,9 @@
 use Rattle.std.proofs.Common.{refl}
 use Rattle.pbx_codec.specs.View.{content_of}
-use Rattle.pbx_desc_shape.specs.Shape.{service_fields}
+use Rattle.pbx_desc_shape.specs.DescriptorShape.{service_fields}
 use Rattle.pbx_desc_records.specs.declared.service.ServiceDescriptorProto.{ServiceDescriptorProto}
-use Rattle.pbx_desc.specs.Content.{service_values}
-use Rattle.pbx_desc.proofs.Types.{service_type, service_options_type}
+use Rattle.pbx_desc_encoding.specs.Content.{service_values}
+use Rattle.pbx_desc_encoding.proofs.Types.{service_type, service_options_type}
 use Rattle.pbx_desc_decoding.proofs.Walk.{start, next, done}
 use Rattle.pbx_desc_decoding.proofs.service.ServiceDescriptorProtoFromContents.from_contents.Goals as goal
 

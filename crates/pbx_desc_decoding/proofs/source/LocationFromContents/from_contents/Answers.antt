@@ -1,9 +1,9 @@
 use Rattle.std.proofs.Common.{refl}
 use Rattle.pbx_codec.specs.View.{content_of}
-use Rattle.pbx_desc_shape.specs.Shape.{location_fields}
+use Rattle.pbx_desc_shape.specs.DescriptorShape.{location_fields}
 use Rattle.pbx_desc_records.specs.declared.source.Location.{Location}
-use Rattle.pbx_desc.specs.Content.{location_values}
-use Rattle.pbx_desc.proofs.Types.{location_type}
+use Rattle.pbx_desc_encoding.specs.Content.{location_values}
+use Rattle.pbx_desc_encoding.proofs.Types.{location_type}
 use Rattle.pbx_desc_decoding.proofs.Walk.{start, next, done}
 use Rattle.pbx_desc_decoding.proofs.source.LocationFromContents.from_contents.Goals as goal
 

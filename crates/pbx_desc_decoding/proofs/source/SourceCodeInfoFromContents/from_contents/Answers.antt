@@ -1,9 +1,9 @@
 use Rattle.std.proofs.Common.{refl}
 use Rattle.pbx_codec.specs.View.{content_of}
-use Rattle.pbx_desc_shape.specs.Shape.{source_code_info_fields}
+use Rattle.pbx_desc_shape.specs.DescriptorShape.{source_code_info_fields}
 use Rattle.pbx_desc_records.specs.declared.source.SourceCodeInfo.{SourceCodeInfo}
-use Rattle.pbx_desc.specs.Content.{source_code_info_values}
-use Rattle.pbx_desc.proofs.Types.{source_code_info_type}
+use Rattle.pbx_desc_encoding.specs.Content.{source_code_info_values}
+use Rattle.pbx_desc_encoding.proofs.Types.{source_code_info_type}
 use Rattle.pbx_desc_decoding.proofs.Walk.{start, next, done}
 use Rattle.pbx_desc_decoding.proofs.source.SourceCodeInfoFromContents.from_contents.Goals as goal
 

@@ -3,8 +3,8 @@ use Rattle.std.specs.Prelude.{IfOk}
 use Rattle.pbx_meaning.specs.Same.{Decodes}
 use Rattle.pbx_meaning.specs.Sound.{depth}
 use Rattle.pbx_desc_records.specs.declared.file.FileDescriptorProto.{FileDescriptorProto}
-use Rattle.pbx_desc_shape.specs.Shape.{descriptor_shape}
-use Rattle.pbx_desc.specs.Content.{file_content}
+use Rattle.pbx_desc_shape.specs.DescriptorShape.{descriptor_shape}
+use Rattle.pbx_desc_encoding.specs.Content.{file_content}
 use Rattle.pbx_described.specs.Descriptors.{FileDescribed}
 use Rattle.pbx_link.proofs.file.FileDescriptor.encode_to_vec.Goals as goal
 

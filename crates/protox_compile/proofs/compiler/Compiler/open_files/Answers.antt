@@ -1,6 +1,6 @@
 use Rattle.std.proofs.Common.{◌≡◌, ◌∙◌, IsTrue, refl, ap, rules}
 use Rattle.protox_io.proofs.Counts.{later_same, later_again}
-use Rattle.protox_file.specs.Told.{ByLookups}
+use Rattle.protox_file_sources.specs.Told.{ByLookups}
 use Rattle.protox_walk.specs.Closures.{StopsAt}
 use Rattle.protox_walk.proofs.Closures.{accepts_next, stops_next, opens_next}
 use Rattle.protox_walk.proofs.Right.{nothing, right_nothing}

@@ -1,6 +1,6 @@
 use Rattle.std.proofs.Common.{◌≡◌, IsTrue, take}
 use Rattle.protox_io.specs.Count.{Later}
-use Rattle.protox_file.specs.Told.{ByLookups}
+use Rattle.protox_file_sources.specs.Told.{ByLookups}
 use Rattle.protox_walk.specs.Opening.{closure, Accepted}
 use Rattle.protox_walk.specs.Opens.{OpensTimes}
 use Rattle.protox_compile.proofs.compiler.Compiler.open_files.Given as goal

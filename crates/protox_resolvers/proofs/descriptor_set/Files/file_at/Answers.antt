@@ -1,8 +1,8 @@
 use Rattle.std.proofs.Common.{◌∙◌, sym, ap, List, Some, slice_get, option_map}
 use Rattle.std.proofs.lemmas.Option.{slice_get-map}
 use Rattle.pbx_desc_records.specs.declared.file.FileDescriptorProto.{FileDescriptorProto}
-use Rattle.protox_file.specs.Library.{alone}
-use Rattle.protox_file.specs.Told.{Entry}
+use Rattle.protox_file_sources.specs.Library.{alone}
+use Rattle.protox_file_sources.specs.Told.{Entry}
 use Rattle.protox_resolvers.specs.Sets.{entries_of}
 use Rattle.protox_resolvers.specs.declared.descriptor_set.Files.{Files}
 use Rattle.protox_resolvers.proofs.descriptor_set.Files.file_at.Goals as goal

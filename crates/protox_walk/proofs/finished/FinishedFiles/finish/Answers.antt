@@ -1,6 +1,6 @@
 use Rattle.std.proofs.Common.{◌≡◌, ◌∙◌, ◌∷◌, ◌++◌, [], ap, true, refl, rules}
-use Rattle.protox_file.specs.Metadata.{Metadata}
-use Rattle.protox_file.specs.Told.{Entry}
+use Rattle.protox_file_sources.specs.Metadata.{Metadata}
+use Rattle.protox_file_sources.specs.Told.{Entry}
 use Rattle.pbx_link.specs.Pool.{IsRefused}
 use Rattle.protox_walk.proofs.Recorded.{IsFinished, finished, records_known, refused_is_unlinked}
 use Rattle.protox_walk.proofs.finished.FinishedFiles.finish.Goals as goal

@@ -1,0 +1,27 @@
+use Rattle.std.proofs.Common.{◌≡◌, List, length, subst, sym, ap, ◌^◌, ◌<◌, ℕ, arith, rules}
+use Rattle.pbx_meaning.specs.Encoding.{encoded}
+use Rattle.pbx_meaning.specs.Same.{Decodes, DecodesParts}
+use Rattle.pbx_codec.specs.View.{content_of}
+use Rattle.pbx_desc_shape.specs.DescriptorShape.{descriptor_shape}
+use Rattle.pbx_desc_shape.proofs.DescriptorsProper.{descriptor_shape_proper}
+use Rattle.pbx_desc_encoding.proofs.encoding.to_bytes.Goals as goal
+
+pub returns-clause-decodes : goal.returns-clause-decodes
+returns-clause-decodes c =
+    let contents = content_of c.args.contents.now in
+    let vec = c.in_ok-from_slice.field-0 in
+    let is : vec.items ≡ encoded descriptor_shape c.args.type_at contents = search rules in
+    let short : length (encoded descriptor_shape c.args.type_at contents) < 2 ^ 64 = omega (arith, ap length is, vec.ok.0, vec.ok.1, vec.small) in
+    λ sound deep.
+    subst (λ (bytes : List ℕ). Decodes descriptor_shape c.args.type_at bytes contents) (sym is)
+    (c.encoding_decodes.ensures.whole descriptor_shape c.args.type_at contents descriptor_shape_proper sound short deep)
+
+pub returns-clause-parts : goal.returns-clause-parts
+returns-clause-parts c =
+    let contents = content_of c.args.contents.now in
+    let vec = c.in_ok-from_slice.field-0 in
+    let is : vec.items ≡ encoded descriptor_shape c.args.type_at contents = search rules in
+    let short : length (encoded descriptor_shape c.args.type_at contents) < 2 ^ 64 = omega (arith, ap length is, vec.ok.0, vec.ok.1, vec.small) in
+    λ sound fit.
+    subst (λ (bytes : List ℕ). DecodesParts descriptor_shape c.args.type_at bytes contents) (sym is)
+    (c.encoding_decodes.ensures.parts descriptor_shape c.args.type_at contents descriptor_shape_proper sound short fit)

@@ -1,0 +1,14 @@
+use Rattle.std.proofs.Common.{◌≡◌, ◌++◌, map, take}
+use Rattle.pbx_wire.specs.Text.{text_of}
+use Rattle.pbx_meaning.specs.declared.shape.Kind.TheVariants as kind
+use Rattle.pbx_meaning.specs.Content.{message}
+use Rattle.pbx_meaning.specs.Encoding.{payload, content_recs}
+use Rattle.pbx_desc_shape.specs.DescriptorShape.{descriptor_shape}
+use Rattle.pbx_desc_encoding.specs.Sound.{AreOf}
+use Rattle.pbx_desc_encoding.proofs.parts.put_each.Given as goal
+
+abbrev pub invariant-loop-record : goal.invariant-loop-record
+invariant-loop-record g l = record {
+  text : l.out.items ≡ l.initial.out.items ++ text_of (map (λ r. payload l.number (content_recs descriptor_shape g.R.HasContents.TYPE_AT (g.R.HasContents.content r))) (take l.record-index l.record-items));
+  sound : AreOf descriptor_shape (kind.Message g.R.HasContents.TYPE_AT) (map (λ r. message (g.R.HasContents.content r)) (take l.record-index l.record-items));
+}

@@ -1,0 +1,170 @@
+// Values put into trees.
+ghost use Rattle.std.specs.Prelude.{◌≡◌, pos, Some, OnOk, OnErr};
+ghost use Rattle.std.specs.Int.{w32};
+ghost use Rattle.std.specs.Int.RustNames.{FitsSigned};
+ghost use Rattle.std.specs.Ordering.{int_eq};
+ghost use Rattle.pbx_meaning.specs.Content.{fields as fields_in_content, with_fields, with_option};
+ghost use Rattle.pbx_meaning.specs.Meaning.{is_default as is_default_of, zero_number as zero_number_of};
+ghost use Rattle.pbx_meaning.specs.Shape.{first_number, first_of as first_of_values, field_of, fields_of};
+ghost use Rattle.pbx_meaning.specs.Sound.{IsSound};
+ghost use Rattle.pbx_codec.specs.View.{content_of, val_of};
+ghost use Rattle.pbx_number_map.specs.Entries.{value_under};
+ghost use Rattle.pbx_message_laws.specs.Fields.{keeps_default as keeps_default_of, set_value, value_kept};
+ghost use Rattle.pbx_message_dynamic.specs.Members.{AreMembersIf, IsNoted, without_former};
+
+use crate::members::{clear_former, known_members, member_under, noted};
+use pbx_codec::{Contents, Held};
+use pbx_meaning::{Cardinality, EnumShape, FieldShape, Kind, Schema};
+use pbx_number_map::NumberMap;
+use pbx_wire::NoMemory;
+use std::alloc::Global;
+
+/// The number of the first value.
+fn first_of(shape: &EnumShape) -> i32
+    ensures is { result ≡ first_of_values shape.now.values }
+    ensures fits { FitsSigned w32 result }
+{
+    match shape.values.as_slice().first() {
+        Some(value) => value.number,
+        None => 0,
+    }
+}
+
+/// The number of an enum's first value.
+pub(crate) fn first_value(schema: &Schema, enum_at: usize) -> i32
+    ensures { result ≡ first_number schema.now enum_at }
+{
+    let enums = schema.shape().enums.as_slice();
+    if enum_at >= enums.len() {
+        return 0;
+    }
+    first_of(&enums[enum_at])
+}
+
+/// The number of the kind's default.
+fn zero_number(schema: &Schema, kind: Kind) -> i32
+    ensures is { result ≡ zero_number_of schema.now kind }
+{
+    match kind {
+        Kind::Enum(enum_at) => first_value(schema, enum_at),
+        _ => 0,
+    }
+}
+
+/// Whether the value is the kind's default.
+#[tactic(auto, using(pbx_codec::proofs::Tree::default_many, pbx_codec::proofs::Tree::default_pairs))]
+fn is_default(schema: &Schema, kind: Kind, held: &Held) -> bool
+    ensures { result ≡ is_default_of schema.now kind (val_of held.now) }
+{
+    match held {
+        Held::I32(value) => *value == zero_number(schema, kind),
+        Held::I64(value) => *value == i64::from(zero_number(schema, kind)),
+        Held::U32(value) => i64::from(*value) == i64::from(zero_number(schema, kind)),
+        Held::U64(value) => is_zero(zero_number(schema, kind), *value),
+        Held::Bool(value) => !*value,
+        Held::Text(text) => text.as_str().is_empty(),
+        Held::Bytes(bytes) => bytes.is_empty(),
+        Held::Message(_) => false,
+        Held::Many(many) => many.as_slice().is_empty(),
+        Held::Pairs(pairs) => pairs.as_slice().is_empty(),
+    }
+}
+
+/// Whether the numbers are equal.
+fn is_zero(zero: i32, value: u64) -> bool
+    ensures { result ≡ int_eq (pos value) zero }
+{
+    match u64::try_from(zero) {
+        Ok(zero) => zero == value,
+        Err(_) => false,
+    }
+}
+
+/// Whether the field has its default as a value.
+fn keeps_default(field: &FieldShape) -> bool
+    ensures { result ≡ keeps_default_of field.now.presence field.now.cardinality }
+{
+    match field.cardinality {
+        Cardinality::Singular => field.presence,
+        Cardinality::Repeated => false,
+        Cardinality::Map(_) => false,
+    }
+}
+
+/// Puts the value, or none where it is a default that the field does not keep.
+fn put_own(
+    tree: &mut Contents,
+    schema: &Schema,
+    field: &FieldShape,
+    held: Held,
+) -> Result<(), NoMemory>
+    ensures ok { OnOk result (content_of tree.new ≡ with_fields (content_of tree.old)
+        (with_option field.now.number (value_kept schema.now field.now (val_of held)) (fields_in_content (content_of tree.old)))) }
+    ensures err { OnErr result (content_of tree.new ≡ content_of tree.old) }
+{
+    if !keeps_default(field) && is_default(schema, field.kind, &held) {
+        tree.clear(field.number);
+        Ok(())
+    } else {
+        tree.put(field.number, held)
+    }
+}
+
+/// Puts the value of a member of the oneof, takes away that of the member which may have had one, and notes the one that
+/// has it now.
+fn put_member(
+    tree: &mut Contents,
+    members: &mut Option<NumberMap<u32>>,
+    known: NumberMap<u32>,
+    schema: &Schema,
+    field: &FieldShape,
+    oneof: u32,
+    held: Held,
+) -> Result<(), NoMemory>
+    ensures ok { OnOk result (content_of tree.new ≡ with_fields (content_of tree.old) (without_former (value_under oneof known) field.now.number
+        (with_option field.now.number (value_kept schema.now field.now (val_of held)) (fields_in_content (content_of tree.old))))) }
+    ensures noted { OnOk result (IsNoted oneof field.now.number known members.new) }
+    ensures err { OnErr result (content_of tree.new ≡ content_of tree.old) }
+    ensures same { OnErr result (members.new ≡ Some known) }
+{
+    let former = member_under(&known, oneof);
+    match put_own(tree, schema, field, held) {
+        Ok(()) => {
+            clear_former(tree, former, field.number);
+            *members = noted(known, oneof, field.number);
+            Ok(())
+        }
+        Err(refused) => {
+            *members = Some(known);
+            Err(refused)
+        }
+    }
+}
+
+/// Puts the value of the field, and takes away those of the other members of its oneof, of which at most the known one
+/// has a value. A refused call changes nothing.
+pub(crate) fn put_value(
+    tree: &mut Contents,
+    members: &mut Option<NumberMap<u32>>,
+    alloc: Global,
+    schema: &Schema,
+    place: usize,
+    field: &FieldShape,
+    held: Held,
+) -> Result<(), NoMemory>
+    requires sound { IsSound schema.now place (content_of tree.old) }
+    requires own { field_of field.now.number (fields_of schema.now place) ≡ Some field.now }
+    requires known { AreMembersIf (fields_of schema.now place) (fields_in_content (content_of tree.old)) members.old }
+    ensures ok { OnOk result (content_of tree.new ≡ set_value schema.now (fields_of schema.now place) field.now (val_of held) (content_of tree.old)) }
+    ensures err { OnErr result (content_of tree.new ≡ content_of tree.old) }
+    ensures known { AreMembersIf (fields_of schema.now place) (fields_in_content (content_of tree.new)) members.new }
+{
+    let _proper = schema.shape();
+    match field.oneof {
+        Some(oneof) => match known_members(members, alloc, schema, place, tree) {
+            Ok(known) => put_member(tree, members, known, schema, field, oneof, held),
+            Err(refused) => Err(refused),
+        },
+        None => put_own(tree, schema, field, held),
+    }
+}

@@ -1,5 +1,0 @@
-use Rattle.protox_file.proofs.Lookups.{looked_up}
-use Rattle.protox_file.proofs.file.looked_up_once.Goals as goal
-
-pub returns : goal.returns
-returns c = looked_up c.at_most_one.ensures

@@ -1,5 +1,0 @@
-use Rattle.protox_file.proofs.Readings.{named_again}
-use Rattle.protox_file.proofs.include.IncludeFileResolverFileResolver.resolve_path.Goals as goal
-
-pub returns-in-Some-clause-named : goal.returns-in-Some-clause-named
-returns-in-Some-clause-named g c = named_again c.in-Some.rest.now c.path_to_file_name.result c.path_to_file_name.ensures
