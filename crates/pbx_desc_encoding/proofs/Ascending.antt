@@ -8,15 +8,15 @@ use Rattle.pbx_wire.proofs.Texts.{text_of-append}
 use Rattle.pbx_wire.specs.declared.rec.Rec.{Rec, Varint, Fixed64, Bytes, Group', Fixed32, fold_out-Rec}
 use Rattle.pbx_wire.specs.declared.rec.Rec.TheVariants as rec
 use Rattle.pbx_wire.specs.declared.rec.Rec as declared
-use Rattle.pbx_meaning.specs.declared.shape.Shape.{Shape}
-use Rattle.pbx_meaning.specs.declared.shape.FieldShape.{FieldShape}
-use Rattle.pbx_meaning.specs.declared.shape.Kind.{Kind}
-use Rattle.pbx_meaning.specs.Content.{Fields, no_fields, field, Val, number, truth, text, octets, message, many, keyed, Vals, no_vals, val, Pairs, no_pairs, pair}
-use Rattle.pbx_meaning.specs.Encoding.{with_kept, fields_recs, field_recs, vals_recs, pairs_recs, val_rec, number_rec, keys_of, is_packed, packed_text}
-use Rattle.pbx_meaning.specs.Records.{number_of, insert, sorted}
-use Rattle.pbx_meaning.specs.Shape.{field_of, Form, as_varint, as_four, as_eight, as_payload, form_of}
-use Rattle.pbx_meaning.proofs.Sorted.{IsLow, IsSorted}
-use Rattle.pbx_meaning.proofs.WrittenOrder.{AreAbove, AreListed}
+use Rattle.pbx_content.specs.declared.shape.Shape.{Shape}
+use Rattle.pbx_content.specs.declared.shape.FieldShape.{FieldShape}
+use Rattle.pbx_content.specs.declared.shape.Kind.{Kind}
+use Rattle.pbx_content.specs.Content.{Fields, no_fields, field, Val, number, truth, text, octets, message, many, keyed, Vals, no_vals, val, Pairs, no_pairs, pair}
+use Rattle.pbx_content.specs.Encoding.{with_kept, fields_recs, field_recs, vals_recs, pairs_recs, val_rec, number_rec, keys_of, is_packed, packed_text}
+use Rattle.pbx_content.specs.Records.{number_of, insert, sorted}
+use Rattle.pbx_content.specs.Shape.{field_of, Form, as_varint, as_four, as_eight, as_payload, form_of}
+use Rattle.pbx_content.proofs.Sorted.{IsLow, IsSorted}
+use Rattle.pbx_content.proofs.WrittenOrder.{AreAbove, AreListed}
 use Rattle.pbx_desc_encoding.specs.Building.{followed_by}
 use Rattle.pbx_desc_encoding.specs.Content.{fields_from}
 use Rattle.pbx_desc_encoding.specs.Unknown.{has_one_of, is_writable_beside}

@@ -7,25 +7,25 @@ use Rattle.pbx_wire.specs.Text.{text as text_of_rec, text_of, are_fit}
 use Rattle.pbx_wire.proofs.Texts.{text_of-append}
 use Rattle.pbx_wire.specs.declared.rec.Rec.{Rec, the_lemmas as rec_lemmas}
 use Rattle.pbx_wire.specs.declared.rec.Rec.TheVariants as rec
-use Rattle.pbx_number_map.specs.Entries.{IsAscending}
-use Rattle.pbx_codec.specs.declared.contents.Held.{Held}
-use Rattle.pbx_meaning.specs.declared.shape.Cardinality.{Cardinality}
-use Rattle.pbx_meaning.specs.declared.shape.Cardinality.TheVariants.{Repeated}
-use Rattle.pbx_meaning.specs.declared.shape.FieldShape.{FieldShape}
-use Rattle.pbx_meaning.specs.declared.shape.Shape.{Shape}
-use Rattle.pbx_meaning.specs.declared.shape.Kind.{Kind}
-use Rattle.pbx_meaning.specs.declared.shape.Kind.TheVariants as kind
-use Rattle.pbx_meaning.specs.Content.{IsAscending as AreAscending, no_fields, Content, content, Fields, Val, number, truth, text, octets, message, many, keyed, vals_of}
-use Rattle.pbx_meaning.specs.Meaning.{with_field}
-use Rattle.pbx_meaning.specs.Shape.{fields_of, keeps_order_of, field_of, is_packable}
-use Rattle.pbx_meaning.specs.Encoding.{encoded, content_recs, payload, with_kept, fields_recs, field_recs, vals_recs, packed_text, keys_of}
-use Rattle.pbx_meaning.specs.Laws.{EncodingDecodes, EncodingDecodesParts}
-use Rattle.pbx_meaning.specs.Same.{Decodes, DecodesParts}
-use Rattle.pbx_meaning.specs.Sound.{depth, PartsFit}
-use Rattle.pbx_meaning.proofs.Sorted.{IsSorted}
-use Rattle.pbx_meaning.proofs.WrittenOrder.{AreAbove, all_listed, fields_above}
-use Rattle.pbx_desc_shape.specs.DescriptorShape.{descriptor_shape, list_field, packed_field}
-use Rattle.pbx_desc_shape.proofs.DescriptorsProper.{descriptor_shape_proper}
+use Rattle.pbx_content_map.specs.Entries.{IsAscending}
+use Rattle.pbx_content_codec.specs.declared.contents.Held.{Held}
+use Rattle.pbx_content.specs.declared.shape.Cardinality.{Cardinality}
+use Rattle.pbx_content.specs.declared.shape.Cardinality.TheVariants.{Repeated}
+use Rattle.pbx_content.specs.declared.shape.FieldShape.{FieldShape}
+use Rattle.pbx_content.specs.declared.shape.Shape.{Shape}
+use Rattle.pbx_content.specs.declared.shape.Kind.{Kind}
+use Rattle.pbx_content.specs.declared.shape.Kind.TheVariants as kind
+use Rattle.pbx_content.specs.Content.{IsAscending as AreAscending, no_fields, Content, content, Fields, Val, number, truth, text, octets, message, many, keyed, vals_of}
+use Rattle.pbx_content.specs.Meaning.{with_field}
+use Rattle.pbx_content.specs.Shape.{fields_of, keeps_order_of, field_of, is_packable}
+use Rattle.pbx_content.specs.Encoding.{encoded, content_recs, payload, with_kept, fields_recs, field_recs, vals_recs, packed_text, keys_of}
+use Rattle.pbx_content.specs.Laws.{EncodingDecodes, EncodingDecodesParts}
+use Rattle.pbx_content.specs.Same.{Decodes, DecodesParts}
+use Rattle.pbx_content.specs.Sound.{depth, PartsFit}
+use Rattle.pbx_content.proofs.Sorted.{IsSorted}
+use Rattle.pbx_content.proofs.WrittenOrder.{AreAbove, all_listed, fields_above}
+use Rattle.pbx_desc_shapes.specs.DescriptorShape.{descriptor_shape, list_field, packed_field}
+use Rattle.pbx_desc_shapes.proofs.DescriptorsProper.{descriptor_shape_proper}
 use Rattle.pbx_desc_encoding.specs.Building.{entries, followed_by, Puts, recs_of, value_recs, packed_recs, Writes, WritesPacked, IsWritten}
 use Rattle.pbx_desc_encoding.specs.Content.{of_records, fields_from, record_content}
 use Rattle.pbx_desc_encoding.specs.Sound.{AreOf, MayBe}

@@ -6,24 +6,24 @@ use Rattle.std.proofs.lemmas.List.{map-append}
 use Rattle.pbx_wire.specs.Text.{are_fit}
 use Rattle.pbx_wire.specs.declared.rec.Rec.{Rec}
 use Rattle.std.proofs.lemmas.Bool.Decides.{nat_tests}
-use Rattle.pbx_number_map.specs.Entries.{IsBelow, IsAscending, with_entries}
-use Rattle.pbx_number_map.proofs.Places.{ascending_entries}
-use Rattle.pbx_codec.specs.declared.contents.Contents.{Contents}
-use Rattle.pbx_codec.specs.declared.contents.Held.TheViews.{roll-Contents}
-use Rattle.pbx_codec.proofs.TreeFields.{rolled}
-use Rattle.pbx_codec.specs.declared.contents.Held.{Held}
-use Rattle.pbx_codec.specs.declared.contents.Held as held
-use Rattle.pbx_meaning.specs.declared.shape.Cardinality.{Cardinality}
-use Rattle.pbx_meaning.specs.declared.shape.Cardinality.TheVariants.{Repeated}
-use Rattle.pbx_meaning.specs.declared.shape.FieldShape.{FieldShape}
-use Rattle.pbx_meaning.specs.declared.shape.Kind.{Kind}
-use Rattle.pbx_meaning.specs.Content.{content, Fields, no_fields, field, Val, many, vals_of, IsAbove, IsAscending as AreAscending}
-use Rattle.pbx_meaning.specs.Meaning.{with_field}
-use Rattle.pbx_meaning.specs.Shape.{fields_of}
-use Rattle.pbx_codec.specs.View.{fields_in, entry_of, content_of, val_of}
-use Rattle.pbx_desc_shape.specs.DescriptorShape.{descriptor_shape}
-use Rattle.pbx_meaning.proofs.WrittenOrder.{AreAbove, fields_above}
-use Rattle.pbx_desc_shape.proofs.DescriptorsProper.{descriptor_shape_proper}
+use Rattle.pbx_content_map.specs.Entries.{IsBelow, IsAscending, with_entries}
+use Rattle.pbx_content_map.proofs.Places.{ascending_entries}
+use Rattle.pbx_content_codec.specs.declared.contents.Contents.{Contents}
+use Rattle.pbx_content_codec.specs.declared.contents.Held.TheViews.{roll-Contents}
+use Rattle.pbx_content_codec.proofs.TreeFields.{rolled}
+use Rattle.pbx_content_codec.specs.declared.contents.Held.{Held}
+use Rattle.pbx_content_codec.specs.declared.contents.Held as held
+use Rattle.pbx_content.specs.declared.shape.Cardinality.{Cardinality}
+use Rattle.pbx_content.specs.declared.shape.Cardinality.TheVariants.{Repeated}
+use Rattle.pbx_content.specs.declared.shape.FieldShape.{FieldShape}
+use Rattle.pbx_content.specs.declared.shape.Kind.{Kind}
+use Rattle.pbx_content.specs.Content.{content, Fields, no_fields, field, Val, many, vals_of, IsAbove, IsAscending as AreAscending}
+use Rattle.pbx_content.specs.Meaning.{with_field}
+use Rattle.pbx_content.specs.Shape.{fields_of}
+use Rattle.pbx_content_codec.specs.View.{fields_in, entry_of, content_of, val_of}
+use Rattle.pbx_desc_shapes.specs.DescriptorShape.{descriptor_shape}
+use Rattle.pbx_content.proofs.WrittenOrder.{AreAbove, fields_above}
+use Rattle.pbx_desc_shapes.proofs.DescriptorsProper.{descriptor_shape_proper}
 use Rattle.pbx_desc_encoding.specs.Building.{entries, followed_by, Puts, Holds}
 use Rattle.pbx_desc_encoding.specs.Sound.{AreOf, MayBe}
 use Rattle.pbx_desc_encoding.specs.Content.{listed, fields_from, record_content}

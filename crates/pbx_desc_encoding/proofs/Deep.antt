@@ -2,8 +2,8 @@
 use Rattle.std.proofs.Common.{◌≡◌, ℕ, suc, ◌+◌, ◌≤◌, Bool, true, false, cond, List, [], ◌∷◌, map, length, Some, None, refl, arith}
 use Rattle.std.specs.Prelude.{nat_lt, position}
 use Rattle.std.specs.List.{position_or_len}
-use Rattle.pbx_meaning.specs.Content.{vals_of}
-use Rattle.pbx_meaning.specs.Sound.{depth, PartsFit, vals_depth}
+use Rattle.pbx_content.specs.Content.{vals_of}
+use Rattle.pbx_content.specs.Sound.{depth, PartsFit, vals_depth}
 use Rattle.pbx_desc_records.specs.declared.file.FileDescriptorProto.{FileDescriptorProto}
 use Rattle.pbx_desc_encoding.specs.Content.{file_value, file_content, files_content}
 use Rattle.pbx_desc_encoding.specs.Sets.{is_deep_file}

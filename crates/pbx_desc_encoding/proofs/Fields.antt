@@ -4,18 +4,18 @@ use Rattle.std.specs.Prelude.{◌==◌, is_none, IsTrue}
 use Rattle.std.specs.List.{filter, list_all}
 use Rattle.pbx_wire.specs.Text.{all_true, is_numbered, are_numbered, are_fit}
 use Rattle.pbx_wire.specs.declared.rec.Rec.{Rec}
-use Rattle.pbx_meaning.specs.declared.shape.Cardinality.{Cardinality}
-use Rattle.pbx_meaning.specs.declared.shape.Cardinality.TheVariants.{Singular, Repeated, Map}
-use Rattle.pbx_meaning.specs.declared.shape.Kind.{Kind}
-use Rattle.pbx_meaning.specs.declared.shape.Kind.TheVariants as kind
-use Rattle.pbx_meaning.specs.declared.shape.Shape.{Shape}
-use Rattle.pbx_meaning.specs.declared.shape.FieldShape.{FieldShape}
-use Rattle.pbx_meaning.specs.Content.{Fields, no_fields, field, Val, number, truth, text, message, many, vals_of, has, IsAbove, IsAscending}
-use Rattle.pbx_meaning.specs.Records.{number_of, any}
-use Rattle.pbx_meaning.specs.Shape.{fields_of, field_of, is_float, is_kept, is_read_as, same_oneof, is_other}
-use Rattle.pbx_meaning.specs.Meaning.{with_field}
-use Rattle.pbx_meaning.specs.Sound.{IsSound, AreSound, IsSoundAt, AreElements, IsElement, AreKept, has_one_member}
-use Rattle.pbx_meaning.proofs.WrittenOrder.{AreAbove, AreListed, all_listed}
+use Rattle.pbx_content.specs.declared.shape.Cardinality.{Cardinality}
+use Rattle.pbx_content.specs.declared.shape.Cardinality.TheVariants.{Singular, Repeated, Map}
+use Rattle.pbx_content.specs.declared.shape.Kind.{Kind}
+use Rattle.pbx_content.specs.declared.shape.Kind.TheVariants as kind
+use Rattle.pbx_content.specs.declared.shape.Shape.{Shape}
+use Rattle.pbx_content.specs.declared.shape.FieldShape.{FieldShape}
+use Rattle.pbx_content.specs.Content.{Fields, no_fields, field, Val, number, truth, text, message, many, vals_of, has, IsAbove, IsAscending}
+use Rattle.pbx_content.specs.Records.{number_of, any}
+use Rattle.pbx_content.specs.Shape.{fields_of, field_of, is_float, is_kept, is_read_as, same_oneof, is_other}
+use Rattle.pbx_content.specs.Meaning.{with_field}
+use Rattle.pbx_content.specs.Sound.{IsSound, AreSound, IsSoundAt, AreElements, IsElement, AreKept, has_one_member}
+use Rattle.pbx_content.proofs.WrittenOrder.{AreAbove, AreListed, all_listed}
 use Rattle.pbx_desc_encoding.specs.Content.{listed, writable, fields_from, record_content}
 use Rattle.pbx_desc_encoding.specs.Unknown.{has_one_of, is_writable_beside}
 use Rattle.pbx_desc_encoding.specs.Sound.{IsOf, AreOf, MayBe}

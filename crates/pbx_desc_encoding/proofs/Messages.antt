@@ -1,12 +1,12 @@
 -- The content of a message, one level down.
 use Rattle.std.proofs.Common.{◌≡◌, ℕ, List, [], ◌∷◌, map, subst, refl, sym, ap, ◌∙◌}
-use Rattle.pbx_codec.specs.declared.contents.Held.{Held}
-use Rattle.pbx_meaning.specs.declared.shape.Cardinality.TheVariants.{Repeated}
-use Rattle.pbx_meaning.specs.declared.shape.Kind.{Kind}
-use Rattle.pbx_meaning.specs.declared.shape.Kind.TheVariants as kind
-use Rattle.pbx_meaning.specs.Content.{Content, Val, message}
-use Rattle.pbx_codec.specs.View.{val_of}
-use Rattle.pbx_desc_shape.specs.DescriptorShape.{descriptor_shape, message_fields}
+use Rattle.pbx_content_codec.specs.declared.contents.Held.{Held}
+use Rattle.pbx_content.specs.declared.shape.Cardinality.TheVariants.{Repeated}
+use Rattle.pbx_content.specs.declared.shape.Kind.{Kind}
+use Rattle.pbx_content.specs.declared.shape.Kind.TheVariants as kind
+use Rattle.pbx_content.specs.Content.{Content, Val, message}
+use Rattle.pbx_content_codec.specs.View.{val_of}
+use Rattle.pbx_desc_shapes.specs.DescriptorShape.{descriptor_shape, message_fields}
 use Rattle.pbx_desc_records.specs.declared.message.DescriptorProto.{DescriptorProto, out-DescriptorProto, fold_out-DescriptorProto}
 use Rattle.pbx_desc_records.specs.declared.message.DescriptorProto.TheOpen.{DescriptorProto-F}
 use Rattle.pbx_desc_encoding.specs.Building.{Puts, Writes}

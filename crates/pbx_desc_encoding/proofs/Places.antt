@@ -9,15 +9,15 @@ use Rattle.pbx_wire.specs.Varint.{varint}
 use Rattle.pbx_wire.specs.Text.{text as text_of_rec, text_of}
 use Rattle.pbx_wire.specs.declared.rec.Rec.{Rec}
 use Rattle.pbx_wire.specs.declared.rec.Rec.TheVariants as rec
-use Rattle.pbx_meaning.specs.declared.shape.Cardinality.TheVariants.{Singular, Repeated}
-use Rattle.pbx_meaning.specs.declared.shape.Kind.{Kind}
-use Rattle.pbx_meaning.specs.declared.shape.Kind.TheVariants as kind
-use Rattle.pbx_meaning.specs.declared.shape.Shape.{Shape}
-use Rattle.pbx_meaning.specs.Content.{Content, Val, number, truth, text, message, vals_of}
-use Rattle.pbx_meaning.specs.Shape.{form_of}
-use Rattle.pbx_meaning.specs.Encoding.{encoded, numeral, number_text, packed_text, vals_recs, content_recs, payload}
-use Rattle.pbx_meaning.specs.Sound.{IsSound}
-use Rattle.pbx_desc_shape.specs.DescriptorShape.{descriptor_shape}
+use Rattle.pbx_content.specs.declared.shape.Cardinality.TheVariants.{Singular, Repeated}
+use Rattle.pbx_content.specs.declared.shape.Kind.{Kind}
+use Rattle.pbx_content.specs.declared.shape.Kind.TheVariants as kind
+use Rattle.pbx_content.specs.declared.shape.Shape.{Shape}
+use Rattle.pbx_content.specs.Content.{Content, Val, number, truth, text, message, vals_of}
+use Rattle.pbx_content.specs.Shape.{form_of}
+use Rattle.pbx_content.specs.Encoding.{encoded, numeral, number_text, packed_text, vals_recs, content_recs, payload}
+use Rattle.pbx_content.specs.Sound.{IsSound}
+use Rattle.pbx_desc_shapes.specs.DescriptorShape.{descriptor_shape}
 use Rattle.pbx_desc_encoding.specs.Building.{value_recs, Writes, WritesPacked, IsWritten}
 use Rattle.pbx_desc_encoding.specs.Content.{of_texts, of_numbers}
 use Rattle.pbx_desc_encoding.specs.Sound.{AreOf}

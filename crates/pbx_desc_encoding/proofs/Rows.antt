@@ -5,13 +5,13 @@ use Rattle.pbx_wire.specs.Varint.{varint, varint_within}
 use Rattle.pbx_wire.specs.Text.{text, is_record_number, is_numbered}
 use Rattle.pbx_wire.specs.declared.rec.Rec.{the_lemmas as rec_lemmas}
 use Rattle.pbx_wire.specs.declared.rec.Rec.TheVariants as rec
-use Rattle.pbx_meaning.specs.Encoding.{encoded}
+use Rattle.pbx_content.specs.Encoding.{encoded}
 use Rattle.pbx_desc_records.specs.declared.field.FieldDescriptorProto.{FieldDescriptorProto}
 use Rattle.pbx_desc_records.specs.declared.message.DescriptorProto.{DescriptorProto, roll-DescriptorProto, fold-roll-DescriptorProto}
 use Rattle.pbx_desc_records.specs.declared.message.DescriptorProto.TheOpen.{DescriptorProto-F}
 use Rattle.pbx_desc_records.specs.declared.file.FileDescriptorProto.{FileDescriptorProto}
-use Rattle.pbx_desc_shape.specs.DescriptorShape.{descriptor_shape}
-use Rattle.pbx_meaning.specs.Content.{Content}
+use Rattle.pbx_desc_shapes.specs.DescriptorShape.{descriptor_shape}
+use Rattle.pbx_content.specs.Content.{Content}
 use Rattle.pbx_desc_encoding.specs.Content.{message_step, message_content, file_content}
 use Rattle.pbx_desc_encoding.proofs.Messages.{layer_with}
 

@@ -10,15 +10,15 @@ use Rattle.std.proofs.lemmas.Bool.Decides.{nat_tests}
 use Rattle.pbx_wire.specs.Text.{text as text_of_rec, text_of, are_fit}
 use Rattle.pbx_wire.specs.declared.rec.Rec.{Rec}
 use Rattle.pbx_wire.proofs.Texts.{text_of-append, text_of_one}
-use Rattle.pbx_number_map.specs.Entries.{IsAscending}
-use Rattle.pbx_codec.specs.declared.contents.Held.{Held}
-use Rattle.pbx_meaning.specs.declared.shape.Shape.{Shape}
-use Rattle.pbx_meaning.specs.declared.shape.Cardinality.TheVariants.{Repeated}
-use Rattle.pbx_meaning.specs.declared.shape.Kind.TheVariants as kind
-use Rattle.pbx_meaning.specs.Content.{content}
-use Rattle.pbx_meaning.specs.Encoding.{encoded, payload, content_recs}
-use Rattle.pbx_meaning.specs.Sound.{IsSound, depth}
-use Rattle.pbx_desc_shape.specs.DescriptorShape.{descriptor_shape, set_fields}
+use Rattle.pbx_content_map.specs.Entries.{IsAscending}
+use Rattle.pbx_content_codec.specs.declared.contents.Held.{Held}
+use Rattle.pbx_content.specs.declared.shape.Shape.{Shape}
+use Rattle.pbx_content.specs.declared.shape.Cardinality.TheVariants.{Repeated}
+use Rattle.pbx_content.specs.declared.shape.Kind.TheVariants as kind
+use Rattle.pbx_content.specs.Content.{content}
+use Rattle.pbx_content.specs.Encoding.{encoded, payload, content_recs}
+use Rattle.pbx_content.specs.Sound.{IsSound, depth}
+use Rattle.pbx_desc_shapes.specs.DescriptorShape.{descriptor_shape, set_fields}
 use Rattle.pbx_desc_records.specs.declared.file.FileDescriptorProto.{FileDescriptorProto}
 use Rattle.pbx_desc_encoding.specs.Building.{entries, Writes, IsWritten}
 use Rattle.pbx_desc_encoding.specs.Content.{of_records, file_content, file_value, files_content}

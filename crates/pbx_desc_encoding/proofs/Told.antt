@@ -5,13 +5,13 @@ use Rattle.std.specs.Str.{IsUtf8, is_utf8}
 use Rattle.std.proofs.lemmas.Str.{is_utf8-from_IsUtf8}
 use Rattle.std.proofs.lemmas.List.{take_more, map-append}
 use Rattle.pbx_wire.specs.declared.text.Text.{Text}
-use Rattle.pbx_meaning.specs.declared.shape.Kind.{Kind}
-use Rattle.pbx_meaning.specs.declared.shape.Shape.{Shape}
-use Rattle.pbx_codec.specs.declared.contents.Held.{Held}
-use Rattle.pbx_codec.specs.declared.contents.Held as held
-use Rattle.pbx_codec.specs.declared.contents.Contents.{Contents, the_lemmas}
-use Rattle.pbx_meaning.specs.Content.{Content, truth, text, message, many, Val, vals_of}
-use Rattle.pbx_codec.specs.View.{content_of, val_of}
+use Rattle.pbx_content.specs.declared.shape.Kind.{Kind}
+use Rattle.pbx_content.specs.declared.shape.Shape.{Shape}
+use Rattle.pbx_content_codec.specs.declared.contents.Held.{Held}
+use Rattle.pbx_content_codec.specs.declared.contents.Held as held
+use Rattle.pbx_content_codec.specs.declared.contents.Contents.{Contents, the_lemmas}
+use Rattle.pbx_content.specs.Content.{Content, truth, text, message, many, Val, vals_of}
+use Rattle.pbx_content_codec.specs.View.{content_of, val_of}
 use Rattle.pbx_desc_encoding.specs.Sound.{IsOf, AreOf}
 
 pub val_of-Text : (t : Text) → val_of (held.Text t) ≡ text t

@@ -1,7 +1,7 @@
 -- The types of the descriptor records and their fields.
 use Rattle.std.proofs.Common.{◌≡◌, [], refl}
-use Rattle.pbx_meaning.specs.Shape.{fields_of}
-use Rattle.pbx_desc_shape.specs.DescriptorShape.{descriptor_shape, set_fields, file_fields, message_fields, field_fields, extension_range_fields, reserved_range_fields, oneof_fields, enum_fields, enum_reserved_range_fields, enum_value_fields, service_fields, method_fields, source_code_info_fields, location_fields}
+use Rattle.pbx_content.specs.Shape.{fields_of}
+use Rattle.pbx_desc_shapes.specs.DescriptorShape.{descriptor_shape, set_fields, file_fields, message_fields, field_fields, extension_range_fields, reserved_range_fields, oneof_fields, enum_fields, enum_reserved_range_fields, enum_value_fields, service_fields, method_fields, source_code_info_fields, location_fields}
 
 pub file_set_type : fields_of descriptor_shape 0 ≡ set_fields
 unfolding descriptor_shape

@@ -2,18 +2,18 @@
 use Rattle.std.specs.Prelude.{◌≡◌, ℕ, List, [], ◌++◌, map, Option, Some, None}
 use Rattle.pbx_wire.specs.Text.{text_of}
 use Rattle.pbx_wire.specs.declared.rec.Rec.{Rec}
-use Rattle.pbx_codec.specs.declared.contents.Contents.{Contents}
-use Rattle.pbx_codec.specs.declared.contents.Held.{Held}
-use Rattle.pbx_meaning.specs.declared.shape.Cardinality.{Cardinality}
-use Rattle.pbx_meaning.specs.declared.shape.Cardinality.TheVariants.{Repeated}
-use Rattle.pbx_meaning.specs.declared.shape.FieldShape.{FieldShape}
-use Rattle.pbx_meaning.specs.declared.shape.Kind.{Kind}
-use Rattle.pbx_meaning.specs.Content.{Content, Fields, no_fields, field, Val}
-use Rattle.pbx_meaning.specs.Encoding.{encoded, field_recs}
-use Rattle.pbx_meaning.specs.Meaning.{with_field}
-use Rattle.pbx_codec.specs.View.{fields_in, entry_of, content_of}
-use Rattle.pbx_desc_shape.specs.DescriptorShape.{descriptor_shape, list_field, packed_field}
-use Rattle.pbx_meaning.specs.Sound.{IsSound}
+use Rattle.pbx_content_codec.specs.declared.contents.Contents.{Contents}
+use Rattle.pbx_content_codec.specs.declared.contents.Held.{Held}
+use Rattle.pbx_content.specs.declared.shape.Cardinality.{Cardinality}
+use Rattle.pbx_content.specs.declared.shape.Cardinality.TheVariants.{Repeated}
+use Rattle.pbx_content.specs.declared.shape.FieldShape.{FieldShape}
+use Rattle.pbx_content.specs.declared.shape.Kind.{Kind}
+use Rattle.pbx_content.specs.Content.{Content, Fields, no_fields, field, Val}
+use Rattle.pbx_content.specs.Encoding.{encoded, field_recs}
+use Rattle.pbx_content.specs.Meaning.{with_field}
+use Rattle.pbx_content_codec.specs.View.{fields_in, entry_of, content_of}
+use Rattle.pbx_desc_shapes.specs.DescriptorShape.{descriptor_shape, list_field, packed_field}
+use Rattle.pbx_content.specs.Sound.{IsSound}
 use Rattle.pbx_desc_encoding.specs.Sound.{MayBe}
 
 -- the fields that numbers with values stand for

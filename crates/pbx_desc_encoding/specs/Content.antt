@@ -2,13 +2,13 @@
 use Rattle.std.specs.Prelude.{ℕ, ℤ, List, [], ◌∷◌, map, filter, Bool, ◌&&◌, Option, Some, None, option_map}
 use Rattle.pbx_wire.specs.Text.{is_numbered}
 use Rattle.pbx_wire.specs.declared.rec.Rec.{Rec}
-use Rattle.pbx_meaning.specs.declared.shape.FieldShape.{FieldShape}
-use Rattle.pbx_meaning.specs.Content.{Content, content, Fields, no_fields, Val, number, truth, text, message, many, vals_of}
-use Rattle.pbx_meaning.specs.Meaning.{with_field}
-use Rattle.pbx_meaning.specs.Shape.{is_kept}
-use Rattle.pbx_desc_shape.specs.DescriptorShape.{set_fields, file_fields, message_fields, field_fields, extension_range_fields, reserved_range_fields, oneof_fields}
-use Rattle.pbx_desc_shape.specs.DescriptorShape.{enum_fields, enum_reserved_range_fields, enum_value_fields, service_fields, method_fields}
-use Rattle.pbx_desc_shape.specs.DescriptorShape.{source_code_info_fields, location_fields}
+use Rattle.pbx_content.specs.declared.shape.FieldShape.{FieldShape}
+use Rattle.pbx_content.specs.Content.{Content, content, Fields, no_fields, Val, number, truth, text, message, many, vals_of}
+use Rattle.pbx_content.specs.Meaning.{with_field}
+use Rattle.pbx_content.specs.Shape.{is_kept}
+use Rattle.pbx_desc_shapes.specs.DescriptorShape.{set_fields, file_fields, message_fields, field_fields, extension_range_fields, reserved_range_fields, oneof_fields}
+use Rattle.pbx_desc_shapes.specs.DescriptorShape.{enum_fields, enum_reserved_range_fields, enum_value_fields, service_fields, method_fields}
+use Rattle.pbx_desc_shapes.specs.DescriptorShape.{source_code_info_fields, location_fields}
 use Rattle.pbx_desc_records.specs.declared.enumeration.EnumDescriptorProto.{EnumDescriptorProto}
 use Rattle.pbx_desc_records.specs.declared.enumeration.EnumReservedRange.{EnumReservedRange}
 use Rattle.pbx_desc_records.specs.declared.enumeration.EnumValueDescriptorProto.{EnumValueDescriptorProto}

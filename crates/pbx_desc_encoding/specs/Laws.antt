@@ -1,6 +1,6 @@
 -- Laws of the definitions, each proved as the contract of a public function.
 use Rattle.std.specs.Prelude.{◌≤◌, List}
-use Rattle.pbx_meaning.specs.Sound.{depth}
+use Rattle.pbx_content.specs.Sound.{depth}
 use Rattle.pbx_desc_records.specs.declared.file.FileDescriptorProto.{FileDescriptorProto}
 use Rattle.pbx_desc_records.specs.declared.file.FileDescriptorSet.{FileDescriptorSet}
 use Rattle.pbx_desc_records.specs.declared.message.DescriptorProto.{DescriptorProto}

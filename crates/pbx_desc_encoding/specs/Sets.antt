@@ -1,18 +1,18 @@
 -- Sets of files, which are read file by file: each file has 100 levels of its own.
 use Rattle.std.specs.Prelude.{◌≡◌, ℕ, nat_lt, List, length, map, position, Bool, false, Option}
 use Rattle.pbx_wire.specs.declared.error.DecodeError.{DecodeError}
-use Rattle.pbx_meaning.specs.Content.{Content, Val, number, truth, text, octets, message, many, keyed}
+use Rattle.pbx_content.specs.Content.{Content, Val, number, truth, text, octets, message, many, keyed}
 use Rattle.pbx_wire.specs.Text.{text_of}
-use Rattle.pbx_meaning.specs.declared.shape.Kind.TheVariants.{Message}
-use Rattle.pbx_meaning.specs.Encoding.{payload, content_recs}
-use Rattle.pbx_meaning.specs.Meaning.{parts_meaning_of}
-use Rattle.pbx_meaning.specs.Same.{DecodesParts}
-use Rattle.pbx_meaning.specs.Faults.{IsFaultOfParts}
-use Rattle.pbx_meaning.specs.Sound.{depth}
+use Rattle.pbx_content.specs.declared.shape.Kind.TheVariants.{Message}
+use Rattle.pbx_content.specs.Encoding.{payload, content_recs}
+use Rattle.pbx_content.specs.Meaning.{parts_meaning_of}
+use Rattle.pbx_content.specs.Same.{DecodesParts}
+use Rattle.pbx_content.specs.Faults.{IsFaultOfParts}
+use Rattle.pbx_content.specs.Sound.{depth}
 use Rattle.pbx_desc_records.specs.declared.file.FileDescriptorProto.{FileDescriptorProto}
 use Rattle.pbx_desc_encoding.specs.Content.{file_content, file_value}
 use Rattle.pbx_desc_encoding.specs.Sound.{AreOf}
-use Rattle.pbx_desc_shape.specs.DescriptorShape.{descriptor_shape}
+use Rattle.pbx_desc_shapes.specs.DescriptorShape.{descriptor_shape}
 
 -- what bytes mean as a FileDescriptorSet
 abbrev pub set_meaning_of : List ℕ → Option Content

@@ -2,7 +2,7 @@
 use Rattle.std.specs.Prelude.{ℕ, List, Bool, not, ◌&&◌, ◌==◌}
 use Rattle.pbx_wire.specs.Text.{is_numbered}
 use Rattle.pbx_wire.specs.declared.rec.Rec.{Rec}
-use Rattle.pbx_meaning.specs.Records.{number_of, any}
+use Rattle.pbx_content.specs.Records.{number_of, any}
 
 -- the record has one of the numbers
 abbrev pub has_one_of : List ℕ → Rec → Bool

@@ -2,23 +2,23 @@ ghost use Rattle.std.specs.Prelude.{◌≡◌, ℕ, [], true, filter, map, IfOk,
 ghost use Rattle.std.specs.Int.{w32};
 ghost use Rattle.std.specs.Int.RustNames.{FitsSigned};
 ghost use Rattle.pbx_wire.specs.Text.{are_fit};
-ghost use Rattle.pbx_number_map.specs.Entries.{IsAscending};
-ghost use Rattle.pbx_meaning.specs.declared.shape.Cardinality.TheVariants.{Singular, Repeated};
-ghost use Rattle.pbx_meaning.specs.declared.shape.Kind.{Kind};
-ghost use Rattle.pbx_meaning.specs.declared.shape.Kind.TheVariants as kind;
-ghost use Rattle.pbx_meaning.specs.Content.{Content, content as content_from, message, number as number_val, text as text_val};
-ghost use Rattle.pbx_meaning.specs.Shape.{fields_of};
-ghost use Rattle.pbx_codec.specs.View.{content_of, val_of};
-ghost use Rattle.pbx_desc_shape.specs.DescriptorShape.{descriptor_shape};
+ghost use Rattle.pbx_content_map.specs.Entries.{IsAscending};
+ghost use Rattle.pbx_content.specs.declared.shape.Cardinality.TheVariants.{Singular, Repeated};
+ghost use Rattle.pbx_content.specs.declared.shape.Kind.{Kind};
+ghost use Rattle.pbx_content.specs.declared.shape.Kind.TheVariants as kind;
+ghost use Rattle.pbx_content.specs.Content.{Content, content as content_from, message, number as number_val, text as text_val};
+ghost use Rattle.pbx_content.specs.Shape.{fields_of};
+ghost use Rattle.pbx_content_codec.specs.View.{content_of, val_of};
+ghost use Rattle.pbx_desc_shapes.specs.DescriptorShape.{descriptor_shape};
 ghost use Rattle.pbx_desc_encoding.specs.Building.{entries, Puts, Holds};
 ghost use Rattle.pbx_desc_encoding.specs.Content.{of_text, of_number, of_truth, of_texts, of_numbers, of_record, of_records, of_options, listed};
 ghost use Rattle.pbx_desc_encoding.specs.Sound.{AreOf};
 ghost use Rattle.pbx_desc_encoding.specs.Unknown.{is_writable_beside};
 
 use crate::unknown::writable;
-use pbx_codec::{Contents, Held};
+use pbx_content_codec::{Contents, Held};
+use pbx_content_map::NumberMap;
 use pbx_desc_records::Options;
-use pbx_number_map::NumberMap;
 use pbx_wire::{List, NoMemory, Recs, Text, Texts};
 use std::alloc::Global;
 

@@ -1,16 +1,16 @@
 ghost use Rattle.std.specs.Prelude.{◌≡◌, ◌≤◌, ℕ, IfOk};
-ghost use Rattle.pbx_meaning.specs.Content.{Content};
-ghost use Rattle.pbx_meaning.specs.declared.shape.Shape.{Shape};
-ghost use Rattle.pbx_meaning.specs.Encoding.{encoded};
-ghost use Rattle.pbx_meaning.specs.Same.{Decodes, DecodesParts};
-ghost use Rattle.pbx_meaning.specs.Sound.{IsSound, PartsFit, depth};
-ghost use Rattle.pbx_codec.specs.View.{content_of};
-ghost use Rattle.pbx_desc_shape.specs.DescriptorShape.{descriptor_shape as descriptor_shape_of};
+ghost use Rattle.pbx_content.specs.Content.{Content};
+ghost use Rattle.pbx_content.specs.declared.shape.Shape.{Shape};
+ghost use Rattle.pbx_content.specs.Encoding.{encoded};
+ghost use Rattle.pbx_content.specs.Same.{Decodes, DecodesParts};
+ghost use Rattle.pbx_content.specs.Sound.{IsSound, PartsFit, depth};
+ghost use Rattle.pbx_content_codec.specs.View.{content_of};
+ghost use Rattle.pbx_desc_shapes.specs.DescriptorShape.{descriptor_shape as descriptor_shape_of};
 
 use crate::contents::HasContents;
-use pbx_codec::{Contents, encode};
-use pbx_desc_shape::descriptor_shape;
-use pbx_meaning::encoding_decodes;
+use pbx_content::encoding_decodes;
+use pbx_content_codec::{Contents, encode};
+use pbx_desc_shapes::descriptor_shape;
 use pbx_wire::{Blob, NoMemory};
 use std::alloc::Global;
 

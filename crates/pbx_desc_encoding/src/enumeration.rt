@@ -1,14 +1,14 @@
-ghost use Rattle.pbx_desc_shape.specs.DescriptorShape.{descriptor_shape};
+ghost use Rattle.pbx_desc_shapes.specs.DescriptorShape.{descriptor_shape};
 ghost use Rattle.pbx_desc_encoding.specs.Content.{enum_content, enum_reserved_range_content, enum_value_content};
 
 use crate::contents::{FieldList, HasContents};
 use crate::encoding::{Message, record_bytes};
 use crate::parts::{Put, put_by_content, put_each, put_each_by_content};
 use crate::values::{put_number, put_options, put_text, put_texts};
-use pbx_codec::Contents;
+use pbx_content::Schema;
+use pbx_content_codec::Contents;
 use pbx_desc_records::{EnumDescriptorProto, EnumReservedRange, EnumValueDescriptorProto};
-use pbx_desc_shape::descriptor_place as place;
-use pbx_meaning::Schema;
+use pbx_desc_shapes::descriptor_place as place;
 use pbx_wire::NoMemory;
 use std::alloc::Global;
 

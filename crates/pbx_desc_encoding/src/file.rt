@@ -1,17 +1,17 @@
 ghost use Rattle.std.specs.Prelude.{◌≡◌, IfOk, OnOk};
-ghost use Rattle.pbx_meaning.specs.Sound.{IsSound};
-ghost use Rattle.pbx_codec.specs.View.{content_of};
-ghost use Rattle.pbx_desc_shape.specs.DescriptorShape.{descriptor_shape as descriptor_shape_of};
+ghost use Rattle.pbx_content.specs.Sound.{IsSound};
+ghost use Rattle.pbx_content_codec.specs.View.{content_of};
+ghost use Rattle.pbx_desc_shapes.specs.DescriptorShape.{descriptor_shape as descriptor_shape_of};
 ghost use Rattle.pbx_desc_encoding.specs.Building.{IsWritten};
 ghost use Rattle.pbx_desc_encoding.specs.Content.{file_set_content, file_content};
 
 use crate::contents::{FieldList, HasContents};
 use crate::encoding::{Message, record_bytes};
 use crate::parts::{put_each, put_each_by_content, put_fields, put_source};
-use pbx_codec::Contents;
+use pbx_content::{Schema, encoding_decodes};
+use pbx_content_codec::Contents;
 use pbx_desc_records::{FileDescriptorProto, FileDescriptorSet};
-use pbx_desc_shape::{descriptor_place as place, descriptor_shape};
-use pbx_meaning::{Schema, encoding_decodes};
+use pbx_desc_shapes::{descriptor_place as place, descriptor_shape};
 use pbx_wire::{NoMemory, Recs};
 use std::alloc::Global;
 

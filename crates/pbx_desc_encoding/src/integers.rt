@@ -1,13 +1,13 @@
 ghost use Rattle.std.specs.Prelude.{pos};
-ghost use Rattle.pbx_meaning.specs.Content.{number};
-ghost use Rattle.pbx_types_shape.specs.TypesShape.{types_shape};
-ghost use Rattle.pbx_wrappers.specs.Scalars.{wrapper_content};
+ghost use Rattle.pbx_content.specs.Content.{number};
+ghost use Rattle.pbx_desc_shapes.specs.TypesShape.{types_shape};
+ghost use Rattle.pbx_desc_wrappers.specs.Scalars.{wrapper_content};
 
 use crate::encoding::Message;
-use pbx_codec::Held;
-use pbx_types_shape::well_known_place as place;
+use pbx_content_codec::Held;
+use pbx_desc_shapes::well_known_place as place;
+use pbx_desc_wrappers::wrapper_bytes;
 use pbx_wire::NoMemory;
-use pbx_wrappers::wrapper_bytes;
 use std::alloc::Global;
 
 /// `google.protobuf.Int32Value`.

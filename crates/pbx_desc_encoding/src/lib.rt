@@ -32,5 +32,5 @@ pub use pbx_desc_records::{
     MethodDescriptorProto, OneofDescriptorProto, Options, ReservedRange, ServiceDescriptorProto,
     SourceCodeInfo,
 };
-pub use pbx_desc_shape::descriptor_shape;
+pub use pbx_desc_shapes::descriptor_shape;
 pub use set::FileSet;

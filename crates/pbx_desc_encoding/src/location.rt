@@ -2,19 +2,19 @@
 // appended.
 
 ghost use Rattle.std.specs.Prelude.{◌≡◌, ◌++◌, map, OnOk};
-ghost use Rattle.pbx_meaning.specs.declared.shape.Cardinality.TheVariants.{Repeated};
-ghost use Rattle.pbx_meaning.specs.declared.shape.Kind.TheVariants as kind;
-ghost use Rattle.pbx_meaning.specs.Content.{number as number_val, vals_of};
-ghost use Rattle.pbx_meaning.specs.Encoding.{packed_text};
-ghost use Rattle.pbx_desc_shape.specs.DescriptorShape.{descriptor_shape};
+ghost use Rattle.pbx_content.specs.declared.shape.Cardinality.TheVariants.{Repeated};
+ghost use Rattle.pbx_content.specs.declared.shape.Kind.TheVariants as kind;
+ghost use Rattle.pbx_content.specs.Content.{number as number_val, vals_of};
+ghost use Rattle.pbx_content.specs.Encoding.{packed_text};
+ghost use Rattle.pbx_desc_shapes.specs.DescriptorShape.{descriptor_shape};
 ghost use Rattle.pbx_desc_encoding.specs.Building.{Writes, WritesPacked, IsWritten};
 ghost use Rattle.pbx_desc_encoding.specs.Content.{of_numbers, of_records, location_content};
 ghost use Rattle.pbx_desc_encoding.specs.Sound.{AreOf};
 
 use crate::parts::{put_by_content, put_payload, put_varint};
 use crate::values::{put_text, put_texts, wire_number};
+use pbx_content::Schema;
 use pbx_desc_records::Location;
-use pbx_meaning::Schema;
 use pbx_wire::{List, NoMemory};
 use std::alloc::Global;
 

@@ -1,9 +1,9 @@
 ghost use Rattle.std.specs.Prelude.{◌≡◌, map, IfOk, OnOk};
-ghost use Rattle.pbx_meaning.specs.declared.shape.Cardinality.TheVariants.{Repeated};
-ghost use Rattle.pbx_meaning.specs.declared.shape.Kind.TheVariants as kind;
-ghost use Rattle.pbx_meaning.specs.Content.{message};
-ghost use Rattle.pbx_codec.specs.View.{val_of};
-ghost use Rattle.pbx_desc_shape.specs.DescriptorShape.{descriptor_shape};
+ghost use Rattle.pbx_content.specs.declared.shape.Cardinality.TheVariants.{Repeated};
+ghost use Rattle.pbx_content.specs.declared.shape.Kind.TheVariants as kind;
+ghost use Rattle.pbx_content.specs.Content.{message};
+ghost use Rattle.pbx_content_codec.specs.View.{val_of};
+ghost use Rattle.pbx_desc_shapes.specs.DescriptorShape.{descriptor_shape};
 ghost use Rattle.pbx_desc_records.specs.declared.message.DescriptorProto.{out-DescriptorProto};
 ghost use Rattle.pbx_desc_encoding.specs.Building.{Holds, Writes, IsWritten};
 ghost use Rattle.pbx_desc_encoding.specs.Sound.{AreOf};
@@ -13,10 +13,10 @@ use crate::contents::{FieldList, HasContents};
 use crate::encoding::{Message, record_bytes};
 use crate::parts::{Put, put_contents, put_each, put_each_by_content, put_payload};
 use crate::values::{put_options, put_text, put_texts};
-use pbx_codec::{Contents, Held};
+use pbx_content::Schema;
+use pbx_content_codec::{Contents, Held};
 use pbx_desc_records::{DescriptorProto, ExtensionRange, ReservedRange};
-use pbx_desc_shape::descriptor_place as place;
-use pbx_meaning::Schema;
+use pbx_desc_shapes::descriptor_place as place;
 use pbx_wire::{List, NoMemory};
 use std::alloc::Global;
 

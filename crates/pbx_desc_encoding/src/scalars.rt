@@ -1,14 +1,14 @@
 ghost use Rattle.std.specs.Prelude.{string_bytes};
-ghost use Rattle.pbx_meaning.specs.Content.{empty, truth, text as text_val, octets};
-ghost use Rattle.pbx_types_shape.specs.TypesShape.{types_shape as types_shape_of};
-ghost use Rattle.pbx_wrappers.specs.Scalars.{wrapper_content};
+ghost use Rattle.pbx_content.specs.Content.{empty, truth, text as text_val, octets};
+ghost use Rattle.pbx_desc_shapes.specs.TypesShape.{types_shape as types_shape_of};
+ghost use Rattle.pbx_desc_wrappers.specs.Scalars.{wrapper_content};
 
 use crate::encoding::Message;
 use bytes::Bytes;
-use pbx_codec::{Contents, Held};
-use pbx_types_shape::{types_shape, well_known_place as place};
+use pbx_content_codec::{Contents, Held};
+use pbx_desc_shapes::{types_shape, well_known_place as place};
+use pbx_desc_wrappers::{contents_bytes, wrapper_bytes};
 use pbx_wire::{NoMemory, Text};
-use pbx_wrappers::{contents_bytes, wrapper_bytes};
 use std::alloc::Global;
 
 /// `google.protobuf.Empty`.

@@ -1,11 +1,11 @@
-ghost use Rattle.pbx_desc_shape.specs.DescriptorShape.{descriptor_shape};
+ghost use Rattle.pbx_desc_shapes.specs.DescriptorShape.{descriptor_shape};
 ghost use Rattle.pbx_desc_encoding.specs.Content.{service_content, method_content};
 
 use crate::contents::{FieldList, HasContents};
 use crate::encoding::{Message, record_bytes};
-use pbx_codec::Contents;
+use pbx_content_codec::Contents;
 use pbx_desc_records::{MethodDescriptorProto, ServiceDescriptorProto};
-use pbx_desc_shape::descriptor_place as place;
+use pbx_desc_shapes::descriptor_place as place;
 use pbx_wire::NoMemory;
 use std::alloc::Global;
 

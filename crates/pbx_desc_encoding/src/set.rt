@@ -1,10 +1,10 @@
 ghost use Rattle.std.specs.Prelude.{◌≡◌, ◌+◌, ◌≤◌, [], ◌∷◌, ◌++◌, Some, None, if◌then◌else◌, position, List as ListOf, IfOk, OnOk};
 ghost use Rattle.std.specs.Option.{option_or};
 ghost use Rattle.pbx_wire.specs.Text.{text as text_of_rec};
-ghost use Rattle.pbx_meaning.specs.Encoding.{encoded, payload, content_recs};
-ghost use Rattle.pbx_meaning.specs.Same.{Decodes};
-ghost use Rattle.pbx_meaning.specs.Sound.{depth as depth_of, IsSound, PartsFit};
-ghost use Rattle.pbx_desc_shape.specs.DescriptorShape.{descriptor_shape as descriptor_shape_of};
+ghost use Rattle.pbx_content.specs.Encoding.{encoded, payload, content_recs};
+ghost use Rattle.pbx_content.specs.Same.{Decodes};
+ghost use Rattle.pbx_content.specs.Sound.{depth as depth_of, IsSound, PartsFit};
+ghost use Rattle.pbx_desc_shapes.specs.DescriptorShape.{descriptor_shape as descriptor_shape_of};
 ghost use Rattle.pbx_desc_records.specs.declared.file.FileDescriptorProto.{FileDescriptorProto as AFile};
 ghost use Rattle.pbx_desc_encoding.specs.Building.{IsWritten};
 ghost use Rattle.pbx_desc_encoding.specs.Content.{file_content, files_content};
@@ -14,10 +14,10 @@ use crate::contents::{FieldList, HasContents};
 use crate::file::write_file;
 use crate::levels::is_shallow;
 use crate::parts::{put_fields, put_payload};
-use pbx_codec::depth;
+use pbx_content::{Schema, encoding_decodes};
+use pbx_content_codec::depth;
 use pbx_desc_records::FileDescriptorProto;
-use pbx_desc_shape::{descriptor_place as place, descriptor_shape};
-use pbx_meaning::{Schema, encoding_decodes};
+use pbx_desc_shapes::{descriptor_place as place, descriptor_shape};
 use pbx_wire::{NoMemory, Recs};
 use std::alloc::Global;
 use std::marker::Model;
@@ -33,7 +33,7 @@ pub struct FileSet {
 
 impl Model for FileSet {
     ghost use Rattle.std.specs.Prelude.{◌≡◌};
-    ghost use Rattle.pbx_desc_shape.specs.DescriptorShape.{descriptor_shape};
+    ghost use Rattle.pbx_desc_shapes.specs.DescriptorShape.{descriptor_shape};
     ghost use Rattle.pbx_desc_encoding.specs.Sets.{SetText};
 
     ghost Value = { SetText };

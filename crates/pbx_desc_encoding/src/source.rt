@@ -1,5 +1,5 @@
 ghost use Rattle.std.specs.Prelude.{◌≡◌, OnOk};
-ghost use Rattle.pbx_desc_shape.specs.DescriptorShape.{descriptor_shape as descriptor_shape_of};
+ghost use Rattle.pbx_desc_shapes.specs.DescriptorShape.{descriptor_shape as descriptor_shape_of};
 ghost use Rattle.pbx_desc_encoding.specs.Building.{IsWritten};
 ghost use Rattle.pbx_desc_encoding.specs.Content.{source_code_info_content, location_content};
 
@@ -7,10 +7,10 @@ use crate::contents::{FieldList, HasContents};
 use crate::encoding::{Message, record_bytes};
 use crate::location::put_locations;
 use crate::parts::put_fields;
-use pbx_codec::Contents;
+use pbx_content::{Schema, encoding_decodes};
+use pbx_content_codec::Contents;
 use pbx_desc_records::{Location, SourceCodeInfo};
-use pbx_desc_shape::{descriptor_place as place, descriptor_shape};
-use pbx_meaning::{Schema, encoding_decodes};
+use pbx_desc_shapes::{descriptor_place as place, descriptor_shape};
 use pbx_wire::NoMemory;
 use std::alloc::Global;
 

@@ -1,6 +1,6 @@
 ghost use Rattle.std.specs.Prelude.{◌≡◌, ◌^◌, nat_lt, filter, IsTrue, IfOk};
 ghost use Rattle.pbx_wire.specs.Text.{is_record_number as is_number_of, is_numbered as is_numbered_of, are_numbered as are_numbered_of, is_fit, are_fit};
-ghost use Rattle.pbx_meaning.specs.Records.{number_of};
+ghost use Rattle.pbx_content.specs.Records.{number_of};
 ghost use Rattle.pbx_desc_encoding.specs.Unknown.{has_one_of, is_writable_beside};
 
 use pbx_wire::{NoMemory, Rec, Recs};

@@ -6,20 +6,20 @@ ghost use Rattle.std.specs.Int.{w32};
 ghost use Rattle.std.specs.Int.RustNames.{FitsSigned};
 ghost use Rattle.pbx_wire.specs.Text.{text as text_of_rec};
 ghost use Rattle.pbx_wire.specs.declared.rec.Rec.TheVariants as rec;
-ghost use Rattle.pbx_meaning.specs.declared.shape.Cardinality.TheVariants.{Singular, Repeated};
-ghost use Rattle.pbx_meaning.specs.declared.shape.Kind.TheVariants as kind;
-ghost use Rattle.pbx_meaning.specs.Content.{number as number_val, truth};
-ghost use Rattle.pbx_meaning.specs.Encoding.{numeral};
-ghost use Rattle.pbx_meaning.specs.Shape.{fields_of};
-ghost use Rattle.pbx_desc_shape.specs.DescriptorShape.{descriptor_shape};
+ghost use Rattle.pbx_content.specs.declared.shape.Cardinality.TheVariants.{Singular, Repeated};
+ghost use Rattle.pbx_content.specs.declared.shape.Kind.TheVariants as kind;
+ghost use Rattle.pbx_content.specs.Content.{number as number_val, truth};
+ghost use Rattle.pbx_content.specs.Encoding.{numeral};
+ghost use Rattle.pbx_content.specs.Shape.{fields_of};
+ghost use Rattle.pbx_desc_shapes.specs.DescriptorShape.{descriptor_shape};
 ghost use Rattle.pbx_desc_encoding.specs.Building.{Writes};
 ghost use Rattle.pbx_desc_encoding.specs.Content.{of_text, of_texts, of_number, of_truth, of_options};
 
 use crate::contents::FieldList;
 use crate::parts::{put_payload, put_varint};
-use pbx_codec::encode;
+use pbx_content::Schema;
+use pbx_content_codec::encode;
 use pbx_desc_records::Options;
-use pbx_meaning::Schema;
 use pbx_wire::{NoMemory, Text, Texts};
 use std::alloc::Global;
 

@@ -11,11 +11,10 @@ pub use message::JsonMessage;
 pub use names::check_names;
 // The laws that callers need to go from one of these calls to another.
 pub use pbx_json_laws::{
-    canonical_stands, canonical_without_fault, fitting_is_written, stands_sound,
-    stands_without_fault, values_have_texts,
+    canonical_stands, canonical_without_fault, fitting_is_written, shapes_are_well_named,
+    stands_sound, stands_without_fault, values_have_texts,
 };
 pub use pbx_json_meaning::{
     DeserializeOptions, JsonError, JsonKind, NameFault, Place, SerializeOptions, Step,
     canonical_is_plain, first_fault_is_one_place, read_when_allowed, stands_for_one,
 };
-pub use pbx_json_shape_laws::shapes_are_well_named;

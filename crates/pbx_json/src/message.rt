@@ -1,8 +1,8 @@
 ghost use Rattle.std.specs.Prelude.{◌≡◌, IfOk, IfErr};
 ghost use Rattle.serde_json.specs.View.{view};
-ghost use Rattle.pbx_meaning.specs.Content.{Content};
+ghost use Rattle.pbx_content.specs.Content.{Content};
 ghost use Rattle.pbx_desc_records.specs.declared.message.DescriptorProto.{DescriptorProto};
-ghost use Rattle.pbx_described.specs.Descriptors.{Described};
+ghost use Rattle.pbx_link_meaning.specs.Descriptors.{Described};
 ghost use Rattle.pbx_json_meaning.specs.Options.{default_reading, default_writing};
 ghost use Rattle.pbx_message_dynamic.specs.Trees.{IsRead, IsReadFault, IsUnread, IsWritten, IsWriteFault, IsUnwritten};
 

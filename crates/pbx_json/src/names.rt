@@ -1,9 +1,9 @@
 ghost use Rattle.std.specs.Prelude.{◌≡◌, ◌⊎◌, Some, None, false, OnOk, IfErr};
-ghost use Rattle.pbx_described.specs.Shapes.{shape_of};
+ghost use Rattle.pbx_link_meaning.specs.Shapes.{shape_of};
 ghost use Rattle.pbx_json_meaning.specs.Clash.{name_fault};
 
+use pbx_json_check_names::first_fault;
 use pbx_json_meaning::NameFault;
-use pbx_json_names::first_fault;
 use pbx_link::DescriptorPool;
 use pbx_wire::NoMemory;
 use std::alloc::Global;

@@ -2,19 +2,19 @@
 use Rattle.std.proofs.Common.{◌≡◌, inl, inr, ℕ, List, [], ◌∷◌, map as map_list, Bool, true, false, Option, Some, None, option_map, option_and_then, refl, ap, sym, ◌∙◌, subst}
 use Rattle.pbx_wire.specs.declared.rec.Rec.{Rec}
 use Rattle.serde_json.specs.Data.{Data, array, object, item, Members, no_members, member}
-use Rattle.pbx_meaning.specs.Content as content
-use Rattle.pbx_meaning.specs.Content.{Content, Fields, Val, Vals, Pairs, Key, vals_of, get}
-use Rattle.pbx_meaning.specs.Encoding.{type_of, encoded}
-use Rattle.pbx_meaning.specs.Meaning.{is_default}
-use Rattle.pbx_meaning.specs.Shape.{declared_of, field_of, is_float}
-use Rattle.pbx_meaning.specs.Sound.{IsProper}
-use Rattle.pbx_meaning.specs.declared.shape.Kind.{Kind}
-use Rattle.pbx_meaning.specs.declared.shape.Kind.TheVariants as kind
-use Rattle.pbx_meaning.specs.declared.shape.FieldShape.{FieldShape}
-use Rattle.pbx_meaning.specs.declared.shape.Shape.{Shape}
-use Rattle.pbx_well_known.specs.Shapes.{form_of}
-use Rattle.pbx_well_known.specs.declared.form.Form.{Form}
-use Rattle.pbx_well_known.specs.declared.form.Form.TheVariants as forms
+use Rattle.pbx_content.specs.Content as content
+use Rattle.pbx_content.specs.Content.{Content, Fields, Val, Vals, Pairs, Key, vals_of, get}
+use Rattle.pbx_content.specs.Encoding.{type_of, encoded}
+use Rattle.pbx_content.specs.Meaning.{is_default}
+use Rattle.pbx_content.specs.Shape.{declared_of, field_of, is_float}
+use Rattle.pbx_content.specs.Sound.{IsProper}
+use Rattle.pbx_content.specs.declared.shape.Kind.{Kind}
+use Rattle.pbx_content.specs.declared.shape.Kind.TheVariants as kind
+use Rattle.pbx_content.specs.declared.shape.FieldShape.{FieldShape}
+use Rattle.pbx_content.specs.declared.shape.Shape.{Shape}
+use Rattle.pbx_wkt_types.specs.Shapes.{form_of}
+use Rattle.pbx_wkt_types.specs.declared.form.Form.{Form}
+use Rattle.pbx_wkt_types.specs.declared.form.Form.TheVariants as forms
 use Rattle.pbx_json_meaning.specs.Forms.{is_object_form, skips, kind_in as kind_of}
 use Rattle.pbx_json_meaning.specs.Asked.{field, one, Target, single, list, map, target_by}
 use Rattle.pbx_json_meaning.specs.Names.{field_named}

@@ -7,16 +7,16 @@ use Rattle.std.specs.Str.{bytes_eq}
 use Rattle.std.proofs.lemmas.Slice.Eq.{bytes_eq-Decides}
 use Rattle.serde_json.specs.Data.{Data, null, boolean, number, string, array, object, Members, no_members, member, put}
 use Rattle.serde_json.specs.Find.{get_member, as_str}
-use Rattle.pbx_meaning.specs.Content as content
-use Rattle.pbx_meaning.specs.Content.{Content, Fields, fields, Val, get}
-use Rattle.pbx_meaning.specs.Encoding.{encoded}
-use Rattle.pbx_meaning.specs.Shape.{declared_of, fields_of, field_of}
-use Rattle.pbx_meaning.specs.declared.shape.Kind.TheVariants as kind
-use Rattle.pbx_meaning.specs.declared.shape.FieldShape.{FieldShape}
-use Rattle.pbx_meaning.specs.declared.shape.Shape.{Shape}
-use Rattle.pbx_well_known.specs.Shapes.{form_of}
-use Rattle.pbx_well_known.specs.declared.form.Form.TheVariants as forms
-use Rattle.pbx_well_known.proofs.Forms.{HasPayload, any_fields}
+use Rattle.pbx_content.specs.Content as content
+use Rattle.pbx_content.specs.Content.{Content, Fields, fields, Val, get}
+use Rattle.pbx_content.specs.Encoding.{encoded}
+use Rattle.pbx_content.specs.Shape.{declared_of, fields_of, field_of}
+use Rattle.pbx_content.specs.declared.shape.Kind.TheVariants as kind
+use Rattle.pbx_content.specs.declared.shape.FieldShape.{FieldShape}
+use Rattle.pbx_content.specs.declared.shape.Shape.{Shape}
+use Rattle.pbx_wkt_types.specs.Shapes.{form_of}
+use Rattle.pbx_wkt_types.specs.declared.form.Form.TheVariants as forms
+use Rattle.pbx_wkt_types.proofs.Forms.{HasPayload, any_fields}
 use Rattle.pbx_json_meaning.specs.Asked.{has_presence, one}
 use Rattle.pbx_json_meaning.specs.Canonical.{Writing, form_tree, fields_tell, object_tree, has_key, with_member, with_type, type_and_value, any_with, payload_in, any_tree}
 use Rattle.pbx_json_meaning.specs.Forms.{is_object_form, skips, shown_at, packed, payload_read, typed_read, members_read, beside, under, form_read, text_at, bytes_at}

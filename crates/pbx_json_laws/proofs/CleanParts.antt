@@ -5,12 +5,12 @@ use Rattle.std.specs.List.{list_all}
 use Rattle.std.proofs.lemmas.Bool.Decides.{nat_tests}
 use Rattle.serde_json.specs.Data.{Data, Members, no_members, member}
 use Rattle.serde_json.specs.Find.{get_member}
-use Rattle.pbx_meaning.specs.Content as content
-use Rattle.pbx_meaning.specs.Content.{Content, Fields, Val, Key as MapKey, get, has}
-use Rattle.pbx_meaning.specs.Shape.{is_other}
-use Rattle.pbx_meaning.specs.Sound.{AreProper, has_one_member}
-use Rattle.pbx_meaning.specs.declared.shape.FieldShape.{FieldShape}
-use Rattle.pbx_meaning.specs.declared.shape.Shape.{Shape}
+use Rattle.pbx_content.specs.Content as content
+use Rattle.pbx_content.specs.Content.{Content, Fields, Val, Key as MapKey, get, has}
+use Rattle.pbx_content.specs.Shape.{is_other}
+use Rattle.pbx_content.specs.Sound.{AreProper, has_one_member}
+use Rattle.pbx_content.specs.declared.shape.FieldShape.{FieldShape}
+use Rattle.pbx_content.specs.declared.shape.Shape.{Shape}
 use Rattle.pbx_json_meaning.specs.Asked.{Asked, field}
 use Rattle.pbx_json_meaning.specs.Faults.{Inside, members, into, is_same_field, is_second_key, is_value, has_value, is_rival_with_value}
 use Rattle.pbx_json_meaning.specs.Faults.{is_second_member, KeyBreaks, IsKeyFault, SomeWith}

@@ -6,20 +6,20 @@ use Rattle.std.specs.Str.{bytes_eq}
 use Rattle.std.proofs.lemmas.Bool.Decides.{Decides-int_eq}
 use Rattle.base64.specs.GeneralPurpose.{IsBytes}
 use Rattle.serde_json.specs.Data.{Data, null, array, object, no_items, no_members}
-use Rattle.pbx_meaning.specs.Content.{Fields, Val, get}
-use Rattle.pbx_meaning.specs.Meaning.{shown, is_default, zero_of}
-use Rattle.pbx_meaning.specs.Shape.{is_float, first_number}
-use Rattle.pbx_meaning.specs.Sound.{IsProper}
-use Rattle.pbx_meaning.specs.declared.shape.Kind.{Kind}
-use Rattle.pbx_meaning.specs.declared.shape.Kind.TheVariants as kind
-use Rattle.pbx_meaning.specs.declared.shape.Cardinality.{Cardinality}
-use Rattle.pbx_meaning.specs.declared.shape.Cardinality.TheVariants.{Singular, Repeated, Map}
-use Rattle.pbx_meaning.specs.declared.shape.FieldShape.{FieldShape}
-use Rattle.pbx_meaning.specs.declared.shape.Shape.{Shape}
+use Rattle.pbx_content.specs.Content.{Fields, Val, get}
+use Rattle.pbx_content.specs.Meaning.{shown, is_default, zero_of}
+use Rattle.pbx_content.specs.Shape.{is_float, first_number}
+use Rattle.pbx_content.specs.Sound.{IsProper}
+use Rattle.pbx_content.specs.declared.shape.Kind.{Kind}
+use Rattle.pbx_content.specs.declared.shape.Kind.TheVariants as kind
+use Rattle.pbx_content.specs.declared.shape.Cardinality.{Cardinality}
+use Rattle.pbx_content.specs.declared.shape.Cardinality.TheVariants.{Singular, Repeated, Map}
+use Rattle.pbx_content.specs.declared.shape.FieldShape.{FieldShape}
+use Rattle.pbx_content.specs.declared.shape.Shape.{Shape}
 use Rattle.pbx_json_meaning.specs.Asked.{field, Target, single, list, map, target_by, has_presence, presence_by}
 use Rattle.pbx_json_meaning.specs.Canonical.{Writing, is_written_default, default_tree, default_by}
 use Rattle.pbx_json_meaning.specs.Named.{IsWellNamed}
-use Rattle.pbx_well_known.specs.Types.{enum_name}
+use Rattle.pbx_wkt_types.specs.Types.{enum_name}
 use Rattle.pbx_json_meaning.specs.Stands.{ok_of, is_there, said}
 use Rattle.pbx_json_laws.proofs.Fits.{IsNull}
 use Rattle.pbx_json_laws.proofs.ScalarsBack.{ScalarBack, number_back, truth_back, text_as_is, bytes_back, no_null}

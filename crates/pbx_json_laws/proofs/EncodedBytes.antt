@@ -10,19 +10,19 @@ use Rattle.pbx_wire.specs.Varint.{varint_within, varint}
 use Rattle.pbx_wire.specs.declared.rec.Rec.{Rec}
 use Rattle.pbx_wire.specs.declared.rec.Rec.TheVariants as rec
 use Rattle.pbx_wire.proofs.Texts.{varint_text, fixed64_text, bytes_text, fixed32_text}
-use Rattle.pbx_meaning.specs.Content as content
-use Rattle.pbx_meaning.specs.Content.{Content, Fields, Val, Vals, Pairs, Key, truth_key, number_key, text_key}
-use Rattle.pbx_meaning.specs.Encoding.{number_text, packed_text, is_packed, numeral, number_rec, payload, key_rec, truth_number, wire_number, type_of, keys_of}
-use Rattle.pbx_meaning.specs.Encoding.{with_kept, content_recs, fields_recs, field_recs, vals_recs, pairs_recs, val_rec, encoded}
-use Rattle.pbx_meaning.specs.Records.{number_of, insert, sorted}
-use Rattle.pbx_meaning.specs.Shape.{declared_of, by_number, fields_of, field_of, keeps_order_of, Form, as_varint, as_four, as_eight, as_payload, form_of}
-use Rattle.pbx_meaning.specs.Sound.{IsKeyOf}
-use Rattle.pbx_meaning.specs.declared.shape.Kind.{Kind}
-use Rattle.pbx_meaning.specs.declared.shape.Kind.TheVariants as kind
-use Rattle.pbx_meaning.specs.declared.shape.Cardinality.{Cardinality}
-use Rattle.pbx_meaning.specs.declared.shape.Cardinality.TheVariants.{Singular, Repeated, Map}
-use Rattle.pbx_meaning.specs.declared.shape.FieldShape.{FieldShape}
-use Rattle.pbx_meaning.specs.declared.shape.Shape.{Shape}
+use Rattle.pbx_content.specs.Content as content
+use Rattle.pbx_content.specs.Content.{Content, Fields, Val, Vals, Pairs, Key, truth_key, number_key, text_key}
+use Rattle.pbx_content.specs.Encoding.{number_text, packed_text, is_packed, numeral, number_rec, payload, key_rec, truth_number, wire_number, type_of, keys_of}
+use Rattle.pbx_content.specs.Encoding.{with_kept, content_recs, fields_recs, field_recs, vals_recs, pairs_recs, val_rec, encoded}
+use Rattle.pbx_content.specs.Records.{number_of, insert, sorted}
+use Rattle.pbx_content.specs.Shape.{declared_of, by_number, fields_of, field_of, keeps_order_of, Form, as_varint, as_four, as_eight, as_payload, form_of}
+use Rattle.pbx_content.specs.Sound.{IsKeyOf}
+use Rattle.pbx_content.specs.declared.shape.Kind.{Kind}
+use Rattle.pbx_content.specs.declared.shape.Kind.TheVariants as kind
+use Rattle.pbx_content.specs.declared.shape.Cardinality.{Cardinality}
+use Rattle.pbx_content.specs.declared.shape.Cardinality.TheVariants.{Singular, Repeated, Map}
+use Rattle.pbx_content.specs.declared.shape.FieldShape.{FieldShape}
+use Rattle.pbx_content.specs.declared.shape.Shape.{Shape}
 use Rattle.pbx_json_meaning.specs.Asked.{single, target_by}
 use Rattle.pbx_json_laws.proofs.FitBytes.{AreBelow, bytes_below}
 use Rattle.pbx_json_laws.proofs.Fits.{Fits, FitsAs, FieldsFit, AllFit, PairsFit, FitsOption}

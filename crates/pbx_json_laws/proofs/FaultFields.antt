@@ -5,12 +5,12 @@ use Rattle.std.specs.List.{list_all, list_any}
 use Rattle.std.proofs.lemmas.Bool.Decides.{nat_tests}
 use Rattle.serde_json.specs.Data.{Data, Members, no_members, member}
 use Rattle.serde_json.specs.Find.{get_member}
-use Rattle.pbx_meaning.specs.Content as content
-use Rattle.pbx_meaning.specs.Content.{Content, Fields, Val, get, has}
-use Rattle.pbx_meaning.specs.Shape.{field_of, is_other, same_oneof}
-use Rattle.pbx_meaning.specs.Sound.{AreProper, has_one_member}
-use Rattle.pbx_meaning.specs.declared.shape.FieldShape.{FieldShape}
-use Rattle.pbx_meaning.specs.declared.shape.Shape.{Shape}
+use Rattle.pbx_content.specs.Content as content
+use Rattle.pbx_content.specs.Content.{Content, Fields, Val, get, has}
+use Rattle.pbx_content.specs.Shape.{field_of, is_other, same_oneof}
+use Rattle.pbx_content.specs.Sound.{AreProper, has_one_member}
+use Rattle.pbx_content.specs.declared.shape.FieldShape.{FieldShape}
+use Rattle.pbx_content.specs.declared.shape.Shape.{Shape}
 use Rattle.pbx_json_meaning.specs.Asked.{Asked, field}
 use Rattle.pbx_json_meaning.specs.Faults.{members, into, is_same_field, is_rival_with_value, is_second_member, KeyBreaks}
 use Rattle.pbx_json_meaning.specs.Faults.{FaultAt, SomeWith}

@@ -2,15 +2,15 @@
 use Rattle.std.proofs.Common.{◌≡◌, ◌⊎◌, inl, inr, ℕ, List, [], ◌∷◌, Bool, true, false, if◌then◌else◌, Option, Some, None, option_map, refl, ap, sym, ◌∙◌, subst}
 use Rattle.std.specs.Prelude.{Result, Ok, Err}
 use Rattle.serde_json.specs.Data.{Data, null, boolean, number, string, array, object, Items, no_items, item, Members, no_members, member}
-use Rattle.pbx_meaning.specs.Content as content
-use Rattle.pbx_meaning.specs.Content.{Content, Val, vals_of}
-use Rattle.pbx_meaning.specs.Meaning.{shown}
-use Rattle.pbx_meaning.specs.Shape.{declared_of, is_float}
-use Rattle.pbx_meaning.specs.Sound.{IsProper, AreProper}
-use Rattle.pbx_meaning.specs.declared.shape.Kind.{Kind}
-use Rattle.pbx_meaning.specs.declared.shape.Kind.TheVariants as kind
-use Rattle.pbx_meaning.specs.declared.shape.FieldShape.{FieldShape}
-use Rattle.pbx_meaning.specs.declared.shape.Shape.{Shape}
+use Rattle.pbx_content.specs.Content as content
+use Rattle.pbx_content.specs.Content.{Content, Val, vals_of}
+use Rattle.pbx_content.specs.Meaning.{shown}
+use Rattle.pbx_content.specs.Shape.{declared_of, is_float}
+use Rattle.pbx_content.specs.Sound.{IsProper, AreProper}
+use Rattle.pbx_content.specs.declared.shape.Kind.{Kind}
+use Rattle.pbx_content.specs.declared.shape.Kind.TheVariants as kind
+use Rattle.pbx_content.specs.declared.shape.FieldShape.{FieldShape}
+use Rattle.pbx_content.specs.declared.shape.Shape.{Shape}
 use Rattle.pbx_json_meaning.specs.Asked.{Asked, field, one, root, Target, nothing, single, list, map, target, has_presence}
 use Rattle.pbx_json_meaning.specs.Faults.{Inside, elements, keyed, members, payload, Opened, as_leaf, object_opened, list_opened, map_opened, own_opened, message_opened, single_opened, unless_float}
 use Rattle.pbx_json_meaning.specs.Faults.{opened_as, opened, into, IsKeyFault, FaultAt, SomeWith, OkWith, JsonFault}

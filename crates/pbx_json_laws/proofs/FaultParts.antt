@@ -4,10 +4,10 @@ use Rattle.std.specs.Prelude.{not, Result, Ok, Err, codes, ℤ}
 use Rattle.std.specs.Str.{bytes_eq}
 use Rattle.serde_json.specs.Data.{Data, string, Items, no_items, item, Members, no_members, member}
 use Rattle.serde_json.specs.Find.{get_member, get_item}
-use Rattle.pbx_meaning.specs.Content as content
-use Rattle.pbx_meaning.specs.Content.{Content, Fields, Val, Key as MapKey, number_key, truth_key}
-use Rattle.pbx_meaning.specs.declared.shape.Kind.{Kind}
-use Rattle.pbx_meaning.specs.declared.shape.Shape.{Shape}
+use Rattle.pbx_content.specs.Content as content
+use Rattle.pbx_content.specs.Content.{Content, Fields, Val, Key as MapKey, number_key, truth_key}
+use Rattle.pbx_content.specs.declared.shape.Kind.{Kind}
+use Rattle.pbx_content.specs.declared.shape.Shape.{Shape}
 use Rattle.pbx_json_meaning.specs.Asked.{Asked, one}
 use Rattle.pbx_json_meaning.specs.Faults.{Inside, elements, keyed, into, reads_alike, KeyBreaks, IsKeyFault, FaultAt, SomeWith}
 use Rattle.pbx_json_meaning.specs.Scalars.{Family, integers, truths, texts, bytes_texts, floats, messages, enums, family, if_ok, or_fault, in_range, decimal_of, integer_read, word_read, key_of, key_read}

@@ -4,23 +4,23 @@ use Rattle.std.specs.List.{AllByRecursion, list_all}
 use Rattle.std.specs.Str.{is_utf8}
 use Rattle.std.proofs.lemmas.Bool.{eqb-true}
 use Rattle.std.proofs.lemmas.Bool.Decides.{nat_tests}
-use Rattle.pbx_meaning.specs.Content as content
-use Rattle.pbx_meaning.specs.Content.{Content, Fields, Val, has, vals_of, IsAscending, IsAbove}
-use Rattle.pbx_meaning.specs.Encoding.{encoded}
-use Rattle.pbx_meaning.specs.Meaning.{shown, is_default}
-use Rattle.pbx_meaning.specs.Shape.{declared_of, fields_of, field_of, is_other, same_oneof}
-use Rattle.pbx_meaning.specs.Sound.{IsProper, has_one_member}
-use Rattle.pbx_meaning.specs.declared.shape.Kind.{Kind}
-use Rattle.pbx_meaning.specs.declared.shape.Kind.TheVariants as kind
-use Rattle.pbx_meaning.specs.declared.shape.Cardinality.TheVariants.{Singular, Repeated, Map}
-use Rattle.pbx_meaning.specs.declared.shape.FieldShape.{FieldShape}
-use Rattle.pbx_meaning.specs.declared.shape.Shape.{Shape}
+use Rattle.pbx_content.specs.Content as content
+use Rattle.pbx_content.specs.Content.{Content, Fields, Val, has, vals_of, IsAscending, IsAbove}
+use Rattle.pbx_content.specs.Encoding.{encoded}
+use Rattle.pbx_content.specs.Meaning.{shown, is_default}
+use Rattle.pbx_content.specs.Shape.{declared_of, fields_of, field_of, is_other, same_oneof}
+use Rattle.pbx_content.specs.Sound.{IsProper, has_one_member}
+use Rattle.pbx_content.specs.declared.shape.Kind.{Kind}
+use Rattle.pbx_content.specs.declared.shape.Kind.TheVariants as kind
+use Rattle.pbx_content.specs.declared.shape.Cardinality.TheVariants.{Singular, Repeated, Map}
+use Rattle.pbx_content.specs.declared.shape.FieldShape.{FieldShape}
+use Rattle.pbx_content.specs.declared.shape.Shape.{Shape}
 use Rattle.base64.specs.GeneralPurpose.{IsBytes}
 use Rattle.pbx_text.proofs.MaskTexts.{AreTexts}
 use Rattle.pbx_text.proofs.Ranges.{HasBits}
-use Rattle.pbx_well_known.specs.Known.{Row, any_rows, of_value, mask_rows, seconds_and_nanos}
-use Rattle.pbx_well_known.specs.Shapes.{form_of}
-use Rattle.pbx_well_known.proofs.Declared.{HasRow}
+use Rattle.pbx_wkt_types.specs.Known.{Row, any_rows, of_value, mask_rows, seconds_and_nanos}
+use Rattle.pbx_wkt_types.specs.Shapes.{form_of}
+use Rattle.pbx_wkt_types.proofs.Declared.{HasRow}
 use Rattle.pbx_json_meaning.specs.Asked.{single, list, map, target_by, presence_by, has_presence}
 use Rattle.pbx_json_meaning.specs.Forms.{kind_in, kind_at, shown_at, with_first, filled, made, time_of, mask_of_paths, holding, packed}
 use Rattle.pbx_json_laws.proofs.FaultFields.{failing}

@@ -4,13 +4,13 @@ use Rattle.std.specs.Prelude.{Result, Ok}
 use Rattle.std.specs.Str.{is_utf8}
 use Rattle.base64.specs.GeneralPurpose.{IsBytes}
 use Rattle.serde_json.specs.Data.{Data, string}
-use Rattle.pbx_meaning.specs.Content as content
-use Rattle.pbx_meaning.specs.Content.{Val, Key, number_key, truth_key, text_key}
-use Rattle.pbx_meaning.specs.Shape.{is_key_kind}
-use Rattle.pbx_meaning.specs.Sound.{IsNumber, IsKeyOf}
-use Rattle.pbx_meaning.specs.declared.shape.Kind.{Kind}
-use Rattle.pbx_meaning.specs.declared.shape.Kind.TheVariants as kind
-use Rattle.pbx_meaning.specs.declared.shape.Shape.{Shape}
+use Rattle.pbx_content.specs.Content as content
+use Rattle.pbx_content.specs.Content.{Val, Key, number_key, truth_key, text_key}
+use Rattle.pbx_content.specs.Shape.{is_key_kind}
+use Rattle.pbx_content.specs.Sound.{IsNumber, IsKeyOf}
+use Rattle.pbx_content.specs.declared.shape.Kind.{Kind}
+use Rattle.pbx_content.specs.declared.shape.Kind.TheVariants as kind
+use Rattle.pbx_content.specs.declared.shape.Shape.{Shape}
 use Rattle.pbx_json_meaning.specs.Asked.{single}
 use Rattle.pbx_json_meaning.specs.Named.{IsWellNamed}
 use Rattle.pbx_json_meaning.specs.Scalars.{Family, integers, truths, texts, bytes_texts, floats, messages, enums, family, integer_read}

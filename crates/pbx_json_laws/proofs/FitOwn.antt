@@ -7,25 +7,25 @@ use Rattle.std.specs.List.{AllByRecursion}
 use Rattle.std.specs.Str.{is_utf8}
 use Rattle.std.proofs.lemmas.Bool.Decides.{nat_tests}
 use Rattle.serde_json.specs.Data.{Data, null, boolean, number, string, array, object}
-use Rattle.pbx_meaning.specs.Content as content
-use Rattle.pbx_meaning.specs.Content.{Content, Val}
-use Rattle.pbx_meaning.specs.Encoding.{type_of}
-use Rattle.pbx_meaning.specs.Meaning.{shown, is_default}
-use Rattle.pbx_meaning.specs.Sound.{IsProper}
-use Rattle.pbx_meaning.specs.declared.shape.Kind.{Kind}
-use Rattle.pbx_meaning.specs.declared.shape.Kind.TheVariants as kind
-use Rattle.pbx_meaning.specs.declared.shape.Shape.{Shape}
+use Rattle.pbx_content.specs.Content as content
+use Rattle.pbx_content.specs.Content.{Content, Val}
+use Rattle.pbx_content.specs.Encoding.{type_of}
+use Rattle.pbx_content.specs.Meaning.{shown, is_default}
+use Rattle.pbx_content.specs.Sound.{IsProper}
+use Rattle.pbx_content.specs.declared.shape.Kind.{Kind}
+use Rattle.pbx_content.specs.declared.shape.Kind.TheVariants as kind
+use Rattle.pbx_content.specs.declared.shape.Shape.{Shape}
 use Rattle.pbx_text.specs.Duration.{duration_read}
 use Rattle.pbx_text.specs.Mask.{mask_read}
 use Rattle.pbx_text.specs.Timestamp.{timestamp_read}
 use Rattle.pbx_text.specs.declared.fault.TextFault.{TextFault}
 use Rattle.pbx_text.proofs.MaskTexts.{mask_texts}
 use Rattle.pbx_text.proofs.Ranges.{HasBits, duration_bits, timestamp_bits}
-use Rattle.pbx_well_known.specs.Known.{Row, struct_rows, list_rows, value_rows, seconds_and_nanos}
-use Rattle.pbx_well_known.specs.Shapes.{form_of}
-use Rattle.pbx_well_known.specs.declared.form.Form.{Form}
-use Rattle.pbx_well_known.specs.declared.form.Form.TheVariants as forms
-use Rattle.pbx_well_known.proofs.Declared.{HasRow, IsOfForm, of_form}
+use Rattle.pbx_wkt_types.specs.Known.{Row, struct_rows, list_rows, value_rows, seconds_and_nanos}
+use Rattle.pbx_wkt_types.specs.Shapes.{form_of}
+use Rattle.pbx_wkt_types.specs.declared.form.Form.{Form}
+use Rattle.pbx_wkt_types.specs.declared.form.Form.TheVariants as forms
+use Rattle.pbx_wkt_types.proofs.Declared.{HasRow, IsOfForm, of_form}
 use Rattle.pbx_json_meaning.specs.Asked.{single, list, map}
 use Rattle.pbx_json_meaning.specs.Forms.{is_object_form, is_object_type, kind_in, kind_at, type_at, time_of, mask_of_paths, holding, judged, text_form, a_list, a_map}
 use Rattle.pbx_json_meaning.specs.Forms.{whole, at_once, is_struct, is_list_value, struct_read, list_value_read, value_with, value_read, itself}

@@ -4,18 +4,18 @@ use Rattle.std.specs.Prelude.{Ok}
 use Rattle.std.specs.Str.{is_utf8}
 use Rattle.serde_json.specs.Data.{Data}
 use Rattle.base64.specs.GeneralPurpose.{IsBytes}
-use Rattle.pbx_meaning.specs.Content as content
-use Rattle.pbx_meaning.specs.Content.{Content, Fields, Val, Vals, Pairs, Key, IsAscending}
-use Rattle.pbx_meaning.specs.Meaning.{shown, is_default}
-use Rattle.pbx_meaning.specs.Shape.{declared_of, field_of}
-use Rattle.pbx_meaning.specs.Sound.{IsNumber, IsKeyOf, IsBefore, has_one_member}
-use Rattle.pbx_meaning.specs.declared.shape.Kind.{Kind}
-use Rattle.pbx_meaning.specs.declared.shape.Kind.TheVariants as kind
-use Rattle.pbx_meaning.specs.declared.shape.FieldShape.{FieldShape}
-use Rattle.pbx_meaning.specs.declared.shape.Shape.{Shape}
-use Rattle.pbx_well_known.specs.Shapes.{form_of}
-use Rattle.pbx_well_known.specs.declared.form.Form.{Form}
-use Rattle.pbx_well_known.specs.declared.form.Form.TheVariants as forms
+use Rattle.pbx_content.specs.Content as content
+use Rattle.pbx_content.specs.Content.{Content, Fields, Val, Vals, Pairs, Key, IsAscending}
+use Rattle.pbx_content.specs.Meaning.{shown, is_default}
+use Rattle.pbx_content.specs.Shape.{declared_of, field_of}
+use Rattle.pbx_content.specs.Sound.{IsNumber, IsKeyOf, IsBefore, has_one_member}
+use Rattle.pbx_content.specs.declared.shape.Kind.{Kind}
+use Rattle.pbx_content.specs.declared.shape.Kind.TheVariants as kind
+use Rattle.pbx_content.specs.declared.shape.FieldShape.{FieldShape}
+use Rattle.pbx_content.specs.declared.shape.Shape.{Shape}
+use Rattle.pbx_wkt_types.specs.Shapes.{form_of}
+use Rattle.pbx_wkt_types.specs.declared.form.Form.{Form}
+use Rattle.pbx_wkt_types.specs.declared.form.Form.TheVariants as forms
 use Rattle.pbx_json_meaning.specs.Scalars.{is_null_value}
 use Rattle.pbx_json_meaning.specs.Asked.{Asked, field, one, Target, nothing, single, list, map, target_by, has_presence}
 use Rattle.pbx_json_meaning.specs.Forms.{form_read, whole, holding, packed}

@@ -5,20 +5,20 @@ use Rattle.std.specs.Ordering.{int_eq}
 use Rattle.std.proofs.lemmas.Bool.{eqb-true}
 use Rattle.std.proofs.lemmas.Bool.Decides.{Decides-int_eq}
 use Rattle.serde_json.specs.Data.{Data, null, boolean, number, string, array, object}
-use Rattle.pbx_meaning.specs.Content as content
-use Rattle.pbx_meaning.specs.Content.{Content, Fields, no_fields, fields, Val, Vals, vals_of, get}
-use Rattle.pbx_meaning.specs.Meaning.{shown, is_default, zero_of, zero_number}
-use Rattle.pbx_meaning.specs.Shape.{fields_of, field_of, is_float}
-use Rattle.pbx_meaning.specs.Sound.{IsProper, IsNumber}
-use Rattle.pbx_meaning.specs.declared.shape.Kind.{Kind}
-use Rattle.pbx_meaning.specs.declared.shape.Kind.TheVariants as kind
-use Rattle.pbx_meaning.specs.declared.shape.FieldShape.{FieldShape}
-use Rattle.pbx_meaning.specs.declared.shape.Shape.{Shape}
-use Rattle.pbx_well_known.specs.Shapes.{form_of}
-use Rattle.pbx_well_known.specs.declared.form.Form.{Form}
-use Rattle.pbx_well_known.specs.declared.form.Form.TheVariants as forms
-use Rattle.pbx_well_known.proofs.Declared.{is_wrapped_kind}
-use Rattle.pbx_well_known.proofs.Forms.{HasTime, HasPaths, HasValue, timestamp_fields, duration_fields, mask_fields, wrapper_fields}
+use Rattle.pbx_content.specs.Content as content
+use Rattle.pbx_content.specs.Content.{Content, Fields, no_fields, fields, Val, Vals, vals_of, get}
+use Rattle.pbx_content.specs.Meaning.{shown, is_default, zero_of, zero_number}
+use Rattle.pbx_content.specs.Shape.{fields_of, field_of, is_float}
+use Rattle.pbx_content.specs.Sound.{IsProper, IsNumber}
+use Rattle.pbx_content.specs.declared.shape.Kind.{Kind}
+use Rattle.pbx_content.specs.declared.shape.Kind.TheVariants as kind
+use Rattle.pbx_content.specs.declared.shape.FieldShape.{FieldShape}
+use Rattle.pbx_content.specs.declared.shape.Shape.{Shape}
+use Rattle.pbx_wkt_types.specs.Shapes.{form_of}
+use Rattle.pbx_wkt_types.specs.declared.form.Form.{Form}
+use Rattle.pbx_wkt_types.specs.declared.form.Form.TheVariants as forms
+use Rattle.pbx_wkt_types.proofs.Declared.{is_wrapped_kind}
+use Rattle.pbx_wkt_types.proofs.Forms.{HasTime, HasPaths, HasValue, timestamp_fields, duration_fields, mask_fields, wrapper_fields}
 use Rattle.pbx_text.specs.Decimal.{or_form, or_range}
 use Rattle.pbx_text.specs.Duration.{duration_of, duration_read, duration_written, is_duration_second}
 use Rattle.pbx_text.specs.Mask.{mask_of, mask_read, mask_written}
@@ -27,7 +27,7 @@ use Rattle.pbx_text.specs.declared.fault.TextFault.{TextFault}
 use Rattle.pbx_text.proofs.DurationsRead.{durations_read}
 use Rattle.pbx_text.proofs.PathsBack.{paths_back, texts_back}
 use Rattle.pbx_text.proofs.Rewritten.{timestamp_rewritten, duration_rewritten}
-use Rattle.pbx_text_laws.proofs.Timestamps.{timestamps_read}
+use Rattle.pbx_text.proofs.Timestamps.{timestamps_read}
 use Rattle.pbx_json_meaning.specs.Asked.{single, has_presence, reads_null}
 use Rattle.pbx_wire.specs.declared.rec.Rec.{Rec}
 use Rattle.pbx_json_meaning.specs.Canonical.{Writing, Told, form_tree, scalar_tree}

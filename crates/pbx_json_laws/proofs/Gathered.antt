@@ -1,8 +1,8 @@
 -- What is gathered of the readings of all fields.
 use Rattle.std.proofs.Common.{◌≡◌, ℕ, ◌||◌, List, [], ◌∷◌, Bool, true, false, ◌==◌, if◌then◌else◌, Option, Some, None, refl, ap, sym, ◌∙◌, arith}
 use Rattle.std.proofs.lemmas.Bool.Decides.{nat_tests}
-use Rattle.pbx_meaning.specs.Content.{Val, Fields, no_fields, get, IsAscending}
-use Rattle.pbx_meaning.specs.declared.shape.FieldShape.{FieldShape}
+use Rattle.pbx_content.specs.Content.{Val, Fields, no_fields, get, IsAscending}
+use Rattle.pbx_content.specs.declared.shape.FieldShape.{FieldShape}
 use Rattle.pbx_json_meaning.specs.Stands.{Reading, put, with_reading, gathered}
 use Rattle.pbx_json_laws.proofs.Numbers.{has_number}
 use Rattle.pbx_json_laws.proofs.Parts.{of_some}

@@ -2,9 +2,9 @@
 use Rattle.std.proofs.Common.{◌≡◌, Bool, true, false, ◌&&◌, if◌then◌else◌, refl, sym, ap, ◌∙◌, List, Option}
 use Rattle.std.specs.List.{list_any}
 use Rattle.std.specs.Prelude.{not}
-use Rattle.pbx_meaning.proofs.OntoPairs.{Compared, first, same, later, key_compared, key_follows}
-use Rattle.pbx_meaning.specs.Content.{Key, key_before, Val, Pairs, no_pairs, pair, with_pair}
-use Rattle.pbx_meaning.specs.Sound.{IsBefore}
+use Rattle.pbx_content.proofs.OntoPairs.{Compared, first, same, later, key_compared, key_follows}
+use Rattle.pbx_content.specs.Content.{Key, key_before, Val, Pairs, no_pairs, pair, with_pair}
+use Rattle.pbx_content.specs.Sound.{IsBefore}
 use Rattle.pbx_json_meaning.specs.Stands.{is_alike}
 
 -- the keys ascend

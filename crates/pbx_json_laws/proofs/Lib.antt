@@ -1,3 +1,9 @@
+pub mod Once
+pub mod Defined
+pub mod Places
+pub mod FieldsOnce
+pub mod ValuesOnce
+pub mod WellNamed
 pub mod Parts
 pub mod Puts
 pub mod Numbers

@@ -5,12 +5,12 @@ use Rattle.std.specs.List.{list_any, AllByRecursion}
 use Rattle.std.proofs.lemmas.Bool.Decides.{nat_tests}
 use Rattle.std.proofs.lemmas.Map.Keys.{IsDistinct-head, IsDistinct-tail}
 use Rattle.serde_json.specs.Data.{Data, Members, no_members, put}
-use Rattle.pbx_meaning.specs.Content as content
-use Rattle.pbx_meaning.specs.Content.{Content, Fields, Val, get, IsAscending}
-use Rattle.pbx_meaning.specs.Shape.{field_of, is_float}
-use Rattle.pbx_meaning.specs.Sound.{AreProper, has_one_member}
-use Rattle.pbx_meaning.specs.declared.shape.FieldShape.{FieldShape}
-use Rattle.pbx_meaning.specs.declared.shape.Shape.{Shape}
+use Rattle.pbx_content.specs.Content as content
+use Rattle.pbx_content.specs.Content.{Content, Fields, Val, get, IsAscending}
+use Rattle.pbx_content.specs.Shape.{field_of, is_float}
+use Rattle.pbx_content.specs.Sound.{AreProper, has_one_member}
+use Rattle.pbx_content.specs.declared.shape.FieldShape.{FieldShape}
+use Rattle.pbx_content.specs.declared.shape.Shape.{Shape}
 use Rattle.pbx_json_meaning.specs.Asked.{field, has_presence}
 use Rattle.pbx_json_meaning.specs.Canonical.{Writing, Line, Told, key_of_field, is_written_default, default_tree, default_line, told_line, lines, has_key, with_line, members_of_lines}
 use Rattle.pbx_json_meaning.specs.Names.{field_named}

@@ -1,9 +1,9 @@
 -- Each content has bytes shorter than some number.
 use Rattle.std.proofs.Common.{ℕ, suc, ◌+◌, ◌<◌, length, arith}
-use Rattle.pbx_meaning.specs.Content.{Content, content, Fields, no_fields, field, Val, number, truth, text, octets, message, many, keyed, Vals, no_vals, val}
-use Rattle.pbx_meaning.specs.Content.{Pairs, no_pairs, pair}
-use Rattle.pbx_payload_laws.specs.Inside.{AreShorter, AreFieldsShorter, IsValShorter, AreValsShorter, ArePairsShorter}
-use Rattle.pbx_payload_laws.proofs.Inside.{val_more, fields_more, vals_more, pairs_more}
+use Rattle.pbx_content.specs.Content.{Content, content, Fields, no_fields, field, Val, number, truth, text, octets, message, many, keyed, Vals, no_vals, val}
+use Rattle.pbx_content.specs.Content.{Pairs, no_pairs, pair}
+use Rattle.pbx_json_payload_laws.specs.Inside.{AreShorter, AreFieldsShorter, IsValShorter, AreValsShorter, ArePairsShorter}
+use Rattle.pbx_json_payload_laws.proofs.Inside.{val_more, fields_more, vals_more, pairs_more}
 
 mutual
   pub content_bound : (c : Content) → (n : ℕ) × (0 < n) × AreShorter n c

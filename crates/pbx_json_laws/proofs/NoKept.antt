@@ -1,12 +1,12 @@
 -- A content that was read keeps no records, at any depth.
 use Rattle.std.proofs.Common.{ℕ, List, Option, Some, None}
-use Rattle.pbx_payload_laws.specs.Inside.{HasNoKept, FieldsHaveNoKept, ValHasNoKept, ValsHaveNoKept, PairsHaveNoKept}
-use Rattle.pbx_meaning.specs.Content as content
-use Rattle.pbx_meaning.specs.Content.{Content, Fields, Val, Vals, Pairs}
-use Rattle.pbx_meaning.specs.Shape.{declared_of, field_of}
-use Rattle.pbx_meaning.specs.declared.shape.Kind.{Kind}
-use Rattle.pbx_meaning.specs.declared.shape.FieldShape.{FieldShape}
-use Rattle.pbx_meaning.specs.declared.shape.Shape.{Shape}
+use Rattle.pbx_json_payload_laws.specs.Inside.{HasNoKept, FieldsHaveNoKept, ValHasNoKept, ValsHaveNoKept, PairsHaveNoKept}
+use Rattle.pbx_content.specs.Content as content
+use Rattle.pbx_content.specs.Content.{Content, Fields, Val, Vals, Pairs}
+use Rattle.pbx_content.specs.Shape.{declared_of, field_of}
+use Rattle.pbx_content.specs.declared.shape.Kind.{Kind}
+use Rattle.pbx_content.specs.declared.shape.FieldShape.{FieldShape}
+use Rattle.pbx_content.specs.declared.shape.Shape.{Shape}
 use Rattle.pbx_json_meaning.specs.Asked.{Target, nothing, single, list, map, target_by}
 use Rattle.pbx_json_laws.proofs.Fits.{Fits, FitsAs, FieldsFit, AllFit, PairsFit, FitsOption}
 

@@ -4,9 +4,9 @@ use Rattle.std.specs.List.{AllByRecursion, IsDistinct, list_any, list_all}
 use Rattle.std.specs.Option.{option_or}
 use Rattle.std.proofs.lemmas.Bool.Decides.{nat_tests}
 use Rattle.std.proofs.lemmas.Map.Keys.{IsDistinct-head, IsDistinct-tail}
-use Rattle.pbx_meaning.specs.Shape.{field_of, inserted, by_number}
-use Rattle.pbx_meaning.specs.Sound.{AreProper}
-use Rattle.pbx_meaning.specs.declared.shape.FieldShape.{FieldShape}
+use Rattle.pbx_content.specs.Shape.{field_of, inserted, by_number}
+use Rattle.pbx_content.specs.Sound.{AreProper}
+use Rattle.pbx_content.specs.declared.shape.FieldShape.{FieldShape}
 use Rattle.pbx_json_meaning.specs.Names.{field_named, json_name_is, name_is, extension_is}
 use Rattle.pbx_json_laws.proofs.Parts.{of_some}
 

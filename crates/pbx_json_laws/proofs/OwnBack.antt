@@ -5,25 +5,25 @@ use Rattle.std.specs.List.{AllByRecursion}
 use Rattle.std.specs.Str.{bytes_eq}
 use Rattle.std.proofs.lemmas.Slice.Eq.{bytes_eq-Decides}
 use Rattle.serde_json.specs.Data.{Data, null, boolean, number, string, array, object, no_items, no_members}
-use Rattle.pbx_meaning.specs.Content as content
-use Rattle.pbx_meaning.specs.Content.{Content, Fields, Val}
-use Rattle.pbx_meaning.specs.Encoding.{type_of}
-use Rattle.pbx_meaning.specs.Meaning.{shown}
-use Rattle.pbx_meaning.specs.Shape.{declared_of, fields_of, field_of, is_float}
-use Rattle.pbx_meaning.specs.declared.shape.Cardinality.{Cardinality}
-use Rattle.pbx_meaning.specs.declared.shape.Cardinality.TheVariants.{Singular, Repeated, Map}
-use Rattle.pbx_meaning.specs.declared.shape.Kind.{Kind}
-use Rattle.pbx_meaning.specs.declared.shape.Kind.TheVariants as kind
-use Rattle.pbx_meaning.specs.declared.shape.FieldShape.{FieldShape}
-use Rattle.pbx_meaning.specs.declared.shape.Shape.{Shape}
-use Rattle.pbx_well_known.specs.Known.{Known, google, known_of, known_types, value_rows, Row}
-use Rattle.pbx_well_known.specs.Shapes.{form_of, form_by, is_as_declared}
-use Rattle.pbx_well_known.specs.Types.{message_name}
-use Rattle.pbx_well_known.specs.declared.form.Form.{Form}
-use Rattle.pbx_well_known.specs.declared.form.Form.TheVariants as forms
-use Rattle.pbx_well_known.proofs.Declared.{HasRow, HasRows}
-use Rattle.pbx_well_known.proofs.Forms.{struct_fields, list_fields, value_fields}
-use Rattle.pbx_well_known.proofs.WellKnown.{found, found_passes}
+use Rattle.pbx_content.specs.Content as content
+use Rattle.pbx_content.specs.Content.{Content, Fields, Val}
+use Rattle.pbx_content.specs.Encoding.{type_of}
+use Rattle.pbx_content.specs.Meaning.{shown}
+use Rattle.pbx_content.specs.Shape.{declared_of, fields_of, field_of, is_float}
+use Rattle.pbx_content.specs.declared.shape.Cardinality.{Cardinality}
+use Rattle.pbx_content.specs.declared.shape.Cardinality.TheVariants.{Singular, Repeated, Map}
+use Rattle.pbx_content.specs.declared.shape.Kind.{Kind}
+use Rattle.pbx_content.specs.declared.shape.Kind.TheVariants as kind
+use Rattle.pbx_content.specs.declared.shape.FieldShape.{FieldShape}
+use Rattle.pbx_content.specs.declared.shape.Shape.{Shape}
+use Rattle.pbx_wkt_types.specs.Known.{Known, google, known_of, known_types, value_rows, Row}
+use Rattle.pbx_wkt_types.specs.Shapes.{form_of, form_by, is_as_declared}
+use Rattle.pbx_wkt_types.specs.Types.{message_name}
+use Rattle.pbx_wkt_types.specs.declared.form.Form.{Form}
+use Rattle.pbx_wkt_types.specs.declared.form.Form.TheVariants as forms
+use Rattle.pbx_wkt_types.proofs.Declared.{HasRow, HasRows}
+use Rattle.pbx_wkt_types.proofs.Forms.{struct_fields, list_fields, value_fields}
+use Rattle.pbx_wkt_types.proofs.WellKnown.{found, found_passes}
 use Rattle.pbx_json_meaning.specs.Asked.{Target, single, list, map, target_by, has_presence, presence_by, reads_null, one}
 use Rattle.pbx_json_meaning.specs.Canonical.{Writing, object_tree, form_tree, keeps_float, tells, content_tree, fields_tell, truth_by, text_by}
 use Rattle.pbx_json_meaning.specs.Forms.{is_object_form, skips, kind_in, kind_at, type_at, shown_at, with_first, holding, Own, a_list, a_map, struct_read, list_value_read}

@@ -2,10 +2,10 @@
 use Rattle.std.proofs.Common.{ℕ}
 use Rattle.serde_json.specs.Data.{Data}
 use Rattle.std.specs.Prelude.{Bool}
-use Rattle.pbx_payload_laws.specs.Inside.{HasNoKept}
-use Rattle.pbx_meaning.specs.Content.{Content}
-use Rattle.pbx_meaning.specs.Sound.{IsProper, IsSound}
-use Rattle.pbx_meaning.specs.declared.shape.Shape.{Shape}
+use Rattle.pbx_json_payload_laws.specs.Inside.{HasNoKept}
+use Rattle.pbx_content.specs.Content.{Content}
+use Rattle.pbx_content.specs.Sound.{IsProper, IsSound}
+use Rattle.pbx_content.specs.declared.shape.Shape.{Shape}
 use Rattle.pbx_json_meaning.specs.Named.{IsWellNamed}
 use Rattle.pbx_json_meaning.specs.Stands.{Stands}
 use Rattle.pbx_json_meaning.specs.Trees.{HasTexts}

@@ -3,15 +3,15 @@ use Rattle.std.proofs.Common.{◌≡◌, inl, inr, ℕ, ◌||◌, List, [], Bool
 use Rattle.std.specs.Prelude.{Result, Ok, Err}
 use Rattle.serde_json.specs.Data.{Data, null, boolean, number, string, array, object, Members, no_members, member}
 use Rattle.serde_json.specs.Find.{get_member}
-use Rattle.pbx_meaning.specs.Content.{Content, Val}
-use Rattle.pbx_meaning.specs.Shape.{declared_of}
-use Rattle.pbx_meaning.specs.Sound.{IsProper, AreProper}
-use Rattle.pbx_meaning.specs.declared.shape.Kind.{Kind}
-use Rattle.pbx_meaning.specs.declared.shape.Kind.TheVariants as kind
-use Rattle.pbx_meaning.specs.declared.shape.Shape.{Shape}
-use Rattle.pbx_well_known.specs.Shapes.{form_of}
-use Rattle.pbx_well_known.specs.declared.form.Form.{Form}
-use Rattle.pbx_well_known.specs.declared.form.Form.TheVariants as forms
+use Rattle.pbx_content.specs.Content.{Content, Val}
+use Rattle.pbx_content.specs.Shape.{declared_of}
+use Rattle.pbx_content.specs.Sound.{IsProper, AreProper}
+use Rattle.pbx_content.specs.declared.shape.Kind.{Kind}
+use Rattle.pbx_content.specs.declared.shape.Kind.TheVariants as kind
+use Rattle.pbx_content.specs.declared.shape.Shape.{Shape}
+use Rattle.pbx_wkt_types.specs.Shapes.{form_of}
+use Rattle.pbx_wkt_types.specs.declared.form.Form.{Form}
+use Rattle.pbx_wkt_types.specs.declared.form.Form.TheVariants as forms
 use Rattle.pbx_json_meaning.specs.Asked.{Asked, one}
 use Rattle.pbx_json_meaning.specs.Faults.{payload, into, KeyBreaks, FaultAt, SomeWith}
 use Rattle.pbx_json_meaning.specs.Forms.{Own, a_list, a_map, beside, under, at_once, is_struct, is_list_value, struct_read, list_value_read, kind_at, type_at, holding, value_with, itself}

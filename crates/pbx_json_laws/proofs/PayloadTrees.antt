@@ -1,9 +1,9 @@
 -- How payloads are written: as the contents that their bytes mean, and not at all where they mean nothing.
 use Rattle.std.proofs.Common.{◌≡◌, ℕ, List, length, Some, None, ap}
 use Rattle.std.specs.Prelude.{option_and_then}
-use Rattle.pbx_meaning.specs.Content.{Content}
-use Rattle.pbx_meaning.specs.Meaning.{meaning_of}
-use Rattle.pbx_meaning.specs.declared.shape.Shape.{Shape}
+use Rattle.pbx_content.specs.Content.{Content}
+use Rattle.pbx_content.specs.Meaning.{meaning_of}
+use Rattle.pbx_content.specs.declared.shape.Shape.{Shape}
 use Rattle.pbx_json_meaning.specs.Canonical.{Writing, writing, content_tree, payload_tree, tree_of_payload}
 use Rattle.pbx_json_meaning.specs.declared.options.SerializeOptions.{SerializeOptions}
 use Rattle.pbx_json_payload_laws.proofs.Payloads.{payloads_by_content}

@@ -2,13 +2,13 @@
 use Rattle.std.proofs.Common.{◌≡◌, ℕ, ◌&&◌, ◌++◌, List, [], ◌∷◌, map as map_list, filter, codes, Bool, true, false, not, if◌then◌else◌, Option, Some, None, refl, ap, sym, ◌∙◌}
 use Rattle.std.specs.List.{list_all}
 use Rattle.serde_json.specs.Data.{Data, string, object, Members, put}
-use Rattle.pbx_meaning.specs.Content as content
-use Rattle.pbx_meaning.specs.Content.{Content, Fields}
-use Rattle.pbx_meaning.specs.Shape.{declared_of, field_of}
-use Rattle.pbx_meaning.specs.Sound.{IsProper}
-use Rattle.pbx_meaning.specs.declared.shape.FieldShape.{FieldShape}
-use Rattle.pbx_meaning.specs.declared.shape.Shape.{Shape}
-use Rattle.pbx_well_known.specs.Shapes.{form_of}
+use Rattle.pbx_content.specs.Content as content
+use Rattle.pbx_content.specs.Content.{Content, Fields}
+use Rattle.pbx_content.specs.Shape.{declared_of, field_of}
+use Rattle.pbx_content.specs.Sound.{IsProper}
+use Rattle.pbx_content.specs.declared.shape.FieldShape.{FieldShape}
+use Rattle.pbx_content.specs.declared.shape.Shape.{Shape}
+use Rattle.pbx_wkt_types.specs.Shapes.{form_of}
 use Rattle.pbx_json_meaning.specs.Canonical.{Writing, Line, Told, key_of_field, told_line, default_line, is_written_default, lines, members_of_lines, has_key, with_type, type_and_value, any_with}
 use Rattle.pbx_json_meaning.specs.Canonical.{content_tree, fields_tell}
 use Rattle.pbx_json_meaning.specs.Clash.{name_fault}

@@ -1,7 +1,7 @@
 -- A value that is put at a number, and fields that ascend, which are told apart by their values.
 use Rattle.std.proofs.Common.{◌≡◌, ℕ, ◌<◌, ◌≤◌, Bool, true, false, if◌then◌else◌, nat_lt, ◌==◌, Some, None, refl, sym, ◌∙◌, subst, arith}
 use Rattle.std.proofs.lemmas.Bool.Decides.{nat_tests}
-use Rattle.pbx_meaning.specs.Content.{Val, Fields, no_fields, field, get, has, IsAbove, IsAscending}
+use Rattle.pbx_content.specs.Content.{Val, Fields, no_fields, field, get, has, IsAbove, IsAscending}
 use Rattle.pbx_json_meaning.specs.Stands.{put, is_there}
 
 -- nothing stands at or below a number that all are above

@@ -1,7 +1,7 @@
 -- What is said of a tree, by what it is to be read as and by what the trees inside it say.
 use Rattle.std.proofs.Common.{◌≡◌, List, [], Bool, refl}
 use Rattle.serde_json.specs.Data.{Data, null, boolean, number, string, array, object}
-use Rattle.pbx_meaning.specs.declared.shape.Shape.{Shape}
+use Rattle.pbx_content.specs.declared.shape.Shape.{Shape}
 use Rattle.pbx_json_meaning.specs.Asked.{Asked, Target, target}
 use Rattle.pbx_json_meaning.specs.Stands.{Reading, Says, Entry, read_as, shown_for, said, items_said, entries_said}
 

@@ -1,13 +1,13 @@
 -- The laws of what is written of a content that a tree stands for.
 use Rattle.std.proofs.Common.{◌≡◌, ℕ, zero, suc, length, Bool, false, Some, None, option_map, refl, ap, sym, ◌∙◌, subst}
 use Rattle.serde_json.specs.Data.{Data}
-use Rattle.pbx_meaning.specs.Content as content
-use Rattle.pbx_meaning.specs.Content.{Content}
-use Rattle.pbx_meaning.specs.Encoding.{encoded}
-use Rattle.pbx_meaning.specs.Meaning.{meaning_of}
-use Rattle.pbx_meaning.specs.Sound.{IsProper}
-use Rattle.pbx_meaning.specs.declared.shape.Kind.TheVariants as kind
-use Rattle.pbx_meaning.specs.declared.shape.Shape.{Shape}
+use Rattle.pbx_content.specs.Content as content
+use Rattle.pbx_content.specs.Content.{Content}
+use Rattle.pbx_content.specs.Encoding.{encoded}
+use Rattle.pbx_content.specs.Meaning.{meaning_of}
+use Rattle.pbx_content.specs.Sound.{IsProper}
+use Rattle.pbx_content.specs.declared.shape.Kind.TheVariants as kind
+use Rattle.pbx_content.specs.declared.shape.Shape.{Shape}
 use Rattle.pbx_json_meaning.specs.Asked.{one}
 use Rattle.pbx_json_meaning.specs.Canonical.{Writing, writing, canonical, content_tree, payload_tree}
 use Rattle.pbx_json_meaning.specs.Clash.{name_fault}
@@ -16,7 +16,7 @@ use Rattle.pbx_json_meaning.specs.Named.{IsWellNamed}
 use Rattle.pbx_json_meaning.specs.Stands.{Stands, message_in}
 use Rattle.pbx_json_meaning.specs.Trees.{HasTexts}
 use Rattle.pbx_json_meaning.specs.declared.options.SerializeOptions.{SerializeOptions}
-use Rattle.pbx_payload_laws.proofs.Read.{encoded_is_read}
+use Rattle.pbx_json_payload_laws.proofs.Read.{encoded_is_read}
 use Rattle.pbx_json_laws.proofs.Again.{content_back}
 use Rattle.pbx_json_laws.proofs.AnyBack.{Reads}
 use Rattle.pbx_json_laws.proofs.Fits.{FitsAs}

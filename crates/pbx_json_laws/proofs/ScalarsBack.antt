@@ -9,14 +9,14 @@ use Rattle.std.proofs.lemmas.Bool.Decides.{nat_tests, Decides-int_eq}
 use Rattle.base64.specs.GeneralPurpose.{IsBytes}
 use Rattle.serde_json.specs.Data.{Data, null, boolean, number, string, array, object}
 use Rattle.serde_json.specs.Find.{of_integer}
-use Rattle.pbx_meaning.specs.Content as content
-use Rattle.pbx_meaning.specs.Content.{Val, Key, number_key, truth_key, text_key}
-use Rattle.pbx_meaning.specs.Shape.{enum_values_of}
-use Rattle.pbx_meaning.specs.Sound.{IsNumber, IsKeyOf}
-use Rattle.pbx_meaning.specs.declared.shape.Kind.{Kind}
-use Rattle.pbx_meaning.specs.declared.shape.Kind.TheVariants as kind
-use Rattle.pbx_meaning.specs.declared.shape.EnumValueShape.{EnumValueShape}
-use Rattle.pbx_meaning.specs.declared.shape.Shape.{Shape}
+use Rattle.pbx_content.specs.Content as content
+use Rattle.pbx_content.specs.Content.{Val, Key, number_key, truth_key, text_key}
+use Rattle.pbx_content.specs.Shape.{enum_values_of}
+use Rattle.pbx_content.specs.Sound.{IsNumber, IsKeyOf}
+use Rattle.pbx_content.specs.declared.shape.Kind.{Kind}
+use Rattle.pbx_content.specs.declared.shape.Kind.TheVariants as kind
+use Rattle.pbx_content.specs.declared.shape.EnumValueShape.{EnumValueShape}
+use Rattle.pbx_content.specs.declared.shape.Shape.{Shape}
 use Rattle.pbx_text.specs.Base64.{base64_text}
 use Rattle.pbx_text.proofs.Decimals.{signed_reads, unsigned_reads}
 use Rattle.pbx_text.proofs.Writing.{bytes_read}

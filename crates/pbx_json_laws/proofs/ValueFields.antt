@@ -3,19 +3,19 @@ use Rattle.std.proofs.Common.{◌≡◌, inr, inl, ◌⊎◌, ℕ, ◌+◌, ◌=
 use Rattle.std.specs.List.{list_any, list_all}
 use Rattle.std.proofs.lemmas.Bool.{eqb-true}
 use Rattle.std.proofs.lemmas.Bool.Decides.{nat_tests}
-use Rattle.pbx_meaning.specs.Shape.{declared_of, fields_of, field_of}
-use Rattle.pbx_meaning.specs.declared.shape.Cardinality.TheVariants.{Singular}
-use Rattle.pbx_meaning.specs.declared.shape.Kind.{Kind}
-use Rattle.pbx_meaning.specs.declared.shape.Kind.TheVariants as kind
-use Rattle.pbx_meaning.specs.declared.shape.FieldShape.{FieldShape}
-use Rattle.pbx_meaning.specs.declared.shape.Shape.{Shape}
-use Rattle.pbx_well_known.specs.Known.{google, known_of, value_rows, Row}
-use Rattle.pbx_well_known.specs.Shapes.{form_of, form_by}
-use Rattle.pbx_well_known.specs.Types.{message_name}
-use Rattle.pbx_well_known.specs.declared.form.Form.{Form}
-use Rattle.pbx_well_known.specs.declared.form.Form.TheVariants as forms
-use Rattle.pbx_well_known.proofs.Declared.{HasRow, HasRows}
-use Rattle.pbx_well_known.proofs.Forms.{value_fields}
+use Rattle.pbx_content.specs.Shape.{declared_of, fields_of, field_of}
+use Rattle.pbx_content.specs.declared.shape.Cardinality.TheVariants.{Singular}
+use Rattle.pbx_content.specs.declared.shape.Kind.{Kind}
+use Rattle.pbx_content.specs.declared.shape.Kind.TheVariants as kind
+use Rattle.pbx_content.specs.declared.shape.FieldShape.{FieldShape}
+use Rattle.pbx_content.specs.declared.shape.Shape.{Shape}
+use Rattle.pbx_wkt_types.specs.Known.{google, known_of, value_rows, Row}
+use Rattle.pbx_wkt_types.specs.Shapes.{form_of, form_by}
+use Rattle.pbx_wkt_types.specs.Types.{message_name}
+use Rattle.pbx_wkt_types.specs.declared.form.Form.{Form}
+use Rattle.pbx_wkt_types.specs.declared.form.Form.TheVariants as forms
+use Rattle.pbx_wkt_types.proofs.Declared.{HasRow, HasRows}
+use Rattle.pbx_wkt_types.proofs.Forms.{value_fields}
 use Rattle.pbx_json_laws.proofs.Numbers.{has_number, number_of_field, field_of-by_number}
 use Rattle.pbx_json_laws.proofs.Parts.{of_some, both}
 

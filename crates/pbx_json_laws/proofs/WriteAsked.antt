@@ -4,20 +4,20 @@ use Rattle.std.specs.Prelude.{Result, Ok, Err}
 use Rattle.std.specs.Str.{bytes_eq}
 use Rattle.std.proofs.lemmas.Bool.{eqb-true}
 use Rattle.pbx_wire.specs.declared.rec.Rec.{Rec}
-use Rattle.pbx_meaning.specs.Content as content
-use Rattle.pbx_meaning.specs.Content.{Content, Fields, Val, Vals, Pairs, get, fields}
-use Rattle.pbx_meaning.specs.Encoding.{type_of}
-use Rattle.pbx_meaning.specs.Meaning.{meaning_of}
-use Rattle.pbx_meaning.proofs.SoundLaw.{meaning_sound}
-use Rattle.pbx_meaning.specs.Shape.{declared_of, by_number, fields_of, field_of}
-use Rattle.pbx_meaning.specs.Sound.{IsProper, IsSound, AreSound, IsSoundAt, AreElements, ArePairs, IsElement, IsNumber}
-use Rattle.pbx_meaning.specs.declared.shape.Kind.{Kind}
-use Rattle.pbx_meaning.specs.declared.shape.Kind.TheVariants as kind
-use Rattle.pbx_meaning.specs.declared.shape.FieldShape.{FieldShape}
-use Rattle.pbx_meaning.specs.declared.shape.Shape.{Shape}
-use Rattle.pbx_well_known.specs.Shapes.{form_of}
-use Rattle.pbx_well_known.specs.declared.form.Form.{Form}
-use Rattle.pbx_well_known.specs.declared.form.Form.TheVariants as forms
+use Rattle.pbx_content.specs.Content as content
+use Rattle.pbx_content.specs.Content.{Content, Fields, Val, Vals, Pairs, get, fields}
+use Rattle.pbx_content.specs.Encoding.{type_of}
+use Rattle.pbx_content.specs.Meaning.{meaning_of}
+use Rattle.pbx_content.proofs.SoundLaw.{meaning_sound}
+use Rattle.pbx_content.specs.Shape.{declared_of, by_number, fields_of, field_of}
+use Rattle.pbx_content.specs.Sound.{IsProper, IsSound, AreSound, IsSoundAt, AreElements, ArePairs, IsElement, IsNumber}
+use Rattle.pbx_content.specs.declared.shape.Kind.{Kind}
+use Rattle.pbx_content.specs.declared.shape.Kind.TheVariants as kind
+use Rattle.pbx_content.specs.declared.shape.FieldShape.{FieldShape}
+use Rattle.pbx_content.specs.declared.shape.Shape.{Shape}
+use Rattle.pbx_wkt_types.specs.Shapes.{form_of}
+use Rattle.pbx_wkt_types.specs.declared.form.Form.{Form}
+use Rattle.pbx_wkt_types.specs.declared.form.Form.TheVariants as forms
 use Rattle.pbx_json_meaning.specs.Asked.{Asked, field, one}
 use Rattle.pbx_json_meaning.specs.Canonical.{Writing, kind_asked, key_text, keeps_float, first_field}
 use Rattle.pbx_json_meaning.specs.Forms.{is_object_type, kind_in, type_at, timestamp_tree, duration_tree, mask_tree, text_at, bytes_at}

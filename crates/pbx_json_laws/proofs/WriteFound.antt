@@ -6,28 +6,28 @@ use Rattle.std.specs.Str.{bytes_eq}
 use Rattle.std.proofs.lemmas.Slice.Eq.{bytes_eq-Decides}
 use Rattle.serde_json.specs.Data.{Data, null, string, array, object, Members, put}
 use Rattle.pbx_wire.specs.declared.rec.Rec.{Rec}
-use Rattle.pbx_meaning.specs.Content as content
-use Rattle.pbx_meaning.specs.Content.{Content, Fields, Val, Vals, Pairs, get}
-use Rattle.pbx_meaning.specs.Encoding.{type_of}
-use Rattle.pbx_meaning.specs.Meaning.{zero_of, meaning_of}
-use Rattle.pbx_meaning.proofs.SoundLaw.{meaning_sound}
-use Rattle.pbx_payload_laws.specs.Inside.{AreShorter, AreFieldsShorter, IsValShorter, AreValsShorter, ArePairsShorter}
-use Rattle.pbx_payload_laws.proofs.Shrinks.{meaning_shrinks}
+use Rattle.pbx_content.specs.Content as content
+use Rattle.pbx_content.specs.Content.{Content, Fields, Val, Vals, Pairs, get}
+use Rattle.pbx_content.specs.Encoding.{type_of}
+use Rattle.pbx_content.specs.Meaning.{zero_of, meaning_of}
+use Rattle.pbx_content.proofs.SoundLaw.{meaning_sound}
+use Rattle.pbx_json_payload_laws.specs.Inside.{AreShorter, AreFieldsShorter, IsValShorter, AreValsShorter, ArePairsShorter}
+use Rattle.pbx_json_payload_laws.proofs.Shrinks.{meaning_shrinks}
 use Rattle.pbx_json_payload_laws.proofs.Payloads.{nothing_means}
 use Rattle.pbx_json_payload_laws.proofs.Shorter.{bytes_short, get_shorter}
-use Rattle.pbx_meaning.specs.Shape.{declared_of, by_number, fields_of, field_of, is_float}
-use Rattle.pbx_meaning.specs.Sound.{IsProper, IsSound, AreSound, IsSoundAt, AreElements, ArePairs, IsNumber}
-use Rattle.pbx_meaning.specs.declared.shape.Cardinality.{Cardinality}
-use Rattle.pbx_meaning.specs.declared.shape.Cardinality.TheVariants.{Singular, Repeated, Map}
-use Rattle.pbx_meaning.specs.declared.shape.Kind.{Kind}
-use Rattle.pbx_meaning.specs.declared.shape.Kind.TheVariants as kind
-use Rattle.pbx_meaning.specs.declared.shape.FieldShape.{FieldShape}
-use Rattle.pbx_meaning.specs.declared.shape.Shape.{Shape}
-use Rattle.pbx_well_known.specs.Shapes.{form_of}
-use Rattle.pbx_well_known.specs.declared.form.Form.{Form}
-use Rattle.pbx_well_known.specs.declared.form.Form.TheVariants as forms
-use Rattle.pbx_well_known.proofs.Declared.{is_wrapped_kind}
-use Rattle.pbx_well_known.proofs.Forms.{wrapper_fields, struct_fields, list_fields}
+use Rattle.pbx_content.specs.Shape.{declared_of, by_number, fields_of, field_of, is_float}
+use Rattle.pbx_content.specs.Sound.{IsProper, IsSound, AreSound, IsSoundAt, AreElements, ArePairs, IsNumber}
+use Rattle.pbx_content.specs.declared.shape.Cardinality.{Cardinality}
+use Rattle.pbx_content.specs.declared.shape.Cardinality.TheVariants.{Singular, Repeated, Map}
+use Rattle.pbx_content.specs.declared.shape.Kind.{Kind}
+use Rattle.pbx_content.specs.declared.shape.Kind.TheVariants as kind
+use Rattle.pbx_content.specs.declared.shape.FieldShape.{FieldShape}
+use Rattle.pbx_content.specs.declared.shape.Shape.{Shape}
+use Rattle.pbx_wkt_types.specs.Shapes.{form_of}
+use Rattle.pbx_wkt_types.specs.declared.form.Form.{Form}
+use Rattle.pbx_wkt_types.specs.declared.form.Form.TheVariants as forms
+use Rattle.pbx_wkt_types.proofs.Declared.{is_wrapped_kind}
+use Rattle.pbx_wkt_types.proofs.Forms.{wrapper_fields, struct_fields, list_fields}
 use Rattle.pbx_json_meaning.specs.Asked.{Asked, field, one, root, presence_by}
 use Rattle.pbx_json_meaning.specs.Canonical.{Writing, writing, has_key, with_member, with_type, type_and_value, any_with, payload_in, any_tree, Line, Tells, key_of_field, is_kept_of, keeps_float, is_written_default, default_by, default_tree, default_line, told_line, lines, members_of_lines}
 use Rattle.pbx_json_meaning.specs.Canonical.{object_tree, scalar_tree, field_tree, first_field, value_tree, form_tree, own_tree, kind_asked, items_of, entry_line, tells, content_tree, fields_tell, vals_tell, pairs_tell, number_by, truth_by, text_by, bytes_by}

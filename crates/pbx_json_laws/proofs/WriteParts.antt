@@ -4,14 +4,14 @@ use Rattle.std.specs.List.{list_any}
 use Rattle.std.specs.Str.{bytes_eq}
 use Rattle.std.proofs.lemmas.Slice.Eq.{bytes_eq-Decides}
 use Rattle.serde_json.specs.Data.{Data}
-use Rattle.pbx_meaning.specs.Content as content
-use Rattle.pbx_meaning.specs.Content.{Fields, Val, Vals, Pairs, key_before}
-use Rattle.pbx_meaning.specs.Content.{Key as MapKey}
-use Rattle.pbx_meaning.specs.Shape.{field_of}
-use Rattle.pbx_meaning.specs.Sound.{IsKeyOf, IsBefore, ArePairs}
-use Rattle.pbx_meaning.specs.declared.shape.Kind.{Kind}
-use Rattle.pbx_meaning.specs.declared.shape.FieldShape.{FieldShape}
-use Rattle.pbx_meaning.specs.declared.shape.Shape.{Shape}
+use Rattle.pbx_content.specs.Content as content
+use Rattle.pbx_content.specs.Content.{Fields, Val, Vals, Pairs, key_before}
+use Rattle.pbx_content.specs.Content.{Key as MapKey}
+use Rattle.pbx_content.specs.Shape.{field_of}
+use Rattle.pbx_content.specs.Sound.{IsKeyOf, IsBefore, ArePairs}
+use Rattle.pbx_content.specs.declared.shape.Kind.{Kind}
+use Rattle.pbx_content.specs.declared.shape.FieldShape.{FieldShape}
+use Rattle.pbx_content.specs.declared.shape.Shape.{Shape}
 use Rattle.pbx_json_meaning.specs.Asked.{Asked, field, one}
 use Rattle.pbx_json_meaning.specs.Canonical.{Writing, Line, Tells, key_of_field, told_line, key_text, entry_line}
 use Rattle.pbx_json_meaning.specs.Canonical.{tells, vals_tell, pairs_tell}

@@ -1,10 +1,10 @@
 // Types of messages and kinds of fields, as the walk asks for them.
 ghost use Rattle.std.specs.Prelude.{◌≡◌};
-ghost use Rattle.pbx_meaning.specs.Encoding.{type_of};
-ghost use Rattle.pbx_meaning.specs.Shape.{field_of, fields_of};
+ghost use Rattle.pbx_content.specs.Encoding.{type_of};
+ghost use Rattle.pbx_content.specs.Shape.{field_of, fields_of};
 ghost use Rattle.pbx_json_meaning.specs.Forms.{kind_in};
 
-use pbx_meaning::{Kind, Schema};
+use pbx_content::{Kind, Schema};
 
 /// The place of the message type of a kind; a kind that is no message has 0.
 pub(crate) fn message_type(kind: Kind) -> usize

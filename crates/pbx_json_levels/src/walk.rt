@@ -1,22 +1,21 @@
 ghost use Rattle.std.specs.Prelude.{◌≡◌, map, IfOk};
 ghost use Rattle.std.specs.List.{list_all};
-ghost use Rattle.pbx_meaning.specs.Content.{fields, vals_of, pairs_of};
-ghost use Rattle.pbx_meaning.specs.Shape.{fields_of};
-ghost use Rattle.pbx_codec.specs.View.{content_of, val_of, entry_of, pair_of, fields_in};
-ghost use Rattle.pbx_well_known.specs.Shapes.{form_of as form_of_type};
+ghost use Rattle.pbx_content.specs.Content.{fields, vals_of, pairs_of};
+ghost use Rattle.pbx_content.specs.Shape.{fields_of};
+ghost use Rattle.pbx_content_codec.specs.View.{content_of, val_of, entry_of, pair_of, fields_in};
+ghost use Rattle.pbx_wkt_types.specs.Shapes.{form_of as form_of_type};
 ghost use Rattle.pbx_json_meaning.specs.Fits.{fits as fits_of, payload_fits, payloads_fit, payload_by, val_payloads};
 ghost use Rattle.pbx_json_meaning.specs.Fits.{fields_payloads, vals_payloads, pairs_payloads};
-ghost use Rattle.pbx_field_names.specs.Index.{AreTypesIn};
+ghost use Rattle.pbx_json_schema.specs.Index.{AreTypesIn};
 
 use crate::types::{kind_at, message_type};
-use pbx_any::{payload_bytes, type_url};
-use pbx_codec::{Contents, Held, Pair, decode, depth};
-use pbx_field_names::TypeNames;
+use pbx_content::{Kind, Schema};
+use pbx_content_codec::{Contents, Held, Pair, decode, depth};
+use pbx_content_map::NumberMap;
 use pbx_json_payload_laws::fits_by_content;
-use pbx_meaning::{Kind, Schema};
-use pbx_number_map::NumberMap;
-use pbx_well_known::{Form, form_of};
+use pbx_json_schema::{TypeNames, payload_bytes, type_url};
 use pbx_wire::{DecodeError, List, NoMemory};
+use pbx_wkt_types::{Form, form_of};
 use std::alloc::Global;
 
 /// How many levels may stand below the top of a message whose bytes are read again.

@@ -1,12 +1,12 @@
 -- Worked rows of messages of `google.protobuf.Any` (google/protobuf/any.proto; ProtoJSON Format: Any).
 use Rattle.std.proofs.Common.{◌≡◌, pos, List, [], ◌∷◌, true, false, ℕ, Some, codes, refl, inl, inr}
 use Rattle.serde_json.specs.Data.{Data, string, null, boolean, object, no_members, member}
-use Rattle.pbx_meaning.specs.Content as content
-use Rattle.pbx_meaning.specs.Content.{Content}
-use Rattle.pbx_meaning.specs.Meaning.{meaning}
+use Rattle.pbx_content.specs.Content as content
+use Rattle.pbx_content.specs.Content.{Content}
+use Rattle.pbx_content.specs.Meaning.{meaning}
 use Rattle.pbx_wire.specs.Reading.{body_at, items_at, item_at, key_at, varint_at, keyed_at, value_at}
-use Rattle.pbx_well_known.specs.Known.{known_of}
-use Rattle.pbx_well_known.specs.Shapes.{form_of, is_as_declared}
+use Rattle.pbx_wkt_types.specs.Known.{known_of}
+use Rattle.pbx_wkt_types.specs.Shapes.{form_of, is_as_declared}
 use Rattle.pbx_json_meaning.specs.Options.{default_writing}
 use Rattle.pbx_json_meaning.specs.Stands.{content_for}
 use Rattle.pbx_json_meaning.specs.Faults.{JsonFault}

@@ -5,7 +5,7 @@ use Rattle.std.specs.Ordering.{ordering_then, ordering_reverse}
 use Rattle.std.specs.declared.cmp.Ordering.{Ordering}
 use Rattle.std.specs.declared.cmp.Ordering.TheVariants.{Less, Equal, Greater}
 use Rattle.serde_json.specs.Data.{Data}
-use Rattle.pbx_meaning.specs.declared.shape.Shape.{Shape}
+use Rattle.pbx_content.specs.declared.shape.Shape.{Shape}
 use Rattle.pbx_json_meaning.specs.Asked.{Asked}
 use Rattle.pbx_json_meaning.specs.Place.{IsUpTo, step_cmp, place_cmp}
 use Rattle.pbx_json_meaning.specs.Faults.{Inside, opened, into, IsKeyFault, FaultAt, FirstFaultAt, SomeWith, OkWith}

@@ -13,26 +13,26 @@ use Rattle.serde_json.specs.Data.{Data, null, boolean, number, string, array, ob
 use Rattle.serde_json.specs.Find.{of_integer}
 use Rattle.serde_json.specs.Written.{has_float, items_have_float, members_have_float}
 use Rattle.pbx_wire.specs.declared.rec.Rec.{Rec}
-use Rattle.pbx_meaning.specs.Content as content
-use Rattle.pbx_meaning.specs.Content.{Content, Fields, Val, Vals, Pairs, Key}
-use Rattle.pbx_meaning.specs.Encoding.{type_of}
-use Rattle.pbx_meaning.specs.Meaning.{zero_of, meaning_of}
-use Rattle.pbx_meaning.specs.Shape.{declared_of, field_of, enum_values_of}
-use Rattle.pbx_meaning.specs.declared.shape.Kind.{Kind}
-use Rattle.pbx_meaning.specs.declared.shape.Cardinality.{Cardinality}
-use Rattle.pbx_meaning.specs.declared.shape.Cardinality.TheVariants.{Singular, Repeated, Map}
-use Rattle.pbx_meaning.specs.declared.shape.FieldShape.{FieldShape}
-use Rattle.pbx_meaning.specs.declared.shape.EnumValueShape.{EnumValueShape}
-use Rattle.pbx_meaning.specs.declared.shape.Shape.{Shape}
+use Rattle.pbx_content.specs.Content as content
+use Rattle.pbx_content.specs.Content.{Content, Fields, Val, Vals, Pairs, Key}
+use Rattle.pbx_content.specs.Encoding.{type_of}
+use Rattle.pbx_content.specs.Meaning.{zero_of, meaning_of}
+use Rattle.pbx_content.specs.Shape.{declared_of, field_of, enum_values_of}
+use Rattle.pbx_content.specs.declared.shape.Kind.{Kind}
+use Rattle.pbx_content.specs.declared.shape.Cardinality.{Cardinality}
+use Rattle.pbx_content.specs.declared.shape.Cardinality.TheVariants.{Singular, Repeated, Map}
+use Rattle.pbx_content.specs.declared.shape.FieldShape.{FieldShape}
+use Rattle.pbx_content.specs.declared.shape.EnumValueShape.{EnumValueShape}
+use Rattle.pbx_content.specs.declared.shape.Shape.{Shape}
 use Rattle.pbx_json_meaning.specs.Asked.{Asked, field, one}
 use Rattle.pbx_json_meaning.specs.Laws.{CanonicalIsPlain}
 use Rattle.pbx_json_meaning.specs.Scalars.{Family, integers, truths, texts, bytes_texts, floats, messages, enums, family, is_null_value}
 use Rattle.pbx_json_meaning.specs.Stands.{all_read, ok_of}
 use Rattle.pbx_json_meaning.specs.Forms.{as_text}
 use Rattle.pbx_text.specs.declared.fault.TextFault.{TextFault}
-use Rattle.pbx_well_known.specs.Shapes.{form_of}
-use Rattle.pbx_well_known.specs.declared.form.Form.{Form}
-use Rattle.pbx_well_known.specs.declared.form.Form.TheVariants as forms
+use Rattle.pbx_wkt_types.specs.Shapes.{form_of}
+use Rattle.pbx_wkt_types.specs.declared.form.Form.{Form}
+use Rattle.pbx_wkt_types.specs.declared.form.Form.TheVariants as forms
 use Rattle.pbx_json_meaning.specs.declared.kind.JsonKind.{JsonKind}
 use Rattle.pbx_json_meaning.specs.Trees.{AreAboveKey, AreAscendingKeys, IsOrdered, AreOrdered, AreOrderedMembers}
 use Rattle.pbx_json_meaning.specs.Canonical.{is_wide, integer_tree, value_of_number, name_or_number, enum_tree, number_by, truth_by, text_by, bytes_by}

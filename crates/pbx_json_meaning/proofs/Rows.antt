@@ -5,19 +5,19 @@ use Rattle.std.specs.Fmt.{digits}
 use Rattle.std.specs.declared.cmp.Ordering.TheVariants.{Less}
 use Rattle.pbx_wire.specs.declared.rec.Rec.TheVariants.{Fixed32}
 use Rattle.serde_json.specs.Data.{Data, unsigned, negative, float, number, string, null, boolean, array, object, no_members, member, no_items, item}
-use Rattle.pbx_meaning.specs.Content as content
-use Rattle.pbx_meaning.specs.Content.{Content, Fields}
-use Rattle.pbx_meaning.specs.declared.shape.Kind.{Kind}
-use Rattle.pbx_meaning.specs.declared.shape.Kind.TheVariants as kind
-use Rattle.pbx_meaning.specs.declared.shape.Cardinality.{Cardinality}
-use Rattle.pbx_meaning.specs.declared.shape.Cardinality.TheVariants.{Singular, Repeated, Map}
-use Rattle.pbx_meaning.specs.declared.shape.FieldShape.{FieldShape}
-use Rattle.pbx_meaning.specs.declared.shape.MessageShape.{MessageShape}
-use Rattle.pbx_meaning.specs.declared.shape.EnumShape.{EnumShape}
-use Rattle.pbx_meaning.specs.declared.shape.EnumValueShape.{EnumValueShape}
-use Rattle.pbx_meaning.specs.declared.shape.Shape.{Shape}
-use Rattle.pbx_well_known.specs.Known.{known_of}
-use Rattle.pbx_well_known.specs.Shapes.{form_of, is_as_declared}
+use Rattle.pbx_content.specs.Content as content
+use Rattle.pbx_content.specs.Content.{Content, Fields}
+use Rattle.pbx_content.specs.declared.shape.Kind.{Kind}
+use Rattle.pbx_content.specs.declared.shape.Kind.TheVariants as kind
+use Rattle.pbx_content.specs.declared.shape.Cardinality.{Cardinality}
+use Rattle.pbx_content.specs.declared.shape.Cardinality.TheVariants.{Singular, Repeated, Map}
+use Rattle.pbx_content.specs.declared.shape.FieldShape.{FieldShape}
+use Rattle.pbx_content.specs.declared.shape.MessageShape.{MessageShape}
+use Rattle.pbx_content.specs.declared.shape.EnumShape.{EnumShape}
+use Rattle.pbx_content.specs.declared.shape.EnumValueShape.{EnumValueShape}
+use Rattle.pbx_content.specs.declared.shape.Shape.{Shape}
+use Rattle.pbx_wkt_types.specs.Known.{known_of}
+use Rattle.pbx_wkt_types.specs.Shapes.{form_of, is_as_declared}
 use Rattle.pbx_text.specs.Base64.{base64_of}
 use Rattle.pbx_text.specs.Timestamp.{timestamp_of, timestamp_text}
 use Rattle.pbx_text.specs.Mask.{mask_of, mask_text}

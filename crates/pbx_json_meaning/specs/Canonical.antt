@@ -7,25 +7,25 @@ use Rattle.std.specs.Fmt.{signed_decimal}
 use Rattle.pbx_wire.specs.declared.rec.Rec.{Rec}
 use Rattle.serde_json.specs.Data.{Data, null, boolean, number, string, array, object, Items, no_items, item, Members, no_members, member, put}
 use Rattle.serde_json.specs.Find.{of_integer}
-use Rattle.pbx_meaning.specs.Content as content
-use Rattle.pbx_meaning.specs.Content.{Content, Fields, no_fields, field as field_of_number, Val, Vals, no_vals, val, Pairs, no_pairs, pair, get, Key}
-use Rattle.pbx_meaning.specs.Content.{truth_key, number_key, text_key}
-use Rattle.pbx_meaning.specs.declared.shape.Kind.{Kind}
-use Rattle.pbx_meaning.specs.declared.shape.Kind.TheVariants as kind
-use Rattle.pbx_meaning.specs.declared.shape.Cardinality.{Cardinality}
-use Rattle.pbx_meaning.specs.declared.shape.Cardinality.TheVariants.{Singular, Repeated, Map}
-use Rattle.pbx_meaning.specs.declared.shape.Shape.{Shape}
-use Rattle.pbx_meaning.specs.declared.shape.FieldShape.{FieldShape}
-use Rattle.pbx_meaning.specs.declared.shape.EnumValueShape.{EnumValueShape}
+use Rattle.pbx_content.specs.Content as content
+use Rattle.pbx_content.specs.Content.{Content, Fields, no_fields, field as field_of_number, Val, Vals, no_vals, val, Pairs, no_pairs, pair, get, Key}
+use Rattle.pbx_content.specs.Content.{truth_key, number_key, text_key}
+use Rattle.pbx_content.specs.declared.shape.Kind.{Kind}
+use Rattle.pbx_content.specs.declared.shape.Kind.TheVariants as kind
+use Rattle.pbx_content.specs.declared.shape.Cardinality.{Cardinality}
+use Rattle.pbx_content.specs.declared.shape.Cardinality.TheVariants.{Singular, Repeated, Map}
+use Rattle.pbx_content.specs.declared.shape.Shape.{Shape}
+use Rattle.pbx_content.specs.declared.shape.FieldShape.{FieldShape}
+use Rattle.pbx_content.specs.declared.shape.EnumValueShape.{EnumValueShape}
 use Rattle.std.specs.Ordering.{int_eq}
-use Rattle.pbx_meaning.specs.Records.{number_of}
-use Rattle.pbx_meaning.specs.Shape.{declared_of, field_of, is_float, enum_values_of}
-use Rattle.pbx_meaning.specs.Encoding.{type_of}
-use Rattle.pbx_meaning.specs.Meaning.{zero_of, meaning_of}
+use Rattle.pbx_content.specs.Records.{number_of}
+use Rattle.pbx_content.specs.Shape.{declared_of, field_of, is_float, enum_values_of}
+use Rattle.pbx_content.specs.Encoding.{type_of}
+use Rattle.pbx_content.specs.Meaning.{zero_of, meaning_of}
 use Rattle.pbx_text.specs.Base64.{base64_text}
-use Rattle.pbx_well_known.specs.Shapes.{form_of}
-use Rattle.pbx_well_known.specs.declared.form.Form.{Form}
-use Rattle.pbx_well_known.specs.declared.form.Form.TheVariants as forms
+use Rattle.pbx_wkt_types.specs.Shapes.{form_of}
+use Rattle.pbx_wkt_types.specs.declared.form.Form.{Form}
+use Rattle.pbx_wkt_types.specs.declared.form.Form.TheVariants as forms
 use Rattle.pbx_json_meaning.specs.Scalars.{Family, integers, truths, texts, bytes_texts, enums, family, is_null_value}
 use Rattle.pbx_json_meaning.specs.Asked.{Asked, field, one, has_presence}
 use Rattle.pbx_json_meaning.specs.Urls.{type_of_url, stands_beside}

@@ -7,12 +7,12 @@ use Rattle.std.specs.Ordering.{nat_cmp, is_lt}
 use Rattle.std.specs.Cmp.Lexicographic.{slice_cmp}
 use Rattle.serde_json.specs.Data.{Data, array, object, Items, no_items, Members, no_members, member}
 use Rattle.serde_json.specs.Find.{get_member, get_item}
-use Rattle.pbx_meaning.specs.declared.shape.Kind.{Kind}
-use Rattle.pbx_meaning.specs.declared.shape.Kind.TheVariants as kind
-use Rattle.pbx_meaning.specs.declared.shape.Shape.{Shape}
-use Rattle.pbx_meaning.specs.declared.shape.FieldShape.{FieldShape}
-use Rattle.pbx_meaning.specs.Content.{Val, Key as MapKey}
-use Rattle.pbx_meaning.specs.Shape.{declared_of, is_float, is_other}
+use Rattle.pbx_content.specs.declared.shape.Kind.{Kind}
+use Rattle.pbx_content.specs.declared.shape.Kind.TheVariants as kind
+use Rattle.pbx_content.specs.declared.shape.Shape.{Shape}
+use Rattle.pbx_content.specs.declared.shape.FieldShape.{FieldShape}
+use Rattle.pbx_content.specs.Content.{Val, Key as MapKey}
+use Rattle.pbx_content.specs.Shape.{declared_of, is_float, is_other}
 use Rattle.pbx_json_meaning.specs.Names.{field_named}
 use Rattle.pbx_json_meaning.specs.Scalars.{if_ok, scalar_read, key_read}
 use Rattle.pbx_json_meaning.specs.Asked.{Asked, field, one, root, Target, nothing, single, list, map, target}

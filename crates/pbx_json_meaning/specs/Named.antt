@@ -1,10 +1,10 @@
 -- What linking promises of the names in a shape (Protocol Buffers "Language Guide (proto 3)": names are unique in their scope).
 use Rattle.std.specs.Prelude.{◌≡◌, ℕ, ℤ, pos, negsuc, int_le, ◌&&◌, Bool, true, false, Some, None, find}
 use Rattle.std.specs.List.{list_all}
-use Rattle.pbx_meaning.specs.declared.shape.Shape.{Shape}
-use Rattle.pbx_meaning.specs.declared.shape.FieldShape.{FieldShape}
-use Rattle.pbx_meaning.specs.declared.shape.EnumValueShape.{EnumValueShape}
-use Rattle.pbx_meaning.specs.Shape.{declared_of, field_of, enum_values_of}
+use Rattle.pbx_content.specs.declared.shape.Shape.{Shape}
+use Rattle.pbx_content.specs.declared.shape.FieldShape.{FieldShape}
+use Rattle.pbx_content.specs.declared.shape.EnumValueShape.{EnumValueShape}
+use Rattle.pbx_content.specs.Shape.{declared_of, field_of, enum_values_of}
 use Rattle.pbx_json_meaning.specs.Names.{name_is, extension_is}
 use Rattle.pbx_json_meaning.specs.Urls.{is_type_key}
 use Rattle.pbx_json_meaning.specs.Scalars.{value_named}

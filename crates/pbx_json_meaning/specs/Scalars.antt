@@ -4,15 +4,15 @@ use Rattle.std.specs.Prelude.{option_map, find, codes, Result, Ok, Err}
 use Rattle.std.specs.Str.{bytes_eq}
 use Rattle.serde_json.specs.Data.{Num, Data, null, boolean, number, string}
 use Rattle.serde_json.specs.Find.{as_integer}
-use Rattle.pbx_meaning.specs.Content as content
-use Rattle.pbx_meaning.specs.Content.{Val, Key, truth_key, number_key, text_key}
-use Rattle.pbx_meaning.specs.Shape.{enum_values_of, first_number}
-use Rattle.pbx_well_known.specs.Types.{enum_name}
+use Rattle.pbx_content.specs.Content as content
+use Rattle.pbx_content.specs.Content.{Val, Key, truth_key, number_key, text_key}
+use Rattle.pbx_content.specs.Shape.{enum_values_of, first_number}
+use Rattle.pbx_wkt_types.specs.Types.{enum_name}
 use Rattle.std.specs.Ordering.{int_eq}
-use Rattle.pbx_meaning.specs.declared.shape.Kind.{Kind}
-use Rattle.pbx_meaning.specs.declared.shape.Kind.TheVariants as kind
-use Rattle.pbx_meaning.specs.declared.shape.Shape.{Shape}
-use Rattle.pbx_meaning.specs.declared.shape.EnumValueShape.{EnumValueShape}
+use Rattle.pbx_content.specs.declared.shape.Kind.{Kind}
+use Rattle.pbx_content.specs.declared.shape.Kind.TheVariants as kind
+use Rattle.pbx_content.specs.declared.shape.Shape.{Shape}
+use Rattle.pbx_content.specs.declared.shape.EnumValueShape.{EnumValueShape}
 use Rattle.pbx_text.specs.Decimal.{signed_of, unsigned_of}
 use Rattle.pbx_text.specs.Base64.{base64_of}
 use Rattle.pbx_json_meaning.specs.declared.kind.JsonKind.{JsonKind}

@@ -5,10 +5,10 @@ use Rattle.std.specs.Option.{option_or}
 use Rattle.std.specs.Str.{bytes_eq}
 use Rattle.serde_json.specs.Data.{Members, no_members, member}
 use Rattle.serde_json.specs.Find.{get_member, as_str}
-use Rattle.pbx_meaning.specs.declared.shape.Shape.{Shape}
-use Rattle.pbx_well_known.specs.Shapes.{form_of}
-use Rattle.pbx_well_known.specs.declared.form.Form.{Form}
-use Rattle.pbx_well_known.specs.declared.form.Form.TheVariants as forms
+use Rattle.pbx_content.specs.declared.shape.Shape.{Shape}
+use Rattle.pbx_wkt_types.specs.Shapes.{form_of}
+use Rattle.pbx_wkt_types.specs.declared.form.Form.{Form}
+use Rattle.pbx_wkt_types.specs.declared.form.Form.TheVariants as forms
 
 -- the text behind the last `/`, if there is one
 abbrev pub after_slash : List ℕ → Option (List ℕ)

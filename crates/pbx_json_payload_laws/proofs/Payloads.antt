@@ -4,28 +4,28 @@ use Rattle.std.specs.Prelude.{option_and_then, option_map}
 use Rattle.serde_json.specs.Data.{Data}
 use Rattle.pbx_wire.specs.declared.rec.Rec.{Rec}
 use Rattle.pbx_wire.specs.Reading.{records_in, body_at, items_at, item_at}
-use Rattle.pbx_meaning.specs.Content as content
-use Rattle.pbx_meaning.specs.Content.{Content, Fields, no_fields, field as field_of_number, Val, Vals, no_vals, val, Pairs, no_pairs, pair, Key, get}
-use Rattle.pbx_meaning.specs.Encoding.{type_of}
-use Rattle.pbx_meaning.specs.Meaning.{Inner, no_inner, records_of, by_cardinality, value_among, singular, values, layer, meaning, meaning_within, meaning_of}
-use Rattle.pbx_meaning.specs.Shape.{declared_of, fields_of, is_float}
-use Rattle.pbx_meaning.specs.declared.shape.Cardinality.{Cardinality}
-use Rattle.pbx_meaning.specs.declared.shape.Cardinality.TheVariants.{Singular, Repeated, Map}
-use Rattle.pbx_meaning.specs.declared.shape.FieldShape.{FieldShape}
-use Rattle.pbx_meaning.specs.declared.shape.Kind.{Kind}
-use Rattle.pbx_meaning.specs.declared.shape.Kind.TheVariants as kind
-use Rattle.pbx_meaning.specs.declared.shape.Shape.{Shape}
-use Rattle.pbx_well_known.specs.Shapes.{form_of}
-use Rattle.pbx_well_known.specs.declared.form.Form.{Form}
-use Rattle.pbx_well_known.specs.declared.form.Form.TheVariants as forms
+use Rattle.pbx_content.specs.Content as content
+use Rattle.pbx_content.specs.Content.{Content, Fields, no_fields, field as field_of_number, Val, Vals, no_vals, val, Pairs, no_pairs, pair, Key, get}
+use Rattle.pbx_content.specs.Encoding.{type_of}
+use Rattle.pbx_content.specs.Meaning.{Inner, no_inner, records_of, by_cardinality, value_among, singular, values, layer, meaning, meaning_within, meaning_of}
+use Rattle.pbx_content.specs.Shape.{declared_of, fields_of, is_float}
+use Rattle.pbx_content.specs.declared.shape.Cardinality.{Cardinality}
+use Rattle.pbx_content.specs.declared.shape.Cardinality.TheVariants.{Singular, Repeated, Map}
+use Rattle.pbx_content.specs.declared.shape.FieldShape.{FieldShape}
+use Rattle.pbx_content.specs.declared.shape.Kind.{Kind}
+use Rattle.pbx_content.specs.declared.shape.Kind.TheVariants as kind
+use Rattle.pbx_content.specs.declared.shape.Shape.{Shape}
+use Rattle.pbx_wkt_types.specs.Shapes.{form_of}
+use Rattle.pbx_wkt_types.specs.declared.form.Form.{Form}
+use Rattle.pbx_wkt_types.specs.declared.form.Form.TheVariants as forms
 use Rattle.pbx_json_meaning.specs.Asked.{Asked}
 use Rattle.pbx_json_meaning.specs.Canonical.{Writing, writing, Tells, Told, kind_asked, array_tree, entries_tree, object_tree, own_tree, form_tree, any_tree, payload_in}
 use Rattle.pbx_json_meaning.specs.Canonical.{message_tree, tells, content_tree, fields_tell, vals_tell, pairs_tell, payload_tree, tree_of_payload}
 use Rattle.pbx_json_meaning.specs.Forms.{is_object_type, kind_at, text_at, bytes_at}
 use Rattle.pbx_json_meaning.specs.Urls.{type_of_url}
 use Rattle.pbx_json_meaning.specs.declared.options.SerializeOptions.{SerializeOptions}
-use Rattle.pbx_payload_laws.specs.Inside.{AreShorter, AreFieldsShorter, IsValShorter, AreValsShorter, ArePairsShorter}
-use Rattle.pbx_payload_laws.proofs.Shrinks.{meaning_shrinks}
+use Rattle.pbx_json_payload_laws.specs.Inside.{AreShorter, AreFieldsShorter, IsValShorter, AreValsShorter, ArePairsShorter}
+use Rattle.pbx_json_payload_laws.proofs.Shrinks.{meaning_shrinks}
 use Rattle.pbx_json_payload_laws.specs.Laws.{PayloadsByContent}
 use Rattle.pbx_json_payload_laws.proofs.Shorter.{bytes_short, get_shorter}
 

@@ -1,9 +1,9 @@
 -- Values of bytes in fields whose bytes are shorter than a number.
 use Rattle.std.proofs.Common.{◌≡◌, ℕ, ◌<◌, ◌==◌, length, Bool, true, false, if◌then◌else◌, Option, Some, None, refl, subst}
-use Rattle.pbx_meaning.specs.Content as content
-use Rattle.pbx_meaning.specs.Content.{Fields, no_fields, field as field_of_number, Val, get}
+use Rattle.pbx_content.specs.Content as content
+use Rattle.pbx_content.specs.Content.{Fields, no_fields, field as field_of_number, Val, get}
 use Rattle.pbx_json_meaning.specs.Forms.{bytes_at}
-use Rattle.pbx_payload_laws.specs.Inside.{AreFieldsShorter, IsValShorter}
+use Rattle.pbx_json_payload_laws.specs.Inside.{AreFieldsShorter, IsValShorter}
 
 pub bytes_short : (n : ℕ) → 0 < n → (v : Option Val) → ((w : Val) → v ≡ Some w → IsValShorter n w) → length (bytes_at v) < n
 bytes_short n some None h = some

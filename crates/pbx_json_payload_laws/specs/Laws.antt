@@ -1,8 +1,8 @@
 -- Laws of payloads in JSON, each proved as the contract of a public function.
 use Rattle.std.specs.Prelude.{◌≡◌, ℕ, List, false, Some, None}
-use Rattle.pbx_meaning.specs.Content.{Content}
-use Rattle.pbx_meaning.specs.Meaning.{meaning_of}
-use Rattle.pbx_meaning.specs.declared.shape.Shape.{Shape}
+use Rattle.pbx_content.specs.Content.{Content}
+use Rattle.pbx_content.specs.Meaning.{meaning_of}
+use Rattle.pbx_content.specs.declared.shape.Shape.{Shape}
 use Rattle.pbx_json_meaning.specs.Canonical.{content_tree, tree_of_payload, writing}
 use Rattle.pbx_json_meaning.specs.Fits.{payload_fits, payloads_fit}
 use Rattle.pbx_json_meaning.specs.declared.options.SerializeOptions.{SerializeOptions}

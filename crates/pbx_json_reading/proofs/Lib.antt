@@ -1,3 +1,9 @@
+pub mod Numbers
+pub mod Found
+pub mod Keys
+pub mod Moved
+pub mod Pairs
+pub mod Tree
 pub mod Names
 pub mod Empty
 pub mod Members

@@ -4,12 +4,12 @@ use Rattle.std.proofs.Common.{inl, inr, IfOk}
 use Rattle.pbx_json_meaning.specs.declared.error.JsonError.{JsonError}
 use Rattle.pbx_json_walk.specs.Walk.{IsFaultOf}
 use Rattle.std.proofs.Common.{IfErr, ◌⊎◌, None}
-use Rattle.pbx_meaning.specs.Sound.{IsProper}
-use Rattle.pbx_codec.specs.View.{content_of}
-use Rattle.pbx_codec.specs.declared.contents.Contents.{Contents}
+use Rattle.pbx_content.specs.Sound.{IsProper}
+use Rattle.pbx_content_codec.specs.View.{content_of}
+use Rattle.pbx_content_codec.specs.declared.contents.Contents.{Contents}
 use Rattle.pbx_json_meaning.specs.Stands.{Stands, content_for}
 use Rattle.pbx_json_meaning.specs.Faults.{FirstJsonFault}
-use Rattle.pbx_json_walk_laws.specs.Laws.{IsTold, MessageIsTold, IsFirstFault, FaultIsFirst}
+use Rattle.pbx_json_walk.specs.Laws.{IsTold, MessageIsTold, IsFirstFault, FaultIsFirst}
 use Rattle.std.specs.Map.{keys_of}
 use Rattle.std.specs.String.{string_cmp}
 use Rattle.std.specs.List.Sorted.{IsStrictlySortedBy}
@@ -19,15 +19,15 @@ use Rattle.std.proofs.lemmas.Map.Keys.{sorted_head, sorted_tail}
 use Rattle.serde_json.specs.Data.{Data, null, boolean, number, string, array, object, Members, no_members, member}
 use Rattle.serde_json.specs.View.{members_view}
 use Rattle.serde_json.specs.declared.value.Value.{Value}
-use Rattle.pbx_meaning.specs.Content.{Content}
-use Rattle.pbx_meaning.specs.Shape.{is_float}
-use Rattle.pbx_meaning.specs.declared.shape.Kind.{Kind}
-use Rattle.pbx_meaning.specs.declared.shape.Shape.{Shape}
+use Rattle.pbx_content.specs.Content.{Content}
+use Rattle.pbx_content.specs.Shape.{is_float}
+use Rattle.pbx_content.specs.declared.shape.Kind.{Kind}
+use Rattle.pbx_content.specs.declared.shape.Shape.{Shape}
 use Rattle.std.proofs.Common.{if◌then◌else◌}
 use Rattle.pbx_json_meaning.specs.declared.kind.JsonKind.TheVariants.{NoMemory, UnknownField}
 use Rattle.pbx_json_walk.specs.Opened.{members_of_map, members_if_none, members_in}
 use Rattle.pbx_json_walk.specs.Walk.{Answer, answer_map, and_then, or_here, are_ascending, members_answer, message_answer, content_found, walk, start, parts, elements_in, parts_in}
-use Rattle.pbx_meaning.specs.declared.shape.FieldShape.{FieldShape}
+use Rattle.pbx_content.specs.declared.shape.FieldShape.{FieldShape}
 use Rattle.std.specs.Prelude.{not}
 use Rattle.pbx_json_meaning.specs.Names.{field_named}
 use Rattle.pbx_json_meaning.specs.Urls.{is_type_key, is_value_key}
@@ -36,7 +36,7 @@ use Rattle.std.proofs.Common.{Option, Some}
 use Rattle.pbx_json_walk.specs.Walk.{Answers, key_judged, noted, field_turn, payload_turn, message_found, here}
 use Rattle.pbx_json_meaning.specs.declared.place.Step.TheVariants.{Key as to_key}
 use Rattle.pbx_json_walk.specs.Walk.{Part, State, at_step, turn, beside_type, beside_answer, walk_payload, payload_found, payload_answer}
-use Rattle.pbx_json_walk_laws.proofs.Beside.{ascending_without}
+use Rattle.pbx_json_walk.proofs.Beside.{ascending_without}
 use Rattle.pbx_json_reading.specs.Objects.{object_answer, beside_object, fields_object, is_passed, parts_read, member_turn, payload_object}
 use Rattle.pbx_json_walk.specs.Walk.{map_answer, map_value, walk_entries, no_entries, entries_answer}
 

@@ -1,7 +1,7 @@
 -- Full names by their places.
 use Rattle.std.proofs.Common.{◌≡◌, ℕ, zero, suc, ◌<◌, ◌≤◌, List, [], ◌∷◌, length, get_or, refl, arith}
-use Rattle.pbx_meaning.specs.declared.shape.MessageShape.{MessageShape}
-use Rattle.pbx_well_known.specs.Types.{message_name_at}
+use Rattle.pbx_content.specs.declared.shape.MessageShape.{MessageShape}
+use Rattle.pbx_wkt_types.specs.Types.{message_name_at}
 
 pub message_here : (ms : List MessageShape) (t : ℕ) (d : MessageShape) → t < length ms → message_name_at ms t ≡ (get_or ms t d).full_name
 message_here [] t d h = absurd (omega arith)

@@ -1,9 +1,9 @@
 -- What a tree is as an object of fields.
 use Rattle.std.specs.Prelude.{ℕ, List, Bool, if◌then◌else◌, true, false, not, ◌&&◌, filter, Ok}
 use Rattle.serde_json.specs.Data.{Data}
-use Rattle.pbx_meaning.specs.Content.{Content}
-use Rattle.pbx_meaning.specs.declared.shape.FieldShape.{FieldShape}
-use Rattle.pbx_meaning.specs.declared.shape.Kind.{Kind}
+use Rattle.pbx_content.specs.Content.{Content}
+use Rattle.pbx_content.specs.declared.shape.FieldShape.{FieldShape}
+use Rattle.pbx_content.specs.declared.shape.Kind.{Kind}
 use Rattle.pbx_json_meaning.specs.Names.{field_named}
 use Rattle.pbx_json_meaning.specs.Urls.{is_type_key}
 use Rattle.pbx_json_meaning.specs.declared.place.Step.TheVariants.{Key as to_key}

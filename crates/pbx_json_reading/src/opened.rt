@@ -1,14 +1,14 @@
 // What is read of a tree, before what is inside it is read.
 ghost use Rattle.std.specs.Prelude.{◌≡◌, true, false};
 ghost use Rattle.serde_json.specs.View.{view, items_view, members_view};
-ghost use Rattle.pbx_well_known.specs.Types.{message_name as message_name_of};
+ghost use Rattle.pbx_wkt_types.specs.Types.{message_name as message_name_of};
 ghost use Rattle.pbx_json_meaning.specs.Asked.{field_target, target_by, nothing, reads_null as reads_null_of};
 ghost use Rattle.pbx_json_walk.specs.Opened.{reads_null_for, option_members, option_items, members_in};
 ghost use Rattle.pbx_json_walk.specs.Opened.{items_of_list, members_of_map, items_if_none, members_if_none, wrong_kind_of};
 
-use pbx_json_kinds::{is_float, is_null_value};
+use pbx_content::{Cardinality, FieldShape, Kind, Schema};
 use pbx_json_meaning::JsonKind;
-use pbx_meaning::{Cardinality, FieldShape, Kind, Schema};
+use pbx_json_schema::{is_float, is_null_value};
 use serde_json::{Map, Value};
 
 /// The full name of the message type at a place; a place outside the schema has the empty one.

@@ -1,22 +1,22 @@
 ghost use Rattle.std.specs.Prelude.{◌≡◌, ◌⊎◌, None, Ok, Err, not, IfOk, IfErr, option_map, map};
 ghost use Rattle.serde_json.specs.View.{view};
-ghost use Rattle.pbx_meaning.specs.Shape.{declared_of};
-ghost use Rattle.pbx_meaning.specs.declared.shape.Kind.TheVariants.{Message};
-ghost use Rattle.pbx_codec.specs.View.{content_of, val_of, key_of};
+ghost use Rattle.pbx_content.specs.Shape.{declared_of};
+ghost use Rattle.pbx_content.specs.declared.shape.Kind.TheVariants.{Message};
+ghost use Rattle.pbx_content_codec.specs.View.{content_of, val_of, key_of};
 ghost use Rattle.pbx_json_meaning.specs.Asked.{field as asked_field, one as asked_one, target_by};
 ghost use Rattle.pbx_json_meaning.specs.Names.{field_named};
 ghost use Rattle.pbx_json_meaning.specs.Stands.{Stands, content_for};
 ghost use Rattle.pbx_json_meaning.specs.Faults.{FirstJsonFault};
 ghost use Rattle.pbx_json_meaning.specs.declared.kind.JsonKind.TheVariants.{NoMemory as OutOfMemory};
 ghost use Rattle.pbx_json_meaning.specs.declared.place.Step.TheVariants.{Key as to_key};
-ghost use Rattle.pbx_field_names.specs.Index.{AreNamesIn};
+ghost use Rattle.pbx_json_schema.specs.Index.{AreNamesIn};
 ghost use Rattle.pbx_json_walk.specs.Walk.{answers, at_step, key_judged, payload_turn};
 ghost use Rattle.pbx_json_walk.specs.Walk.{message_answer, own_answer, list_answer, map_answer, target_answer};
 ghost use Rattle.pbx_json_walk.specs.Walk.{parts_in, elements_in, entry_key, entry_turn, item_turn};
-ghost use Rattle.pbx_json_reading_objects.specs.States.{state_of, entries_of};
+ghost use Rattle.pbx_json_reading.specs.States.{state_of, entries_of};
 ghost use Rattle.pbx_json_reading.specs.Objects.{fields_object, member_turn, payload_object};
 ghost use Rattle.pbx_json_reading.specs.Results.{IsResultOf};
-ghost use Rattle.pbx_json_reading_forms.specs.Holders.{own_of};
+ghost use Rattle.pbx_json_reading.specs.Holders.{own_of};
 
 use crate::opened::{is_left_out, list_items, map_members, object_members};
 use crate::reading::Reading;
@@ -24,19 +24,17 @@ use crate::told::{
     add_item, add_pair, as_held, held_by, is_passed, note_payload, note_read, packed, read_plain,
     shown_read, skip_or_refuse,
 };
-use pbx_codec::{Contents, Held, MapKey};
-use pbx_field_names::SchemaNames;
-use pbx_json_kinds::{is_object_form, kind_at};
-use pbx_json_meaning::{DeserializeOptions, JsonError, JsonKind};
-use pbx_json_reading_forms::{
-    Own, Packing, is_type_key, is_value_key, payload_found, read_own, skips_keys,
+use crate::{
+    MapEntries, ObjectState, Own, Packing, at_key, at_tree, is_type_key, is_value_key, map_held,
+    payload_found, read_key, read_own, skips_keys,
 };
-use pbx_json_reading_objects::{MapEntries, ObjectState, at_key, at_tree, map_held};
-use pbx_json_reading_scalars::read_key;
-use pbx_json_walk_laws::{fault_is_first, message_is_told};
-use pbx_meaning::{Cardinality, FieldShape, Kind, Schema};
-use pbx_well_known::form_of;
+use pbx_content::{Cardinality, FieldShape, Kind, Schema};
+use pbx_content_codec::{Contents, Held, MapKey};
+use pbx_json_meaning::{DeserializeOptions, JsonError, JsonKind};
+use pbx_json_schema::{SchemaNames, is_object_form, kind_at};
+use pbx_json_walk::{fault_is_first, message_is_told};
 use pbx_wire::List;
+use pbx_wkt_types::form_of;
 use serde_json::Value;
 use std::alloc::Global;
 

@@ -1,4 +1,4 @@
-use pbx_meaning::Schema;
+use pbx_content::Schema;
 use std::alloc::Global;
 
 /// What all of a tree is read by.

@@ -1,31 +1,30 @@
 // What follows from what was read inside a tree: each function hands on the fault, or makes its own of the value.
 ghost use Rattle.std.specs.Prelude.{◌≡◌, false, Ok, option_map, map, if◌then◌else◌, Option};
 ghost use Rattle.serde_json.specs.View.{view};
-ghost use Rattle.pbx_meaning.specs.Content.{Content, Val};
-ghost use Rattle.pbx_meaning.specs.Meaning.{shown as shown_of};
-ghost use Rattle.pbx_codec.specs.View.{content_of, val_of, key_of};
+ghost use Rattle.pbx_content.specs.Content.{Content, Val};
+ghost use Rattle.pbx_content.specs.Meaning.{shown as shown_of};
+ghost use Rattle.pbx_content_codec.specs.View.{content_of, val_of, key_of};
 ghost use Rattle.pbx_json_meaning.specs.Asked.{has_presence};
 ghost use Rattle.pbx_json_meaning.specs.Scalars.{scalar_read};
 ghost use Rattle.pbx_json_meaning.specs.declared.kind.JsonKind.TheVariants.{UnknownField as NoField};
 ghost use Rattle.pbx_json_meaning.specs.declared.place.Step.TheVariants.{Key as to_key, Index as to_index};
-ghost use Rattle.pbx_field_names.specs.Index.{AreNamesIn};
+ghost use Rattle.pbx_json_schema.specs.Index.{AreNamesIn};
 ghost use Rattle.pbx_json_walk.specs.Walk.{Answer, answer_map, and_then, as_value, at_step, here, or_here, message_found, noted};
 ghost use Rattle.pbx_json_walk.specs.Walk.{with_present, with_entry};
-ghost use Rattle.pbx_json_reading_objects.specs.States.{state_of, entries_of};
-ghost use Rattle.pbx_json_reading_forms.specs.Holders.{held_in, packed_by};
+ghost use Rattle.pbx_json_reading.specs.States.{state_of, entries_of};
+ghost use Rattle.pbx_json_reading.specs.Holders.{held_in, packed_by};
 ghost use Rattle.pbx_json_reading.specs.Objects.{is_passed as is_passed_by};
 ghost use Rattle.pbx_json_reading.specs.Results.{IsResultOf};
 
 use crate::reading::Reading;
-use pbx_codec::{Contents, Held, MapKey};
-use pbx_field_names::SchemaNames;
-use pbx_json_meaning::{JsonError, JsonKind};
-use pbx_json_reading_forms::{Holder, Packing, hold, is_type_key, pack, shown};
-use pbx_json_reading_objects::{
-    MapEntries, ObjectState, add_entry, add_value, at_key, at_tree, below_index, below_key, note_at,
+use crate::{
+    Holder, MapEntries, ObjectState, Packing, add_entry, add_value, at_key, at_tree, below_index,
+    below_key, hold, is_type_key, note_at, pack, read_scalar, shown,
 };
-use pbx_json_reading_scalars::read_scalar;
-use pbx_meaning::{FieldShape, Kind};
+use pbx_content::{FieldShape, Kind};
+use pbx_content_codec::{Contents, Held, MapKey};
+use pbx_json_meaning::{JsonError, JsonKind};
+use pbx_json_schema::SchemaNames;
 use pbx_wire::List;
 use serde_json::Value;
 

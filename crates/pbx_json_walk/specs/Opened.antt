@@ -7,12 +7,12 @@ use Rattle.std.specs.declared.alloc.Global.{Global}
 use Rattle.serde_json.specs.Data.{Data, array, object, Items, no_items, item, Members, no_members, member}
 use Rattle.serde_json.specs.View.{items_view, members_view}
 use Rattle.serde_json.specs.declared.value.Value.{Value}
-use Rattle.pbx_meaning.specs.declared.shape.Kind.{Kind}
-use Rattle.pbx_meaning.specs.declared.shape.Shape.{Shape}
-use Rattle.pbx_meaning.specs.declared.shape.FieldShape.{FieldShape}
-use Rattle.pbx_meaning.specs.declared.shape.Cardinality.{Cardinality}
-use Rattle.pbx_meaning.specs.declared.shape.Cardinality.TheVariants.{Singular}
-use Rattle.pbx_meaning.specs.Shape.{is_float}
+use Rattle.pbx_content.specs.declared.shape.Kind.{Kind}
+use Rattle.pbx_content.specs.declared.shape.Shape.{Shape}
+use Rattle.pbx_content.specs.declared.shape.FieldShape.{FieldShape}
+use Rattle.pbx_content.specs.declared.shape.Cardinality.{Cardinality}
+use Rattle.pbx_content.specs.declared.shape.Cardinality.TheVariants.{Singular}
+use Rattle.pbx_content.specs.Shape.{is_float}
 use Rattle.pbx_json_meaning.specs.Asked.{reads_null}
 use Rattle.pbx_json_meaning.specs.declared.kind.JsonKind.{JsonKind}
 use Rattle.pbx_json_meaning.specs.declared.kind.JsonKind.TheVariants as fault

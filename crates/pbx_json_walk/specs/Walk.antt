@@ -5,14 +5,14 @@ use Rattle.std.specs.BTreeSet.{BTreeSet, contains, insert_key}
 use Rattle.std.specs.Ordering.{nat_cmp, int_cmp, is_lt}
 use Rattle.std.specs.Cmp.Lexicographic.{slice_cmp}
 use Rattle.serde_json.specs.Data.{Data, null, boolean, number, string, array, object, Items, no_items, item, Members, no_members, member}
-use Rattle.pbx_meaning.specs.Content as content
-use Rattle.pbx_meaning.specs.Content.{Content, Val, vals_of, Key, number_key, by_key, with_value, with_fields, fields, empty}
-use Rattle.pbx_meaning.specs.Meaning.{shown}
-use Rattle.pbx_meaning.specs.Shape.{declared_of}
-use Rattle.pbx_meaning.specs.declared.shape.Kind.{Kind}
-use Rattle.pbx_meaning.specs.declared.shape.Kind.TheVariants as kind
-use Rattle.pbx_meaning.specs.declared.shape.Shape.{Shape}
-use Rattle.pbx_meaning.specs.declared.shape.FieldShape.{FieldShape}
+use Rattle.pbx_content.specs.Content as content
+use Rattle.pbx_content.specs.Content.{Content, Val, vals_of, Key, number_key, by_key, with_value, with_fields, fields, empty}
+use Rattle.pbx_content.specs.Meaning.{shown}
+use Rattle.pbx_content.specs.Shape.{declared_of}
+use Rattle.pbx_content.specs.declared.shape.Kind.{Kind}
+use Rattle.pbx_content.specs.declared.shape.Kind.TheVariants as kind
+use Rattle.pbx_content.specs.declared.shape.Shape.{Shape}
+use Rattle.pbx_content.specs.declared.shape.FieldShape.{FieldShape}
 use Rattle.pbx_json_meaning.specs.Names.{field_named}
 use Rattle.pbx_json_meaning.specs.Scalars.{scalar_read, key_read, if_ok}
 use Rattle.pbx_json_meaning.specs.Urls.{is_type_key, is_value_key, without_type}

@@ -1,1 +1,16 @@
+pub mod OfEnums
+pub mod OfScalars
+pub mod Refusing
+pub mod Arrays
+pub mod Collected
+pub mod Entries
+pub mod Keys
+pub mod OfDefaults
+pub mod OfFields
+pub mod OfForms
+pub mod OfKept
+pub mod OfMembers
+pub mod OfValues
+pub mod ValueRows
+pub mod Views
 pub mod OfAny

@@ -10,19 +10,19 @@ use Rattle.serde_json.specs.Data.{Data, object, Members, no_members}
 use Rattle.serde_json.specs.View.{view}
 use Rattle.serde_json.specs.declared.value.Value.{Value}
 use Rattle.pbx_wire.specs.declared.rec.Rec.{Rec}
-use Rattle.pbx_meaning.specs.Content as content
-use Rattle.pbx_meaning.specs.Content.{Content, Fields, message, fields, kept, get}
-use Rattle.pbx_meaning.specs.Encoding.{type_of}
-use Rattle.pbx_meaning.specs.Meaning.{meaning_of}
-use Rattle.pbx_meaning.specs.Shape.{declared_of}
-use Rattle.pbx_meaning.specs.declared.shape.FieldShape.{FieldShape}
-use Rattle.pbx_meaning.specs.declared.shape.Kind.{Kind}
-use Rattle.pbx_meaning.specs.declared.shape.Kind.TheVariants as kind
-use Rattle.pbx_meaning.specs.declared.shape.Shape.{Shape}
-use Rattle.pbx_codec.specs.View.{content_of}
-use Rattle.pbx_well_known.specs.Shapes.{form_of}
-use Rattle.pbx_well_known.specs.declared.form.Form.{Form}
-use Rattle.pbx_well_known.specs.declared.form.Form.TheVariants as forms
+use Rattle.pbx_content.specs.Content as content
+use Rattle.pbx_content.specs.Content.{Content, Fields, message, fields, kept, get}
+use Rattle.pbx_content.specs.Encoding.{type_of}
+use Rattle.pbx_content.specs.Meaning.{meaning_of}
+use Rattle.pbx_content.specs.Shape.{declared_of}
+use Rattle.pbx_content.specs.declared.shape.FieldShape.{FieldShape}
+use Rattle.pbx_content.specs.declared.shape.Kind.{Kind}
+use Rattle.pbx_content.specs.declared.shape.Kind.TheVariants as kind
+use Rattle.pbx_content.specs.declared.shape.Shape.{Shape}
+use Rattle.pbx_content_codec.specs.View.{content_of}
+use Rattle.pbx_wkt_types.specs.Shapes.{form_of}
+use Rattle.pbx_wkt_types.specs.declared.form.Form.{Form}
+use Rattle.pbx_wkt_types.specs.declared.form.Form.TheVariants as forms
 use Rattle.pbx_json_meaning.specs.Asked.{one}
 use Rattle.pbx_json_meaning.specs.Canonical.{Writing, writing, tells, any_with, payload_in, payload_tree, tree_of_payload, keeps_float, key_of_field}
 use Rattle.pbx_json_meaning.specs.Canonical.{is_written_default, has_key}
@@ -36,17 +36,17 @@ use Rattle.pbx_json_meaning.specs.declared.options.SerializeOptions.{SerializeOp
 use Rattle.pbx_json_meaning.specs.declared.place.Step.{Step}
 use Rattle.pbx_json_meaning.specs.declared.place.Step.TheVariants.{Key, Index}
 use Rattle.pbx_json_payload_laws.proofs.Payloads.{payloads_by_content}
-use Rattle.pbx_json_writing_forms.specs.Lines.{with_lines, collected, field_lines, default_lines}
+use Rattle.pbx_json_writing.specs.Lines.{with_lines, collected, field_lines, default_lines}
 use Rattle.pbx_json_writing.specs.Payloads.{IsPayloadOf}
-use Rattle.pbx_json_writing_scalars.specs.Refusals.{Refused, IsPayloadRefused, IsTypeRefused, IsAnyRefused}
+use Rattle.pbx_json_writing.specs.Refusals.{Refused, IsPayloadRefused, IsTypeRefused, IsAnyRefused}
 use Rattle.pbx_json_writing.specs.declared.any.Payload.{Payload}
-use Rattle.pbx_json_writing_scalars.specs.declared.refusal.Refusal.{Refusal}
-use Rattle.pbx_json_writing_scalars.specs.declared.refusal.Refusal.TheVariants as refused
-use Rattle.pbx_json_writing_forms.proofs.Collected.{with_lines-append, with_lines_none, keys_of_lines}
-use Rattle.pbx_json_writing_forms.proofs.OfDefaults.{keys_of_defaults}
-use Rattle.pbx_json_writing_forms.proofs.OfFields.{all_lines, lines_are, fields_there}
-use Rattle.pbx_json_writing_forms.proofs.OfForms.{own_told, own_parts}
-use Rattle.pbx_json_writing_scalars.proofs.Refusing.{Stops, refused_key, refused_lifted}
+use Rattle.pbx_json_writing.specs.declared.refusal.Refusal.{Refusal}
+use Rattle.pbx_json_writing.specs.declared.refusal.Refusal.TheVariants as refused
+use Rattle.pbx_json_writing.proofs.Collected.{with_lines-append, with_lines_none, keys_of_lines}
+use Rattle.pbx_json_writing.proofs.OfDefaults.{keys_of_defaults}
+use Rattle.pbx_json_writing.proofs.OfFields.{all_lines, lines_are, fields_there}
+use Rattle.pbx_json_writing.proofs.OfForms.{own_told, own_parts}
+use Rattle.pbx_json_writing.proofs.Refusing.{Stops, refused_key, refused_lifted}
 
 -- ---- counting keys
 

@@ -1,10 +1,10 @@
 -- The payload that was found in an `Any`.
 use Rattle.std.specs.Prelude.{◌≡◌, Some}
-use Rattle.pbx_meaning.specs.Content.{Fields, get}
-use Rattle.pbx_meaning.specs.Meaning.{meaning_of}
-use Rattle.pbx_meaning.specs.Sound.{IsSound}
-use Rattle.pbx_meaning.specs.declared.shape.Shape.{Shape}
-use Rattle.pbx_codec.specs.View.{content_of}
+use Rattle.pbx_content.specs.Content.{Fields, get}
+use Rattle.pbx_content.specs.Meaning.{meaning_of}
+use Rattle.pbx_content.specs.Sound.{IsSound}
+use Rattle.pbx_content.specs.declared.shape.Shape.{Shape}
+use Rattle.pbx_content_codec.specs.View.{content_of}
 use Rattle.pbx_json_meaning.specs.Forms.{text_at, bytes_at}
 use Rattle.pbx_json_meaning.specs.Urls.{type_of_url}
 use Rattle.pbx_json_writing.specs.declared.any.Payload.{Payload}

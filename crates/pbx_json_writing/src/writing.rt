@@ -1,36 +1,34 @@
 ghost use Rattle.std.specs.Prelude.{◌≡◌, ◌⊎◌, Some, None, map as map_list, true, IfOk, IfErr};
 ghost use Rattle.serde_json.specs.View.{view, members_view};
-ghost use Rattle.pbx_meaning.specs.Content.{message, many as many_of, keyed, vals_of, pairs_of, get, fields};
-ghost use Rattle.pbx_meaning.specs.Encoding.{type_of};
-ghost use Rattle.pbx_meaning.specs.Shape.{declared_of};
-ghost use Rattle.pbx_meaning.specs.Sound.{IsSound};
-ghost use Rattle.pbx_codec.specs.View.{val_of, content_of, pair_of};
+ghost use Rattle.pbx_content.specs.Content.{message, many as many_of, keyed, vals_of, pairs_of, get, fields};
+ghost use Rattle.pbx_content.specs.Encoding.{type_of};
+ghost use Rattle.pbx_content.specs.Shape.{declared_of};
+ghost use Rattle.pbx_content.specs.Sound.{IsSound};
+ghost use Rattle.pbx_content_codec.specs.View.{val_of, content_of, pair_of};
 ghost use Rattle.pbx_json_meaning.specs.Forms.{is_object_type, kind_at as kind_at_of};
-ghost use Rattle.pbx_well_known.specs.Shapes.{form_of as form_of_type};
-ghost use Rattle.pbx_well_known.specs.declared.form.Form.TheVariants as forms;
+ghost use Rattle.pbx_wkt_types.specs.Shapes.{form_of as form_of_type};
+ghost use Rattle.pbx_wkt_types.specs.declared.form.Form.TheVariants as forms;
 ghost use Rattle.pbx_json_meaning.specs.Asked.{one};
 ghost use Rattle.pbx_json_meaning.specs.Faults.{SomeWith};
 ghost use Rattle.pbx_json_meaning.specs.Canonical.{writing, tells, canonical};
 ghost use Rattle.pbx_json_meaning.specs.WriteFaults.{WriteFault};
 ghost use Rattle.pbx_json_meaning.specs.declared.kind.JsonKind.TheVariants as fault;
-ghost use Rattle.pbx_json_writing_scalars.specs.Indexes.{AreIndexes};
-ghost use Rattle.pbx_json_writing_scalars.specs.Kinds.{told_value, is_passed_form as is_passed_form_of};
-ghost use Rattle.pbx_json_writing_forms.specs.Lines.{field_members};
-ghost use Rattle.pbx_json_writing_scalars.specs.Refusals.{Refused};
+ghost use Rattle.pbx_json_writing.specs.Indexes.{AreIndexes};
+ghost use Rattle.pbx_json_writing.specs.Kinds.{told_value, is_passed_form as is_passed_form_of};
+ghost use Rattle.pbx_json_writing.specs.Lines.{field_members};
+ghost use Rattle.pbx_json_writing.specs.Refusals.{Refused};
 
 use crate::any::{payload_of, with_payload};
-use pbx_any::type_url;
-use pbx_codec::{Contents, Held, Pair};
-use pbx_json_kinds::{is_object_form, kind_at};
-use pbx_json_meaning::{JsonError, JsonKind, SerializeOptions};
-use pbx_json_writing_forms::{
-    add_item, add_member, field_numbered, is_passed_form, keeps_no_float, key_of_field,
-    message_type, number_of_value, own_tree, with_defaults,
+use crate::{
+    Indexes, Refusal, add_item, add_member, field_numbered, is_passed_form, keeps_no_float,
+    key_of_field, key_text, message_type, number_of_value, own_tree, scalar_tree, with_defaults,
 };
-use pbx_json_writing_scalars::{Indexes, Refusal, key_text, scalar_tree};
-use pbx_meaning::{Kind, Schema};
-use pbx_well_known::{Form, form_of};
+use pbx_content::{Kind, Schema};
+use pbx_content_codec::{Contents, Held, Pair};
+use pbx_json_meaning::{JsonError, JsonKind, SerializeOptions};
+use pbx_json_schema::{is_object_form, kind_at, type_url};
 use pbx_wire::List;
+use pbx_wkt_types::{Form, form_of};
 use serde_json::{Map, Value};
 use std::alloc::Global;
 

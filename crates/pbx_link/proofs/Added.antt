@@ -4,11 +4,11 @@ use Rattle.std.specs.Prelude.{◌≢◌}
 use Rattle.pbx_desc_records.specs.declared.file.FileDescriptorProto.{FileDescriptorProto}
 use Rattle.pbx_wire.specs.declared.error.DecodeError.{DecodeError as Fault}
 use Rattle.pbx_wire.specs.declared.error.DecodeError.TheVariants as faults
-use Rattle.pbx_meaning.specs.Content.{Content}
-use Rattle.pbx_meaning.specs.Faults.{IsFirst, IsToldFault}
+use Rattle.pbx_content.specs.Content.{Content}
+use Rattle.pbx_content.specs.Faults.{IsFirst, IsToldFault}
 use Rattle.pbx_desc_encoding.specs.Sets.{set_meaning_of, IsSetFault}
-use Rattle.pbx_rules.specs.Breaches.{keeps_rules}
-use Rattle.pbx_pool_laws.specs.Pool.{with_file}
+use Rattle.pbx_link_rules.specs.Breaches.{keeps_rules}
+use Rattle.pbx_link_rules.specs.Pool.{with_file}
 use Rattle.pbx_link.specs.declared.error.DescriptorError.{DescriptorError}
 use Rattle.pbx_link.specs.declared.error.DescriptorError.TheVariants.{Rule, Decode, NoMemory}
 use Rattle.pbx_link.specs.Pool.{IsRefused}

@@ -2,7 +2,7 @@
 use Rattle.std.proofs.Common.{◌≡◌, ◌≢◌, ℕ, List, [], ◌∷◌, Bool, true, false, Option, Some, None, refl, ap, sym, arith, Bor}
 use Rattle.std.specs.Prelude.{◌==◌, option_copied, MatchOption, if◌then◌else◌}
 use Rattle.std.proofs.lemmas.Bool.Decides.{nat_tests}
-use Rattle.pbx_described.specs.Descriptors.{behind_dot}
+use Rattle.pbx_link_meaning.specs.Descriptors.{behind_dot}
 
 no_dot : (bs : List ℕ) → ((rest : List ℕ) → bs ≢ 46 ∷ rest) → behind_dot bs ≡ None
 no_dot [] h = refl

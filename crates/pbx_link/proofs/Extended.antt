@@ -11,10 +11,10 @@ use Rattle.std.proofs.lemmas.Slice.Eq.{bytes_eq-Decides}
 use Rattle.pbx_desc_records.specs.declared.field.FieldDescriptorProto.{FieldDescriptorProto}
 use Rattle.pbx_desc_records.specs.declared.file.FileDescriptorProto.{FileDescriptorProto}
 use Rattle.pbx_desc_records.specs.declared.message.DescriptorProto.{DescriptorProto}
-use Rattle.pbx_definitions.specs.Names.{is_named, dotted}
-use Rattle.pbx_definitions.specs.Definitions.{Part, messages, message_name, field_name}
-use Rattle.pbx_described.specs.Descriptors.{Described, described, behind_dot, referred, message_of_name, message_referred, all_messages}
-use Rattle.pbx_described.specs.Descriptors.{all_extensions, extensions_of_message, extension_with_json_name}
+use Rattle.pbx_link_definitions.specs.Names.{is_named, dotted}
+use Rattle.pbx_link_definitions.specs.Definitions.{Part, messages, message_name, field_name}
+use Rattle.pbx_link_meaning.specs.Descriptors.{Described, described, behind_dot, referred, message_of_name, message_referred, all_messages}
+use Rattle.pbx_link_meaning.specs.Descriptors.{all_extensions, extensions_of_message, extension_with_json_name}
 use Rattle.pbx_link.proofs.Sole.{find_same, find_none}
 
 -- ---- names behind a dot

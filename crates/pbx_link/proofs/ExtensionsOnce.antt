@@ -7,17 +7,17 @@ use Rattle.pbx_desc_records.specs.declared.field.FieldDescriptorProto.{FieldDesc
 use Rattle.pbx_desc_records.specs.declared.field.OneofDescriptorProto.{OneofDescriptorProto}
 use Rattle.pbx_desc_records.specs.declared.file.FileDescriptorProto.{FileDescriptorProto}
 use Rattle.pbx_desc_records.specs.declared.message.DescriptorProto.{DescriptorProto}
-use Rattle.pbx_definitions.specs.Names.{is_named, dotted}
-use Rattle.pbx_definitions.specs.Definitions.{Part, Defined, message_name, field_name, nested_in, extensions_in, oneofs_in, enums_in}
-use Rattle.pbx_definitions.specs.Definitions.{extensions_from, extensions}
-use Rattle.pbx_definitions.specs.Definitions.{top_messages, top_enums, top_extensions, services, definitions, definitions_from, before_nested, after_nested}
-use Rattle.pbx_definitions.specs.Definitions.{enum_definitions, service_definitions, field_definition, defined}
-use Rattle.pbx_definitions.specs.declared.definitions.Sort.TheVariants.{Extension as an_extension, Oneof as a_oneof}
-use Rattle.pbx_definitions.proofs.Told.{Each, ind_part, extensions_from_at, definitions_from_at}
-use Rattle.pbx_pool_laws.specs.Pool.{ArePooled}
-use Rattle.pbx_pool_laws.proofs.Counted.{count, count_append, count_map, is_called, defined_once}
-use Rattle.pbx_pool_laws.proofs.Distinct.{pooled_are_distinct}
-use Rattle.pbx_described.specs.Descriptors.{Described, described, all_extensions, extension_of_name, extensions_of_message}
+use Rattle.pbx_link_definitions.specs.Names.{is_named, dotted}
+use Rattle.pbx_link_definitions.specs.Definitions.{Part, Defined, message_name, field_name, nested_in, extensions_in, oneofs_in, enums_in}
+use Rattle.pbx_link_definitions.specs.Definitions.{extensions_from, extensions}
+use Rattle.pbx_link_definitions.specs.Definitions.{top_messages, top_enums, top_extensions, services, definitions, definitions_from, before_nested, after_nested}
+use Rattle.pbx_link_definitions.specs.Definitions.{enum_definitions, service_definitions, field_definition, defined}
+use Rattle.pbx_link_definitions.specs.declared.definitions.Sort.TheVariants.{Extension as an_extension, Oneof as a_oneof}
+use Rattle.pbx_link_definitions.proofs.Told.{Each, ind_part, extensions_from_at, definitions_from_at}
+use Rattle.pbx_link_rules.specs.Pool.{ArePooled}
+use Rattle.pbx_link_rules.proofs.Counted.{count, count_append, count_map, is_called, defined_once}
+use Rattle.pbx_link_rules.proofs.Distinct.{pooled_are_distinct}
+use Rattle.pbx_link_meaning.specs.Descriptors.{Described, described, all_extensions, extension_of_name, extensions_of_message}
 use Rattle.pbx_link.proofs.Sole.{found_by_both, kept}
 
 module _ (q : List ℕ) where

@@ -6,8 +6,8 @@ use Rattle.std.proofs.Math.ListN.{drop_of_length-le}
 use Rattle.std.proofs.lemmas.List.{drop_more}
 use Rattle.pbx_desc_records.specs.declared.file.FileDescriptorProto.{FileDescriptorProto}
 use Rattle.pbx_desc_records.specs.declared.message.DescriptorProto.{DescriptorProto}
-use Rattle.pbx_definitions.specs.Definitions.{Part, messages, message_name}
-use Rattle.pbx_described.specs.Descriptors.{Described, described}
+use Rattle.pbx_link_definitions.specs.Definitions.{Part, messages, message_name}
+use Rattle.pbx_link_meaning.specs.Descriptors.{Described, described}
 use Rattle.pbx_link.specs.Tables.{part_at, no_message}
 use Rattle.pbx_link.proofs.Parts.{part_there, find_mapped}
 

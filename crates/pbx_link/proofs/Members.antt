@@ -5,9 +5,9 @@ use Rattle.std.specs.List.{enumerate_from}
 use Rattle.std.proofs.lemmas.List.{get_or-map, length-map}
 use Rattle.pbx_desc_records.specs.declared.field.FieldDescriptorProto.{FieldDescriptorProto}
 use Rattle.pbx_desc_records.specs.declared.message.DescriptorProto.{DescriptorProto}
-use Rattle.pbx_definitions.specs.Definitions.{Part, part, message_name, fields_in}
-use Rattle.pbx_definitions.specs.Says.{is_number, own_fields}
-use Rattle.pbx_described.specs.Descriptors.{Described, described, fields_of_message}
+use Rattle.pbx_link_definitions.specs.Definitions.{Part, part, message_name, fields_in}
+use Rattle.pbx_link_definitions.specs.Says.{is_number, own_fields}
+use Rattle.pbx_link_meaning.specs.Descriptors.{Described, described, fields_of_message}
 use Rattle.pbx_link.specs.Tables.{part_at, no_field, members_from}
 use Rattle.pbx_link.proofs.Left.{next_within, next_passing, none_passing}
 

@@ -8,14 +8,14 @@ use Rattle.std.specs.Str.{bytes_eq}
 use Rattle.std.proofs.lemmas.List.Folds.{find-append}
 use Rattle.std.proofs.lemmas.Option.{slice_get_within, get_or_from_slice_get}
 use Rattle.pbx_desc_records.specs.declared.file.FileDescriptorProto.{FileDescriptorProto}
-use Rattle.pbx_definitions.specs.Names.{is_named}
-use Rattle.pbx_definitions.specs.Definitions.{Part, message_name, enum_name, messages, enums}
-use Rattle.pbx_pooled.specs.Pooled.{file_index, by_file}
-use Rattle.pbx_pool_laws.specs.PoolLaws.{message_with_file, enum_with_file}
-use Rattle.pbx_visible.proofs.Named.{find_numbered}
-use Rattle.pbx_pool.specs.Places.{place_with_file}
-use Rattle.pbx_pool.proofs.Found.{told_from, stands_at, no_place}
-use Rattle.pbx_described.specs.Descriptors.{Described, FileDescribed, described, described_file, all_parts, file_of_name, message_of_name, enum_of_name}
+use Rattle.pbx_link_definitions.specs.Names.{is_named}
+use Rattle.pbx_link_definitions.specs.Definitions.{Part, message_name, enum_name, messages, enums}
+use Rattle.pbx_link_scope.specs.Pooled.{file_index, by_file}
+use Rattle.pbx_link_rules.specs.PoolLaws.{message_with_file, enum_with_file}
+use Rattle.pbx_link_visible.proofs.Named.{find_numbered}
+use Rattle.pbx_link_pool.specs.Places.{place_with_file}
+use Rattle.pbx_link_pool.proofs.Found.{told_from, stands_at, no_place}
+use Rattle.pbx_link_meaning.specs.Descriptors.{Described, FileDescribed, described, described_file, all_parts, file_of_name, message_of_name, enum_of_name}
 use Rattle.pbx_link.specs.Tables.{part_at}
 use Rattle.pbx_link.proofs.Parts.{find_mapped, some_is}
 

@@ -14,13 +14,13 @@ use Rattle.pbx_desc_records.specs.declared.field.FieldDescriptorProto.{FieldDesc
 use Rattle.pbx_desc_records.specs.declared.field.OneofDescriptorProto.{OneofDescriptorProto}
 use Rattle.pbx_desc_records.specs.declared.file.FileDescriptorProto.{FileDescriptorProto}
 use Rattle.pbx_desc_records.specs.declared.message.DescriptorProto.{DescriptorProto}
-use Rattle.pbx_definitions.specs.Definitions.{Part, Place, part, parts, message_name, messages, fields, fields_in, oneofs, oneofs_in}
-use Rattle.pbx_definitions.specs.Says.{is_number, own_fields}
-use Rattle.pbx_pool_laws.specs.Pool.{ArePooled}
-use Rattle.pbx_pool_laws.proofs.Counted.{count, count_append, message_once}
-use Rattle.pbx_pool_laws.proofs.Distinct.{pooled_are_distinct}
-use Rattle.pbx_pool_laws.proofs.Named.{only_found, same_name}
-use Rattle.pbx_described.specs.Descriptors.{Described, described, is_member}
+use Rattle.pbx_link_definitions.specs.Definitions.{Part, Place, part, parts, message_name, messages, fields, fields_in, oneofs, oneofs_in}
+use Rattle.pbx_link_definitions.specs.Says.{is_number, own_fields}
+use Rattle.pbx_link_rules.specs.Pool.{ArePooled}
+use Rattle.pbx_link_rules.proofs.Counted.{count, count_append, message_once}
+use Rattle.pbx_link_rules.proofs.Distinct.{pooled_are_distinct}
+use Rattle.pbx_link_rules.proofs.Named.{only_found, same_name}
+use Rattle.pbx_link_meaning.specs.Descriptors.{Described, described, is_member}
 use Rattle.pbx_link.specs.Tables.{part_at, own_oneofs, index_of}
 use Rattle.pbx_link.proofs.Parts.{find_mapped}
 use Rattle.pbx_link.proofs.Sole.{find_filtered, first_of, filter_mapped, filter_none, filter_same, find_same, only_piece}

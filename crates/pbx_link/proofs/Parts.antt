@@ -11,8 +11,8 @@ use Rattle.std.proofs.lemmas.List.FromFn.{length-enumerate_from, get_or-enumerat
 use Rattle.std.proofs.lemmas.Bool.Decides.{nat_tests}
 use Rattle.std.proofs.lemmas.Option.{slice_get-get_or, slice_get_past}
 use Rattle.pbx_desc_records.specs.declared.file.FileDescriptorProto.{FileDescriptorProto}
-use Rattle.pbx_definitions.specs.Definitions.{Part, Place, part, parts}
-use Rattle.pbx_described.specs.Descriptors.{Described, described, described_file, all_files, all_parts}
+use Rattle.pbx_link_definitions.specs.Definitions.{Part, Place, part, parts}
+use Rattle.pbx_link_meaning.specs.Descriptors.{Described, described, described_file, all_files, all_parts}
 use Rattle.pbx_link.specs.Tables.{part_at}
 
 -- ---- the first of what is left of a list

@@ -3,18 +3,18 @@ use Rattle.std.proofs.Common.{◌≡◌, ◌∙◌, ℕ, suc, ◌<◌, ◌≤◌
 use Rattle.std.specs.Prelude.{Contains, option_map, slice_get, unwrap_or}
 use Rattle.std.specs.Str.{bytes_eq}
 use Rattle.std.proofs.lemmas.List.{get_or-map, length-map}
-use Rattle.pbx_meaning.specs.declared.shape.MessageShape.{MessageShape}
+use Rattle.pbx_content.specs.declared.shape.MessageShape.{MessageShape}
 use Rattle.pbx_desc_records.specs.declared.file.FileDescriptorProto.{FileDescriptorProto}
 use Rattle.pbx_desc_records.specs.declared.message.DescriptorProto.{DescriptorProto}
-use Rattle.pbx_definitions.specs.Definitions.{Part, message_name, messages}
-use Rattle.pbx_pool_laws.specs.Pool.{ArePooled}
-use Rattle.pbx_pool_laws.proofs.Counted.{count, count_map, message_once}
-use Rattle.pbx_pool_laws.proofs.Distinct.{pooled_are_distinct}
-use Rattle.pbx_pool_laws.proofs.Named.{only_found, same_name}
-use Rattle.pbx_described.specs.Descriptors.{Described, described, all_messages}
-use Rattle.pbx_described.specs.Shapes.{message_named, message_place, message_shape, shape_of}
-use Rattle.pbx_described.proofs.DescribedLists.{parts_back}
-use Rattle.pbx_shapes.proofs.Lists.{first_at, first_map, position_is}
+use Rattle.pbx_link_definitions.specs.Definitions.{Part, message_name, messages}
+use Rattle.pbx_link_rules.specs.Pool.{ArePooled}
+use Rattle.pbx_link_rules.proofs.Counted.{count, count_map, message_once}
+use Rattle.pbx_link_rules.proofs.Distinct.{pooled_are_distinct}
+use Rattle.pbx_link_rules.proofs.Named.{only_found, same_name}
+use Rattle.pbx_link_meaning.specs.Descriptors.{Described, described, all_messages}
+use Rattle.pbx_link_meaning.specs.Shapes.{message_named, message_place, message_shape, shape_of}
+use Rattle.pbx_link_meaning.proofs.DescribedLists.{parts_back}
+use Rattle.pbx_link_shapes.proofs.Lists.{first_at, first_map, position_is}
 use Rattle.pbx_link.proofs.Parts.{contains_piece}
 
 -- where the first stands that is found

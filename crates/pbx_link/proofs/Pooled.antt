@@ -1,6 +1,6 @@
 -- Pools without files.
 use Rattle.std.specs.Prelude.{[]}
-use Rattle.pbx_pool_laws.specs.Pool.{ArePooled}
+use Rattle.pbx_link_rules.specs.Pool.{ArePooled}
 
 pub none_pooled : ArePooled [] []
 unfolding ArePooled

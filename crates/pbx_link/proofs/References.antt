@@ -11,23 +11,23 @@ use Rattle.pbx_desc_records.specs.declared.file.FileDescriptorProto.{FileDescrip
 use Rattle.pbx_desc_records.specs.declared.message.DescriptorProto.{DescriptorProto}
 use Rattle.pbx_desc_records.specs.declared.service.MethodDescriptorProto.{MethodDescriptorProto}
 use Rattle.pbx_desc_records.specs.declared.service.ServiceDescriptorProto.{ServiceDescriptorProto}
-use Rattle.pbx_definitions.specs.Definitions.{Part, at, extensions, services, methods, methods_in}
-use Rattle.pbx_scope.specs.declared.types.Bound.{Bound}
-use Rattle.pbx_scope.specs.declared.types.Bound.TheVariants.{Message as to_message, Enum as to_enum}
-use Rattle.pbx_scope.specs.Scope.{bound_if, is_message, visible}
-use Rattle.pbx_scope_rules.specs.Rules.{places_by, has_bad_type_name, unbound_in_methods, unbound_names}
-use Rattle.pbx_scope_rules.specs.Rules.{unbound_in_fields, unbound_in_extensions, has_no_extendee, has_no_input, has_no_output}
-use Rattle.pbx_linked.specs.Linked.{exact_by, linked_record}
-use Rattle.pbx_rules.specs.Breaches.{keeps_rules}
-use Rattle.pbx_rules.proofs.First.{rule_7}
-use Rattle.pbx_rules.proofs.RulesKept.{keeps_each}
-use Rattle.pbx_pool_laws.specs.Pool.{IsLinked, ArePooled}
-use Rattle.pbx_pool_laws.specs.PoolLaws.{undotted, message_with_file, enum_with_file}
-use Rattle.pbx_pool_laws.proofs.Lists.{left_nil, right_nil, none_where}
-use Rattle.pbx_pool_laws.proofs.LinkedParts.{changed_in, extension_linked, extensions_of_linked, method_linked, methods_of_linked}
-use Rattle.pbx_pool_laws.proofs.Types.{Source, source, not_at}
-use Rattle.pbx_pool_laws.proofs.References.{extendees_are_there, methods_have_messages}
-use Rattle.pbx_described.specs.Descriptors.{Described, referred, message_of_name, message_referred, enum_of_name, enum_referred}
+use Rattle.pbx_link_definitions.specs.Definitions.{Part, at, extensions, services, methods, methods_in}
+use Rattle.pbx_link_scope.specs.declared.types.Bound.{Bound}
+use Rattle.pbx_link_scope.specs.declared.types.Bound.TheVariants.{Message as to_message, Enum as to_enum}
+use Rattle.pbx_link_scope.specs.Scope.{bound_if, is_message, visible}
+use Rattle.pbx_link_rules_scope.specs.Rules.{places_by, has_bad_type_name, unbound_in_methods, unbound_names}
+use Rattle.pbx_link_rules_scope.specs.Rules.{unbound_in_fields, unbound_in_extensions, has_no_extendee, has_no_input, has_no_output}
+use Rattle.pbx_link_record.specs.Linked.{exact_by, linked_record}
+use Rattle.pbx_link_rules.specs.Breaches.{keeps_rules}
+use Rattle.pbx_link_rules.proofs.First.{rule_7}
+use Rattle.pbx_link_rules.proofs.RulesKept.{keeps_each}
+use Rattle.pbx_link_rules.specs.Pool.{IsLinked, ArePooled}
+use Rattle.pbx_link_rules.specs.PoolLaws.{undotted, message_with_file, enum_with_file}
+use Rattle.pbx_link_rules.proofs.Lists.{left_nil, right_nil, none_where}
+use Rattle.pbx_link_rules.proofs.LinkedParts.{changed_in, extension_linked, extensions_of_linked, method_linked, methods_of_linked}
+use Rattle.pbx_link_rules.proofs.Types.{Source, source, not_at}
+use Rattle.pbx_link_rules.proofs.References.{extendees_are_there, methods_have_messages}
+use Rattle.pbx_link_meaning.specs.Descriptors.{Described, referred, message_of_name, message_referred, enum_of_name, enum_referred}
 use Rattle.pbx_link.specs.Tables.{part_at, no_method, no_field}
 use Rattle.pbx_link.proofs.Parts.{part_there, contains_piece}
 use Rattle.pbx_link.proofs.Named.{message_there, enum_there}

@@ -5,7 +5,7 @@ use Rattle.std.specs.Prelude.{Contains, filter, option_and_then, if◌then◌els
 use Rattle.std.specs.List.{flat_map, position_or_len}
 use Rattle.std.proofs.lemmas.List.{append-nil}
 use Rattle.std.proofs.lemmas.List.Elements.{filter-append}
-use Rattle.pbx_pool_laws.proofs.Counted.{count}
+use Rattle.pbx_link_rules.proofs.Counted.{count}
 
 -- ---- searches and filters
 

@@ -10,23 +10,23 @@ use Rattle.pbx_desc_records.specs.declared.enumeration.EnumDescriptorProto.{Enum
 use Rattle.pbx_desc_records.specs.declared.field.FieldDescriptorProto.{FieldDescriptorProto}
 use Rattle.pbx_desc_records.specs.declared.file.FileDescriptorProto.{FileDescriptorProto}
 use Rattle.pbx_desc_records.specs.declared.message.DescriptorProto.{DescriptorProto}
-use Rattle.pbx_definitions.specs.Definitions.{Part, at, messages, fields, fields_in, extensions}
-use Rattle.pbx_definitions.specs.Says.{is_number, number_or_zero}
-use Rattle.pbx_scope.specs.declared.types.Bound.{Bound}
-use Rattle.pbx_scope.specs.Scope.{bound_if, visible}
-use Rattle.pbx_field_rules.specs.Rules.{all_fields, is_type, is_bad_type, has_bad_type}
-use Rattle.pbx_scope_rules.specs.Rules.{is_bad_type_name, has_bad_type_name, unbound_in_methods}
-use Rattle.pbx_linked.specs.Linked.{exact_by, type_by, linked_record}
-use Rattle.pbx_rules.specs.Breaches.{keeps_rules}
-use Rattle.pbx_rules.proofs.First.{rule_7, rule_8}
-use Rattle.pbx_rules.proofs.RulesKept.{keeps_each}
-use Rattle.pbx_pool_laws.specs.Pool.{ArePooled}
-use Rattle.pbx_pool_laws.specs.PoolLaws.{HasType}
-use Rattle.pbx_pool_laws.proofs.Lists.{neither, no_other, left_nil, right_nil, none_where}
-use Rattle.pbx_pool_laws.proofs.LinkedParts.{changed_in, field_linked, extension_linked, fields_of_linked, extensions_of_linked}
-use Rattle.pbx_pool_laws.proofs.Types.{Source, source, not_at}
-use Rattle.pbx_pool_laws.proofs.References.{types_are_there}
-use Rattle.pbx_described.specs.Descriptors.{Described, message_referred, enum_referred}
+use Rattle.pbx_link_definitions.specs.Definitions.{Part, at, messages, fields, fields_in, extensions}
+use Rattle.pbx_link_definitions.specs.Says.{is_number, number_or_zero}
+use Rattle.pbx_link_scope.specs.declared.types.Bound.{Bound}
+use Rattle.pbx_link_scope.specs.Scope.{bound_if, visible}
+use Rattle.pbx_link_rules_field.specs.Rules.{all_fields, is_type, is_bad_type, has_bad_type}
+use Rattle.pbx_link_rules_scope.specs.Rules.{is_bad_type_name, has_bad_type_name, unbound_in_methods}
+use Rattle.pbx_link_record.specs.Linked.{exact_by, type_by, linked_record}
+use Rattle.pbx_link_rules.specs.Breaches.{keeps_rules}
+use Rattle.pbx_link_rules.proofs.First.{rule_7, rule_8}
+use Rattle.pbx_link_rules.proofs.RulesKept.{keeps_each}
+use Rattle.pbx_link_rules.specs.Pool.{ArePooled}
+use Rattle.pbx_link_rules.specs.PoolLaws.{HasType}
+use Rattle.pbx_link_rules.proofs.Lists.{neither, no_other, left_nil, right_nil, none_where}
+use Rattle.pbx_link_rules.proofs.LinkedParts.{changed_in, field_linked, extension_linked, fields_of_linked, extensions_of_linked}
+use Rattle.pbx_link_rules.proofs.Types.{Source, source, not_at}
+use Rattle.pbx_link_rules.proofs.References.{types_are_there}
+use Rattle.pbx_link_meaning.specs.Descriptors.{Described, message_referred, enum_referred}
 use Rattle.pbx_link.specs.declared.kind.Kind.{Kind}
 use Rattle.pbx_link.specs.declared.kind.Kind.TheVariants as kinds
 use Rattle.pbx_link.specs.Kinds.{scalar_of, kind_in}

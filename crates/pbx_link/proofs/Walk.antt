@@ -8,8 +8,8 @@ use Rattle.std.proofs.Math.Seq.{drop-append-add, drop-nil}
 use Rattle.std.proofs.lemmas.List.{drop_more, length-map, drop-append-le}
 use Rattle.std.proofs.lemmas.Option.{slice_get_within, get_or_from_slice_get}
 use Rattle.pbx_desc_records.specs.declared.file.FileDescriptorProto.{FileDescriptorProto}
-use Rattle.pbx_definitions.specs.Definitions.{Part}
-use Rattle.pbx_described.specs.Descriptors.{Described, described}
+use Rattle.pbx_link_definitions.specs.Definitions.{Part}
+use Rattle.pbx_link_meaning.specs.Descriptors.{Described, described}
 use Rattle.pbx_link.specs.Tables.{part_at, told_from}
 use Rattle.pbx_link.proofs.Parts.{next_at}
 

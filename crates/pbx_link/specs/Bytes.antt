@@ -2,17 +2,17 @@
 use Rattle.std.specs.Prelude.{◌≡◌, ℕ, List, [], ◌∷◌, ◌++◌, true, Option, Some, None, if◌then◌else◌}
 use Rattle.pbx_wire.specs.declared.error.DecodeError.{DecodeError as Fault}
 use Rattle.pbx_wire.specs.declared.error.DecodeError.TheVariants as faults
-use Rattle.pbx_meaning.specs.Meaning.{meaning_of}
-use Rattle.pbx_meaning.specs.Faults.{IsFaultOf, IsFirst}
-use Rattle.pbx_desc_shape.specs.DescriptorShape.{descriptor_shape}
+use Rattle.pbx_content.specs.Meaning.{meaning_of}
+use Rattle.pbx_content.specs.Faults.{IsFaultOf, IsFirst}
+use Rattle.pbx_desc_shapes.specs.DescriptorShape.{descriptor_shape}
 use Rattle.pbx_desc_records.specs.declared.file.FileDescriptorProto.{FileDescriptorProto}
 use Rattle.pbx_desc_records.specs.declared.file.FileDescriptorSet.{FileDescriptorSet}
 use Rattle.pbx_desc_encoding.specs.Content.{file_content, file_set_content}
 use Rattle.pbx_desc_encoding.specs.Sets.{set_meaning_of, IsSetFault}
-use Rattle.pbx_definitions.specs.Definitions.{Place}
-use Rattle.pbx_definitions.specs.Names.{text_or_empty}
-use Rattle.pbx_rules.specs.Breaches.{keeps_rules, BreaksFirst}
-use Rattle.pbx_pool_laws.specs.Pool.{with_file}
+use Rattle.pbx_link_definitions.specs.Definitions.{Place}
+use Rattle.pbx_link_definitions.specs.Names.{text_or_empty}
+use Rattle.pbx_link_rules.specs.Breaches.{keeps_rules, BreaksFirst}
+use Rattle.pbx_link_rules.specs.Pool.{with_file}
 use Rattle.pbx_link.specs.declared.error.DescriptorError.{DescriptorError}
 use Rattle.pbx_link.specs.declared.error.DescriptorError.TheVariants.{Rule, Decode, NoMemory}
 use Rattle.pbx_link.specs.Pool.{IsRefused}

@@ -8,8 +8,8 @@ use Rattle.pbx_link.specs.declared.kind.Cardinality.{Cardinality}
 use Rattle.pbx_link.specs.declared.kind.Cardinality.TheVariants.{Optional, Required, Repeated}
 use Rattle.pbx_link.specs.declared.kind.Syntax.{Syntax}
 use Rattle.pbx_link.specs.declared.kind.Syntax.TheVariants.{Proto2, Proto3}
-use Rattle.pbx_definitions.specs.Says.{is_number, is_proto3, number_or_zero}
-use Rattle.pbx_described.specs.Descriptors.{Described, message_referred, enum_referred}
+use Rattle.pbx_link_definitions.specs.Says.{is_number, is_proto3, number_or_zero}
+use Rattle.pbx_link_meaning.specs.Descriptors.{Described, message_referred, enum_referred}
 
 -- the scalar of a number
 abbrev pub scalar_of : ℕ → Kind

@@ -1,8 +1,8 @@
 -- Why a file is not added to a pool.
 use Rattle.std.specs.Prelude.{◌≡◌, List}
 use Rattle.pbx_desc_records.specs.declared.file.FileDescriptorProto.{FileDescriptorProto}
-use Rattle.pbx_definitions.specs.Names.{text_or_empty}
-use Rattle.pbx_rules.specs.Breaches.{BreaksFirst}
+use Rattle.pbx_link_definitions.specs.Names.{text_or_empty}
+use Rattle.pbx_link_rules.specs.Breaches.{BreaksFirst}
 use Rattle.pbx_link.specs.declared.error.DescriptorError.{DescriptorError}
 use Rattle.pbx_link.specs.declared.error.DescriptorError.TheVariants.{Rule, Decode, NoMemory}
 

@@ -9,10 +9,10 @@ use Rattle.pbx_desc_records.specs.declared.file.FileDescriptorProto.{FileDescrip
 use Rattle.pbx_desc_records.specs.declared.message.DescriptorProto.{DescriptorProto, roll-DescriptorProto, out-DescriptorProto}
 use Rattle.pbx_desc_records.specs.declared.service.MethodDescriptorProto.{MethodDescriptorProto}
 use Rattle.pbx_desc_records.specs.declared.service.ServiceDescriptorProto.{ServiceDescriptorProto}
-use Rattle.pbx_definitions.specs.Names.{is_named, dotted}
-use Rattle.pbx_definitions.specs.Says.{is_number}
-use Rattle.pbx_definitions.specs.Definitions.{Part, messages, extensions}
-use Rattle.pbx_described.specs.Descriptors.{Described, described, fields_of_message}
+use Rattle.pbx_link_definitions.specs.Names.{is_named, dotted}
+use Rattle.pbx_link_definitions.specs.Says.{is_number}
+use Rattle.pbx_link_definitions.specs.Definitions.{Part, messages, extensions}
+use Rattle.pbx_link_meaning.specs.Descriptors.{Described, described, fields_of_message}
 
 -- the files of a pool that is there, and none where there is no pool
 abbrev pub held : Option (List FileDescriptorProto) → List FileDescriptorProto

@@ -1,20 +1,20 @@
 // Adding a file to a pool.
 ghost use Rattle.std.specs.Prelude.{◌≡◌, [], true, List as ListOf, IfOk, IfErr, OnOk, OnErr};
 ghost use Rattle.pbx_desc_records.specs.declared.file.FileDescriptorProto.{FileDescriptorProto as FileRecord};
-ghost use Rattle.pbx_definitions.specs.Names.{text_or_empty as text_or_empty_of};
-ghost use Rattle.pbx_rules.specs.Breaches.{keeps_rules};
-ghost use Rattle.pbx_pool_laws.specs.Pool.{with_file};
-ghost use Rattle.pbx_pool.specs.Refused.{IsRefused as IsRefusedByPool};
+ghost use Rattle.pbx_link_definitions.specs.Names.{text_or_empty as text_or_empty_of};
+ghost use Rattle.pbx_link_rules.specs.Breaches.{keeps_rules};
+ghost use Rattle.pbx_link_rules.specs.Pool.{with_file};
+ghost use Rattle.pbx_link_pool.specs.Refused.{IsRefused as IsRefusedByPool};
 ghost use Rattle.pbx_link.specs.Pool.{IsRefused};
 ghost use Rattle.pbx_link.specs.Tables.{held};
 
 use crate::error::DescriptorError;
 use crate::held::HeldPool;
 use crate::pool::DescriptorPool;
-use pbx_definitions::text_or_empty;
 use pbx_desc_records::FileDescriptorProto;
-use pbx_pool::{Pool, Refusal};
-use pbx_rules::Breach;
+use pbx_link_definitions::text_or_empty;
+use pbx_link_pool::{Pool, Refusal};
+use pbx_link_rules::Breach;
 use pbx_shared::{Shared, Unique};
 use pbx_wire::{NoMemory, Text};
 use std::alloc::Global;

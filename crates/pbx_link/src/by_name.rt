@@ -1,12 +1,12 @@
 // Parts of a pool by their full names.
 ghost use Rattle.std.specs.Prelude.{◌≡◌, option_copied};
-ghost use Rattle.pbx_definitions.specs.Names.{is_named, dotted};
-ghost use Rattle.pbx_definitions.specs.Definitions.{messages, enums, extensions, services, message_name, enum_name, field_name, service_name};
-ghost use Rattle.pbx_pooled.specs.Pooled.{file_index};
-ghost use Rattle.pbx_pool.specs.Places.{place_with_file};
-ghost use Rattle.pbx_described.specs.Descriptors.{file_of_name, message_of_name, enum_of_name, extension_of_name, service_of_name};
-ghost use Rattle.pbx_described.specs.Descriptors.{behind_dot as behind_dot_of, message_referred as message_referred_of};
-ghost use Rattle.pbx_described.specs.Descriptors.{enum_referred as enum_referred_of, is_entry_described};
+ghost use Rattle.pbx_link_definitions.specs.Names.{is_named, dotted};
+ghost use Rattle.pbx_link_definitions.specs.Definitions.{messages, enums, extensions, services, message_name, enum_name, field_name, service_name};
+ghost use Rattle.pbx_link_scope.specs.Pooled.{file_index};
+ghost use Rattle.pbx_link_pool.specs.Places.{place_with_file};
+ghost use Rattle.pbx_link_meaning.specs.Descriptors.{file_of_name, message_of_name, enum_of_name, extension_of_name, service_of_name};
+ghost use Rattle.pbx_link_meaning.specs.Descriptors.{behind_dot as behind_dot_of, message_referred as message_referred_of};
+ghost use Rattle.pbx_link_meaning.specs.Descriptors.{enum_referred as enum_referred_of, is_entry_described};
 
 use crate::enumeration::EnumDescriptor;
 use crate::extension::ExtensionDescriptor;
@@ -14,7 +14,7 @@ use crate::file::FileDescriptor;
 use crate::message::MessageDescriptor;
 use crate::pool::DescriptorPool;
 use crate::service::ServiceDescriptor;
-use pbx_pooled::Pooled;
+use pbx_link_scope::Pooled;
 use pbx_wire::Text;
 
 /// What stands behind a leading dot.

@@ -1,12 +1,12 @@
 // Files that are read from bytes.
 ghost use Rattle.std.specs.Prelude.{◌≡◌, ◌++◌, [], Some, IfOk, IfErr, OnOk, OnErr};
-ghost use Rattle.pbx_meaning.specs.Meaning.{meaning_of};
-ghost use Rattle.pbx_meaning.specs.Faults.{IsFaultOf, IsToldFault};
+ghost use Rattle.pbx_content.specs.Meaning.{meaning_of};
+ghost use Rattle.pbx_content.specs.Faults.{IsFaultOf, IsToldFault};
 ghost use Rattle.pbx_link.specs.Bytes.{IsFileAdded, IsFileRefused, AreAdded, IsSetRefused, AreRefused, with_files, undecoded_as};
 
 use crate::error::DescriptorError;
 use crate::pool::DescriptorPool;
-use pbx_desc_decoding::DecodeMessage;
+use pbx_desc::DecodeMessage;
 use pbx_desc_records::{FileDescriptorProto, FileDescriptorSet};
 use pbx_wire::{DecodeError, List};
 use std::alloc::Global;

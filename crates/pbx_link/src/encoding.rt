@@ -1,9 +1,9 @@
 // The files of a pool, to be written.
 ghost use Rattle.std.specs.Prelude.{◌≡◌, ◌≤◌, IfOk};
-ghost use Rattle.pbx_meaning.specs.Encoding.{encoded};
-ghost use Rattle.pbx_meaning.specs.Same.{Decodes};
-ghost use Rattle.pbx_meaning.specs.Sound.{PartsFit, depth};
-ghost use Rattle.pbx_desc_shape.specs.DescriptorShape.{descriptor_shape};
+ghost use Rattle.pbx_content.specs.Encoding.{encoded};
+ghost use Rattle.pbx_content.specs.Same.{Decodes};
+ghost use Rattle.pbx_content.specs.Sound.{PartsFit, depth};
+ghost use Rattle.pbx_desc_shapes.specs.DescriptorShape.{descriptor_shape};
 ghost use Rattle.pbx_desc_encoding.specs.Content.{file_content, files_content};
 ghost use Rattle.pbx_desc_encoding.specs.Sets.{DecodesSet, IsSetOf};
 

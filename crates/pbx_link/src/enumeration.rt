@@ -2,17 +2,17 @@
 ghost use Rattle.std.specs.Prelude.{◌≡◌, ◌<◌, Some, length, position};
 ghost use Rattle.std.specs.Iterator.{YieldsFirst, item_count};
 ghost use Rattle.pbx_desc_records.specs.declared.enumeration.EnumValueDescriptorProto.{EnumValueDescriptorProto as ValueOf};
-ghost use Rattle.pbx_definitions.specs.Names.{text_or_empty as text_or_empty_of, is_named as is_named_of};
-ghost use Rattle.pbx_definitions.specs.Says.{signed_or_zero, are_equal};
-ghost use Rattle.pbx_definitions.specs.Definitions.{enum_name, values_in};
-ghost use Rattle.pbx_described.specs.Descriptors.{described, values_of_enum, value_with_number, value_with_name};
+ghost use Rattle.pbx_link_definitions.specs.Names.{text_or_empty as text_or_empty_of, is_named as is_named_of};
+ghost use Rattle.pbx_link_definitions.specs.Says.{signed_or_zero, are_equal};
+ghost use Rattle.pbx_link_definitions.specs.Definitions.{enum_name, values_in};
+ghost use Rattle.pbx_link_meaning.specs.Descriptors.{described, values_of_enum, value_with_number, value_with_name};
 ghost use Rattle.pbx_link.specs.Tables.{part_at, no_value};
 
 use crate::pool::DescriptorPool;
-use pbx_definitions::{PartRef, is_named, text_or_empty};
 use pbx_desc_records::{EnumDescriptorProto, EnumValueDescriptorProto};
+use pbx_link_definitions::{PartRef, is_named, text_or_empty};
+use pbx_link_tables::FileTable;
 use pbx_shared::Shared;
-use pbx_tables::FileTable;
 use std::marker::Model;
 
 /// An enum of a pool. Contracts see the pool, the file's record and the enum with its place.
@@ -27,8 +27,8 @@ impl Model for EnumDescriptor {
     ghost use Rattle.std.specs.Prelude.{◌<◌, length, Contains};
     ghost use Rattle.pbx_desc_records.specs.contracts.enumeration.EnumDescriptorProto as proto;
     ghost use Rattle.pbx_desc_records.specs.declared.enumeration.EnumDescriptorProto.{EnumDescriptorProto};
-    ghost use Rattle.pbx_definitions.specs.Definitions.{enums};
-    ghost use Rattle.pbx_described.specs.Descriptors.{Described, described, described_code};
+    ghost use Rattle.pbx_link_definitions.specs.Definitions.{enums};
+    ghost use Rattle.pbx_link_meaning.specs.Descriptors.{Described, described, described_code};
     ghost use Rattle.pbx_link.specs.Tables.{part_at, no_enum};
 
     ghost Value = { Described EnumDescriptorProto };
@@ -165,8 +165,8 @@ impl Model for EnumValueDescriptor {
     ghost use Rattle.std.specs.Prelude.{◌<◌, length};
     ghost use Rattle.pbx_desc_records.specs.contracts.enumeration.EnumValueDescriptorProto as proto;
     ghost use Rattle.pbx_desc_records.specs.declared.enumeration.EnumValueDescriptorProto.{EnumValueDescriptorProto};
-    ghost use Rattle.pbx_definitions.specs.Definitions.{values_in};
-    ghost use Rattle.pbx_described.specs.Descriptors.{Described, described, described_code};
+    ghost use Rattle.pbx_link_definitions.specs.Definitions.{values_in};
+    ghost use Rattle.pbx_link_meaning.specs.Descriptors.{Described, described, described_code};
     ghost use Rattle.pbx_link.specs.Tables.{part_at, no_value};
 
     ghost Value = { Described EnumValueDescriptorProto };
@@ -222,7 +222,7 @@ impl<'a> Model for EnumValues<'a> {
     ghost use Rattle.std.specs.Coded.{coded_list};
     ghost use Rattle.pbx_desc_records.specs.contracts.enumeration.EnumValueDescriptorProto as proto;
     ghost use Rattle.pbx_desc_records.specs.declared.enumeration.EnumValueDescriptorProto.{EnumValueDescriptorProto};
-    ghost use Rattle.pbx_described.specs.Descriptors.{Described, described_code, values_of_enum};
+    ghost use Rattle.pbx_link_meaning.specs.Descriptors.{Described, described_code, values_of_enum};
 
     ghost Value = { List (Described EnumValueDescriptorProto) };
 

@@ -1,20 +1,20 @@
 // Extensions of a pool.
 ghost use Rattle.std.specs.Prelude.{◌≡◌, Some, Contains, option_copied};
-ghost use Rattle.pbx_definitions.specs.Names.{text_or_empty as text_or_empty_of};
-ghost use Rattle.pbx_definitions.specs.Definitions.{field_name};
+ghost use Rattle.pbx_link_definitions.specs.Names.{text_or_empty as text_or_empty_of};
+ghost use Rattle.pbx_link_definitions.specs.Definitions.{field_name};
 ghost use Rattle.pbx_link.specs.Kinds.{described_kind, described_cardinality};
-ghost use Rattle.pbx_described.specs.Descriptors.{number_of_field, extension_json_name, extended_of, extensions_of_message, parent_of, is_list as is_list_of};
-ghost use Rattle.pbx_described.specs.Descriptors.{is_map as is_map_of, is_packed as is_packed_of, extension_has_presence};
+ghost use Rattle.pbx_link_meaning.specs.Descriptors.{number_of_field, extension_json_name, extended_of, extensions_of_message, parent_of, is_list as is_list_of};
+ghost use Rattle.pbx_link_meaning.specs.Descriptors.{is_map as is_map_of, is_packed as is_packed_of, extension_has_presence};
 
 use crate::field_record::{cardinality, is_packed, is_repeated, text};
 use crate::kind::{Cardinality, Kind};
 use crate::message::MessageDescriptor;
 use crate::parents::message_position;
 use crate::pool::DescriptorPool;
-use pbx_definitions::{is_named, number_or_zero, text_or_empty};
 use pbx_desc_records::FieldDescriptorProto;
+use pbx_link_definitions::{is_named, number_or_zero, text_or_empty};
+use pbx_link_tables::FileTable;
 use pbx_shared::Shared;
-use pbx_tables::FileTable;
 use std::marker::Model;
 
 /// An extension. Contracts see the pool, the record of the file that declares it, and the extension with its place.
@@ -29,8 +29,8 @@ impl Model for ExtensionDescriptor {
     ghost use Rattle.std.specs.Prelude.{◌<◌, length, Contains};
     ghost use Rattle.pbx_desc_records.specs.contracts.field.FieldDescriptorProto as proto;
     ghost use Rattle.pbx_desc_records.specs.declared.field.FieldDescriptorProto.{FieldDescriptorProto};
-    ghost use Rattle.pbx_definitions.specs.Definitions.{extensions};
-    ghost use Rattle.pbx_described.specs.Descriptors.{Described, described, described_code};
+    ghost use Rattle.pbx_link_definitions.specs.Definitions.{extensions};
+    ghost use Rattle.pbx_link_meaning.specs.Descriptors.{Described, described, described_code};
     ghost use Rattle.pbx_link.specs.Tables.{part_at, no_field};
 
     ghost Value = { Described FieldDescriptorProto };

@@ -1,16 +1,16 @@
 // Fields, extensions and oneofs of a pool.
 ghost use Rattle.std.specs.Prelude.{◌≡◌, ◌<◌, Some, length, Contains, option_copied};
-ghost use Rattle.pbx_definitions.specs.Names.{text_or_empty as text_or_empty_of};
-ghost use Rattle.pbx_definitions.specs.Definitions.{field_name};
+ghost use Rattle.pbx_link_definitions.specs.Names.{text_or_empty as text_or_empty_of};
+ghost use Rattle.pbx_link_definitions.specs.Definitions.{field_name};
 ghost use Rattle.pbx_link.specs.Kinds.{described_kind, described_cardinality};
-ghost use Rattle.pbx_described.specs.Descriptors.{number_of_field, is_list as is_list_of, is_map as is_map_of};
-ghost use Rattle.pbx_described.specs.Descriptors.{is_packed as is_packed_of, has_presence, parent_of, fields_of_message};
+ghost use Rattle.pbx_link_meaning.specs.Descriptors.{number_of_field, is_list as is_list_of, is_map as is_map_of};
+ghost use Rattle.pbx_link_meaning.specs.Descriptors.{is_packed as is_packed_of, has_presence, parent_of, fields_of_message};
 
 use crate::field_record::{cardinality, is_packed, is_repeated, text};
 use crate::kind::{Cardinality, Kind};
 use crate::message::MessageDescriptor;
-use pbx_definitions::{number_or_zero, text_or_empty};
 use pbx_desc_records::{FieldDescriptorProto, OneofDescriptorProto};
+use pbx_link_definitions::{number_or_zero, text_or_empty};
 use std::marker::Model;
 
 /// A field of a message. Contracts see the pool, the file's record and the field with its place.
@@ -24,8 +24,8 @@ impl Model for FieldDescriptor {
     ghost use Rattle.std.specs.Prelude.{◌<◌, length};
     ghost use Rattle.pbx_desc_records.specs.contracts.field.FieldDescriptorProto as proto;
     ghost use Rattle.pbx_desc_records.specs.declared.field.FieldDescriptorProto.{FieldDescriptorProto};
-    ghost use Rattle.pbx_definitions.specs.Definitions.{fields_in};
-    ghost use Rattle.pbx_described.specs.Descriptors.{Described, described, described_code};
+    ghost use Rattle.pbx_link_definitions.specs.Definitions.{fields_in};
+    ghost use Rattle.pbx_link_meaning.specs.Descriptors.{Described, described, described_code};
     ghost use Rattle.pbx_link.specs.Tables.{part_at, no_field};
 
     ghost Value = { Described FieldDescriptorProto };
@@ -156,8 +156,8 @@ impl Model for OneofDescriptor {
     ghost use Rattle.std.specs.Prelude.{◌<◌, length};
     ghost use Rattle.pbx_desc_records.specs.contracts.field.OneofDescriptorProto as proto;
     ghost use Rattle.pbx_desc_records.specs.declared.field.OneofDescriptorProto.{OneofDescriptorProto};
-    ghost use Rattle.pbx_definitions.specs.Definitions.{oneofs_in};
-    ghost use Rattle.pbx_described.specs.Descriptors.{Described, described, described_code};
+    ghost use Rattle.pbx_link_definitions.specs.Definitions.{oneofs_in};
+    ghost use Rattle.pbx_link_meaning.specs.Descriptors.{Described, described, described_code};
     ghost use Rattle.pbx_link.specs.Tables.{part_at, no_oneof};
 
     ghost Value = { Described OneofDescriptorProto };

@@ -1,10 +1,10 @@
 // The numbers of the fields of messages by their names.
 ghost use Rattle.std.specs.Prelude.{◌≡◌, IfOk, IfSome};
-ghost use Rattle.pbx_described.specs.Shapes.{shape_of as shape_of_files, place_of};
-ghost use Rattle.pbx_shapes.specs.Named.{number_named as number_named_of};
+ghost use Rattle.pbx_link_meaning.specs.Shapes.{shape_of as shape_of_files, place_of};
+ghost use Rattle.pbx_link_shapes.specs.Named.{number_named as number_named_of};
 
 use crate::message::MessageDescriptor;
-use pbx_shapes::number_named;
+use pbx_link_shapes::number_named;
 use pbx_wire::NoMemory;
 
 impl MessageDescriptor {

@@ -1,7 +1,7 @@
 // What the record of a field or an extension says.
 ghost use Rattle.std.specs.Prelude.{◌≡◌, ◌&&◌, option_copied};
-ghost use Rattle.pbx_definitions.specs.Says.{is_repeated as is_repeated_of, option_bool as option_bool_of};
-ghost use Rattle.pbx_described.specs.Descriptors.{is_packable as is_packable_of, packed_by};
+ghost use Rattle.pbx_link_definitions.specs.Says.{is_repeated as is_repeated_of, option_bool as option_bool_of};
+ghost use Rattle.pbx_link_meaning.specs.Descriptors.{is_packable as is_packable_of, packed_by};
 ghost use Rattle.pbx_link.specs.Kinds.{labelled};
 
 use crate::kind::Cardinality;

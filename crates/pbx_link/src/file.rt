@@ -1,16 +1,16 @@
 // Files of a pool.
 ghost use Rattle.std.specs.Prelude.{◌≡◌, [], Contains};
 ghost use Rattle.std.specs.Iterator.{YieldsFirst, item_count};
-ghost use Rattle.pbx_pool_laws.specs.Pool.{ArePooled};
-ghost use Rattle.pbx_definitions.specs.Names.{text_or_empty as text_or_empty_of};
-ghost use Rattle.pbx_definitions.specs.Definitions.{package_of};
+ghost use Rattle.pbx_link_rules.specs.Pool.{ArePooled};
+ghost use Rattle.pbx_link_definitions.specs.Names.{text_or_empty as text_or_empty_of};
+ghost use Rattle.pbx_link_definitions.specs.Definitions.{package_of};
 ghost use Rattle.pbx_link.specs.Kinds.{described_syntax};
 
 use crate::kind::Syntax;
 use crate::pool::DescriptorPool;
-use pbx_definitions::{is_named, text_or_empty};
+use pbx_link_definitions::{is_named, text_or_empty};
+use pbx_link_tables::FileTable;
 use pbx_shared::Shared;
-use pbx_tables::FileTable;
 use std::marker::Model;
 
 /// A file of a pool. Contracts see the pool beside the file's linked record.
@@ -22,7 +22,7 @@ pub struct FileDescriptor {
 
 impl Model for FileDescriptor {
     ghost use Rattle.std.specs.Prelude.{Contains};
-    ghost use Rattle.pbx_described.specs.Descriptors.{FileDescribed, file_code};
+    ghost use Rattle.pbx_link_meaning.specs.Descriptors.{FileDescribed, file_code};
 
     ghost Value = { FileDescribed };
 
@@ -91,7 +91,7 @@ pub struct PoolFiles<'a> {
 impl<'a> Model for PoolFiles<'a> {
     ghost use Rattle.std.specs.Prelude.{List, drop};
     ghost use Rattle.std.specs.Coded.{coded_list};
-    ghost use Rattle.pbx_described.specs.Descriptors.{FileDescribed, file_code, all_files};
+    ghost use Rattle.pbx_link_meaning.specs.Descriptors.{FileDescribed, file_code, all_files};
 
     ghost Value = { List FileDescribed };
 

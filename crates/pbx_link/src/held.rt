@@ -1,12 +1,12 @@
 // A pool that has files, as its copies and descriptors hold it.
 ghost use Rattle.std.specs.Prelude.{◌≡◌, IfOk, OnOk, IfSome, IsTrue};
-ghost use Rattle.pbx_described.specs.Shapes.{shape_of as shape_of_files};
-ghost use Rattle.pbx_shapes.specs.EnumNumbers.{HasEnumNumbers};
+ghost use Rattle.pbx_link_meaning.specs.Shapes.{shape_of as shape_of_files};
+ghost use Rattle.pbx_link_shapes.specs.EnumNumbers.{HasEnumNumbers};
 
 use crate::kept::KeptShape;
-use pbx_meaning::Schema;
-use pbx_pool::Pool;
-use pbx_shapes::ShapedPool;
+use pbx_content::Schema;
+use pbx_link_pool::Pool;
+use pbx_link_shapes::ShapedPool;
 use pbx_shared::Shared;
 use pbx_wire::NoMemory;
 use std::alloc::Global;

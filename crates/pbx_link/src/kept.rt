@@ -1,8 +1,8 @@
 // The shape of a pool's types, kept once it is made.
 ghost use Rattle.std.specs.Prelude.{◌≡◌, IfSome};
 
-use pbx_pool::Pool;
-use pbx_shapes::ShapedPool;
+use pbx_link_pool::Pool;
+use pbx_link_shapes::ShapedPool;
 use pbx_shared::Shared;
 use pbx_wire::NoMemory;
 use std::alloc::Global;

@@ -4,8 +4,8 @@ ghost use Rattle.pbx_link.specs.Kinds.{scalar_of, kind_in};
 
 use crate::kind::Kind;
 use crate::pool::DescriptorPool;
-use pbx_definitions::number_or_zero;
 use pbx_desc_records::FieldDescriptorProto;
+use pbx_link_definitions::number_or_zero;
 
 /// The scalar of this number.
 fn scalar(number: u32) -> Kind

@@ -1,22 +1,22 @@
 // Messages of a pool.
 ghost use Rattle.std.specs.Prelude.{◌≡◌, ◌<◌, [], length, position, Contains};
 ghost use Rattle.pbx_desc_records.specs.declared.field.FieldDescriptorProto.{FieldDescriptorProto as FieldOf};
-ghost use Rattle.pbx_definitions.specs.Names.{is_named as is_named_of};
+ghost use Rattle.pbx_link_definitions.specs.Names.{is_named as is_named_of};
 ghost use Rattle.std.specs.Iterator.{YieldsFirst, item_count};
-ghost use Rattle.pbx_pool_laws.specs.Pool.{ArePooled};
-ghost use Rattle.pbx_definitions.specs.Definitions.{messages, message_name, fields_in, oneofs_in, field_name as field_name_of};
-ghost use Rattle.pbx_definitions.specs.Says.{own_name, own_fields as own_fields_of, is_entry, is_proto3 as is_proto3_of, is_number as is_number_of};
-ghost use Rattle.pbx_described.specs.Descriptors.{described, file_of, all_messages, fields_of_message};
-ghost use Rattle.pbx_described.specs.Descriptors.{oneofs_of_message, with_number, with_name, with_json_name};
+ghost use Rattle.pbx_link_rules.specs.Pool.{ArePooled};
+ghost use Rattle.pbx_link_definitions.specs.Definitions.{messages, message_name, fields_in, oneofs_in, field_name as field_name_of};
+ghost use Rattle.pbx_link_definitions.specs.Says.{own_name, own_fields as own_fields_of, is_entry, is_proto3 as is_proto3_of, is_number as is_number_of};
+ghost use Rattle.pbx_link_meaning.specs.Descriptors.{described, file_of, all_messages, fields_of_message};
+ghost use Rattle.pbx_link_meaning.specs.Descriptors.{oneofs_of_message, with_number, with_name, with_json_name};
 ghost use Rattle.pbx_link.specs.Tables.{part_at, no_field, no_oneof, own_oneofs as own_oneofs_of};
 
 use crate::field::{FieldDescriptor, OneofDescriptor};
 use crate::file::FileDescriptor;
 use crate::pool::DescriptorPool;
-use pbx_definitions::{PartRef, is_named, text_or_empty};
 use pbx_desc_records::{DescriptorProto, FieldDescriptorProto, OneofDescriptorProto};
+use pbx_link_definitions::{PartRef, is_named, text_or_empty};
+use pbx_link_tables::FileTable;
 use pbx_shared::Shared;
-use pbx_tables::FileTable;
 use std::marker::Model;
 
 /// A message of a pool, nested ones and map entries included. Contracts see the pool, the file's record and the message with its place.
@@ -31,8 +31,8 @@ impl Model for MessageDescriptor {
     ghost use Rattle.std.specs.Prelude.{◌<◌, length, Contains};
     ghost use Rattle.pbx_desc_records.specs.contracts.message.DescriptorProto as proto;
     ghost use Rattle.pbx_desc_records.specs.declared.message.DescriptorProto.{DescriptorProto};
-    ghost use Rattle.pbx_definitions.specs.Definitions.{messages};
-    ghost use Rattle.pbx_described.specs.Descriptors.{Described, described, described_code};
+    ghost use Rattle.pbx_link_definitions.specs.Definitions.{messages};
+    ghost use Rattle.pbx_link_meaning.specs.Descriptors.{Described, described, described_code};
     ghost use Rattle.pbx_link.specs.Tables.{part_at, no_message};
 
     ghost Value = { Described DescriptorProto };
@@ -296,7 +296,7 @@ impl<'a> Model for MessageFields<'a> {
     ghost use Rattle.std.specs.Coded.{coded_list};
     ghost use Rattle.pbx_desc_records.specs.contracts.field.FieldDescriptorProto as proto;
     ghost use Rattle.pbx_desc_records.specs.declared.field.FieldDescriptorProto.{FieldDescriptorProto};
-    ghost use Rattle.pbx_described.specs.Descriptors.{Described, described_code, fields_of_message};
+    ghost use Rattle.pbx_link_meaning.specs.Descriptors.{Described, described_code, fields_of_message};
 
     ghost Value = { List (Described FieldDescriptorProto) };
 
@@ -335,7 +335,7 @@ impl<'a> Model for MessageOneofs<'a> {
     ghost use Rattle.std.specs.Coded.{coded_list};
     ghost use Rattle.pbx_desc_records.specs.contracts.field.OneofDescriptorProto as proto;
     ghost use Rattle.pbx_desc_records.specs.declared.field.OneofDescriptorProto.{OneofDescriptorProto};
-    ghost use Rattle.pbx_described.specs.Descriptors.{Described, described_code, oneofs_of_message};
+    ghost use Rattle.pbx_link_meaning.specs.Descriptors.{Described, described_code, oneofs_of_message};
 
     ghost Value = { List (Described OneofDescriptorProto) };
 

@@ -3,8 +3,8 @@ ghost use Rattle.std.specs.Prelude.{◌≡◌, ◌∷◌, ◌++◌, [], ℕ, Lis
 ghost use Rattle.std.specs.Str.{bytes_eq};
 ghost use Rattle.std.specs.Iterator.{YieldsFirst, item_count};
 ghost use Rattle.pbx_desc_records.specs.declared.field.FieldDescriptorProto.{FieldDescriptorProto as FieldOf};
-ghost use Rattle.pbx_definitions.specs.Definitions.{field_name};
-ghost use Rattle.pbx_described.specs.Descriptors.{Described, extensions_of_message, with_number, extension_with_json_name};
+ghost use Rattle.pbx_link_definitions.specs.Definitions.{field_name};
+ghost use Rattle.pbx_link_meaning.specs.Descriptors.{Described, extensions_of_message, with_number, extension_with_json_name};
 ghost use Rattle.pbx_link.specs.Tables.{extending};
 
 use crate::by_name::is_dotted;
@@ -25,8 +25,8 @@ impl<'a> Model for MessageExtensions<'a> {
     ghost use Rattle.std.specs.Coded.{coded_list};
     ghost use Rattle.pbx_desc_records.specs.contracts.field.FieldDescriptorProto as proto;
     ghost use Rattle.pbx_desc_records.specs.declared.field.FieldDescriptorProto.{FieldDescriptorProto};
-    ghost use Rattle.pbx_definitions.specs.Definitions.{message_name};
-    ghost use Rattle.pbx_described.specs.Descriptors.{Described, described_code};
+    ghost use Rattle.pbx_link_definitions.specs.Definitions.{message_name};
+    ghost use Rattle.pbx_link_meaning.specs.Descriptors.{Described, described_code};
     ghost use Rattle.pbx_link.specs.Tables.{extending};
 
     ghost Value = { List (Described FieldDescriptorProto) };

@@ -2,9 +2,9 @@
 ghost use Rattle.std.specs.Prelude.{◌≡◌, ◌+◌, drop, position, option_map, option_and_then, slice_get};
 ghost use Rattle.std.specs.Iterator.{YieldsFirst, item_count};
 ghost use Rattle.pbx_desc_records.specs.declared.field.FieldDescriptorProto.{FieldDescriptorProto as FieldOf};
-ghost use Rattle.pbx_definitions.specs.Definitions.{oneofs_in};
-ghost use Rattle.pbx_definitions.specs.Says.{is_number as is_number_of};
-ghost use Rattle.pbx_described.specs.Descriptors.{described, fields_of_oneof, oneof_of_field};
+ghost use Rattle.pbx_link_definitions.specs.Definitions.{oneofs_in};
+ghost use Rattle.pbx_link_definitions.specs.Says.{is_number as is_number_of};
+ghost use Rattle.pbx_link_meaning.specs.Descriptors.{described, fields_of_oneof, oneof_of_field};
 ghost use Rattle.pbx_link.specs.Tables.{index_of as index_of_number};
 
 use crate::field::{FieldDescriptor, OneofDescriptor};
@@ -25,7 +25,7 @@ impl<'a> Model for OneofFields<'a> {
     ghost use Rattle.std.specs.Coded.{coded_list};
     ghost use Rattle.pbx_desc_records.specs.contracts.field.FieldDescriptorProto as proto;
     ghost use Rattle.pbx_desc_records.specs.declared.field.FieldDescriptorProto.{FieldDescriptorProto};
-    ghost use Rattle.pbx_described.specs.Descriptors.{Described, described_code};
+    ghost use Rattle.pbx_link_meaning.specs.Descriptors.{Described, described_code};
     ghost use Rattle.pbx_link.specs.Tables.{members_from};
 
     ghost Value = { List (Described FieldDescriptorProto) };

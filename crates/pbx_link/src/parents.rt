@@ -2,10 +2,10 @@
 ghost use Rattle.std.specs.Prelude.{◌≡◌, ◌<◌, None, Some, find, length, MatchOption};
 ghost use Rattle.std.specs.Str.{bytes_eq};
 ghost use Rattle.pbx_desc_records.specs.declared.message.DescriptorProto.{DescriptorProto as MessageOf};
-ghost use Rattle.pbx_definitions.specs.Definitions.{Part, messages, message_name};
+ghost use Rattle.pbx_link_definitions.specs.Definitions.{Part, messages, message_name};
 ghost use Rattle.pbx_link.specs.Tables.{part_at, no_message};
 
-use pbx_tables::FileTable;
+use pbx_link_tables::FileTable;
 
 /// The index of the message of exactly this full name in the file.
 pub(crate) fn message_position(table: &FileTable, name: &str) -> Option<usize>

@@ -1,15 +1,15 @@
 // A pool of linked files.
 ghost use Rattle.std.specs.Prelude.{◌≡◌, ◌<◌, [], length, option_copied, slice_index_or, IfOk, ⊤};
-ghost use Rattle.pbx_pool_laws.specs.Pool.{ArePooled};
+ghost use Rattle.pbx_link_rules.specs.Pool.{ArePooled};
 ghost use Rattle.pbx_link.specs.Tables.{held};
-ghost use Rattle.pbx_described.specs.Descriptors.{all_files, all_messages};
+ghost use Rattle.pbx_link_meaning.specs.Descriptors.{all_files, all_messages};
 
 use crate::file::PoolFiles;
 use crate::held::HeldPool;
 use crate::pool_messages::PoolMessages;
-use pbx_pool::Pool;
+use pbx_link_pool::Pool;
+use pbx_link_tables::FileTable;
 use pbx_shared::Shared;
-use pbx_tables::FileTable;
 use pbx_wire::NoMemory;
 use std::alloc::{AllocError, Global};
 use std::marker::Model;
@@ -28,7 +28,7 @@ impl Model for DescriptorPool {
     ghost use Rattle.std.specs.Coded.{coded_list};
     ghost use Rattle.pbx_desc_records.specs.declared.file.FileDescriptorProto.{FileDescriptorProto};
     ghost use Rattle.pbx_desc_records.specs.contracts.file.FileDescriptorProto as proto;
-    ghost use Rattle.pbx_pool_laws.specs.Pool.{ArePooled};
+    ghost use Rattle.pbx_link_rules.specs.Pool.{ArePooled};
     ghost use Rattle.pbx_link.specs.Tables.{held};
 
     ghost Value = { List FileDescriptorProto };

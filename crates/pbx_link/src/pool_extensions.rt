@@ -1,15 +1,15 @@
 // The extensions of a pool, one by one.
 ghost use Rattle.std.specs.Prelude.{◌≡◌, ◌<◌, [], Some, length, slice_get, MatchOption};
 ghost use Rattle.std.specs.Iterator.{YieldsFirst, item_count};
-ghost use Rattle.pbx_definitions.specs.Definitions.{extensions};
-ghost use Rattle.pbx_described.specs.Descriptors.{all_extensions};
+ghost use Rattle.pbx_link_definitions.specs.Definitions.{extensions};
+ghost use Rattle.pbx_link_meaning.specs.Descriptors.{all_extensions};
 ghost use Rattle.pbx_link.specs.Tables.{extensions_from};
 
 use crate::extension::ExtensionDescriptor;
 use crate::pool::DescriptorPool;
 use crate::pool_messages::Standing;
+use pbx_link_tables::FileTable;
 use pbx_shared::Shared;
-use pbx_tables::FileTable;
 use std::marker::Model;
 
 /// The extensions of a pool. Contracts see the list of those that are left.
@@ -25,7 +25,7 @@ impl<'a> Model for PoolExtensions<'a> {
     ghost use Rattle.std.specs.Coded.{coded_list};
     ghost use Rattle.pbx_desc_records.specs.contracts.field.FieldDescriptorProto as proto;
     ghost use Rattle.pbx_desc_records.specs.declared.field.FieldDescriptorProto.{FieldDescriptorProto};
-    ghost use Rattle.pbx_described.specs.Descriptors.{Described, described_code};
+    ghost use Rattle.pbx_link_meaning.specs.Descriptors.{Described, described_code};
     ghost use Rattle.pbx_link.specs.Tables.{extensions_from};
 
     ghost Value = { List (Described FieldDescriptorProto) };

@@ -1,13 +1,13 @@
 // The messages of a pool, one by one.
 ghost use Rattle.std.specs.Prelude.{◌≡◌, ◌<◌, [], Some, length, slice_get, MatchOption};
 ghost use Rattle.std.specs.Iterator.{YieldsFirst, item_count};
-ghost use Rattle.pbx_definitions.specs.Definitions.{messages};
+ghost use Rattle.pbx_link_definitions.specs.Definitions.{messages};
 ghost use Rattle.pbx_link.specs.Tables.{messages_from};
 
 use crate::message::MessageDescriptor;
 use crate::pool::DescriptorPool;
+use pbx_link_tables::FileTable;
 use pbx_shared::Shared;
-use pbx_tables::FileTable;
 use std::marker::Model;
 
 /// The messages of a pool. Contracts see the list of those that are left.
@@ -23,7 +23,7 @@ impl<'a> Model for PoolMessages<'a> {
     ghost use Rattle.std.specs.Coded.{coded_list};
     ghost use Rattle.pbx_desc_records.specs.contracts.message.DescriptorProto as proto;
     ghost use Rattle.pbx_desc_records.specs.declared.message.DescriptorProto.{DescriptorProto};
-    ghost use Rattle.pbx_described.specs.Descriptors.{Described, described_code};
+    ghost use Rattle.pbx_link_meaning.specs.Descriptors.{Described, described_code};
     ghost use Rattle.pbx_link.specs.Tables.{messages_from};
 
     ghost Value = { List (Described DescriptorProto) };

@@ -1,12 +1,12 @@
 // Whether two messages are the same.
 ghost use Rattle.std.specs.Prelude.{◌≡◌, ◌↔◌, IsTrue};
-ghost use Rattle.pbx_described.specs.Descriptors.{IsSame};
+ghost use Rattle.pbx_link_meaning.specs.Descriptors.{IsSame};
 
 use crate::message::MessageDescriptor;
 use crate::pool::DescriptorPool;
-use pbx_record_equality::Equals;
+use pbx_desc_equality::Equals;
+use pbx_link_tables::FileTable;
 use pbx_shared::Shared;
-use pbx_tables::FileTable;
 
 /// Whether the files have the same contents. They are not read where both are of one table.
 fn is_same_file(table: &Shared<FileTable>, other: &Shared<FileTable>) -> bool

@@ -1,14 +1,14 @@
 // The shape of the types of a pool, and the places of messages in it.
 ghost use Rattle.std.specs.Prelude.{◌≡◌, [], Some, slice_get, IfOk, OnOk, IfSome};
-ghost use Rattle.pbx_described.specs.Descriptors.{all_messages};
-ghost use Rattle.pbx_described.specs.Shapes.{shape_of as shape_of_files, place_of, message_place as message_place_of};
-ghost use Rattle.pbx_shapes.specs.EnumNumbers.{HasEnumNumbers};
+ghost use Rattle.pbx_link_meaning.specs.Descriptors.{all_messages};
+ghost use Rattle.pbx_link_meaning.specs.Shapes.{shape_of as shape_of_files, place_of, message_place as message_place_of};
+ghost use Rattle.pbx_link_shapes.specs.EnumNumbers.{HasEnumNumbers};
 
 use crate::message::MessageDescriptor;
 use crate::pool::DescriptorPool;
-use pbx_meaning::Schema;
-use pbx_pool::Pool;
-use pbx_shapes::{ShapedPool, message_place, shape_of};
+use pbx_content::Schema;
+use pbx_link_pool::Pool;
+use pbx_link_shapes::{ShapedPool, message_place, shape_of};
 use pbx_shared::Shared;
 use pbx_wire::NoMemory;
 use std::alloc::Global;

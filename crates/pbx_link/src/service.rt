@@ -1,18 +1,18 @@
 // Services of a pool.
 ghost use Rattle.std.specs.Prelude.{◌≡◌, ◌<◌, [], Some, length, Contains};
 ghost use Rattle.std.specs.Iterator.{YieldsFirst, item_count};
-ghost use Rattle.pbx_definitions.specs.Names.{text_or_empty as text_or_empty_of};
-ghost use Rattle.pbx_definitions.specs.Definitions.{services, service_name, methods_in};
-ghost use Rattle.pbx_pool_laws.specs.Pool.{ArePooled};
-ghost use Rattle.pbx_described.specs.Descriptors.{described, message_referred, methods_of_service};
+ghost use Rattle.pbx_link_definitions.specs.Names.{text_or_empty as text_or_empty_of};
+ghost use Rattle.pbx_link_definitions.specs.Definitions.{services, service_name, methods_in};
+ghost use Rattle.pbx_link_rules.specs.Pool.{ArePooled};
+ghost use Rattle.pbx_link_meaning.specs.Descriptors.{described, message_referred, methods_of_service};
 ghost use Rattle.pbx_link.specs.Tables.{part_at, no_method};
 
 use crate::message::MessageDescriptor;
 use crate::pool::DescriptorPool;
-use pbx_definitions::{PartRef, text_or_empty};
 use pbx_desc_records::{MethodDescriptorProto, ServiceDescriptorProto};
+use pbx_link_definitions::{PartRef, text_or_empty};
+use pbx_link_tables::FileTable;
 use pbx_shared::Shared;
-use pbx_tables::FileTable;
 use std::marker::Model;
 
 /// A service of a pool. Contracts see the pool, the file's record and the service with its place.
@@ -27,8 +27,8 @@ impl Model for ServiceDescriptor {
     ghost use Rattle.std.specs.Prelude.{◌<◌, length, Contains};
     ghost use Rattle.pbx_desc_records.specs.contracts.service.ServiceDescriptorProto as proto;
     ghost use Rattle.pbx_desc_records.specs.declared.service.ServiceDescriptorProto.{ServiceDescriptorProto};
-    ghost use Rattle.pbx_definitions.specs.Definitions.{services};
-    ghost use Rattle.pbx_described.specs.Descriptors.{Described, described, described_code};
+    ghost use Rattle.pbx_link_definitions.specs.Definitions.{services};
+    ghost use Rattle.pbx_link_meaning.specs.Descriptors.{Described, described, described_code};
     ghost use Rattle.pbx_link.specs.Tables.{part_at, no_service};
 
     ghost Value = { Described ServiceDescriptorProto };
@@ -134,8 +134,8 @@ impl Model for MethodDescriptor {
     ghost use Rattle.std.specs.Prelude.{◌<◌, length};
     ghost use Rattle.pbx_desc_records.specs.contracts.service.MethodDescriptorProto as proto;
     ghost use Rattle.pbx_desc_records.specs.declared.service.MethodDescriptorProto.{MethodDescriptorProto};
-    ghost use Rattle.pbx_definitions.specs.Definitions.{methods_in};
-    ghost use Rattle.pbx_described.specs.Descriptors.{Described, described, described_code};
+    ghost use Rattle.pbx_link_definitions.specs.Definitions.{methods_in};
+    ghost use Rattle.pbx_link_meaning.specs.Descriptors.{Described, described, described_code};
     ghost use Rattle.pbx_link.specs.Tables.{part_at, no_method};
 
     ghost Value = { Described MethodDescriptorProto };
@@ -200,7 +200,7 @@ impl<'a> Model for ServiceMethods<'a> {
     ghost use Rattle.std.specs.Coded.{coded_list};
     ghost use Rattle.pbx_desc_records.specs.contracts.service.MethodDescriptorProto as proto;
     ghost use Rattle.pbx_desc_records.specs.declared.service.MethodDescriptorProto.{MethodDescriptorProto};
-    ghost use Rattle.pbx_described.specs.Descriptors.{Described, described_code, methods_of_service};
+    ghost use Rattle.pbx_link_meaning.specs.Descriptors.{Described, described_code, methods_of_service};
 
     ghost Value = { List (Described MethodDescriptorProto) };
 

@@ -2,7 +2,7 @@
 
 use crate::files::tell_names;
 use crate::told::Told;
-use pbx_desc_decoding::DecodeMessage;
+use pbx_desc::DecodeMessage;
 use pbx_desc_records::FileDescriptorProto;
 use pbx_link::{DescriptorError, DescriptorPool};
 use pbx_wire::DecodeError;

@@ -2,8 +2,8 @@
 
 use crate::adding::{add_each, add_some};
 use crate::told::Told;
+use pbx_content::Schema;
 use pbx_link::DescriptorPool;
-use pbx_meaning::Schema;
 use std::alloc::Global;
 use test_rows::Row;
 

@@ -1,9 +1,9 @@
 //! The shape of the types of a pool.
 
 use crate::told::Told;
+use pbx_content::{Cardinality, EnumShape, FieldShape, Kind, MessageShape, Schema};
 use pbx_link::DescriptorPool;
-use pbx_meaning::{Cardinality, EnumShape, FieldShape, Kind, MessageShape, Schema};
-use pbx_shapes::message_place;
+use pbx_link_shapes::message_place;
 use pbx_wire::Text;
 
 /// Tells the kind's own words; a message or an enum by its place.

@@ -1,7 +1,7 @@
 //! The answer to a row.
 
 use hex::FromHexError;
-use pbx_meaning::Kind;
+use pbx_content::Kind;
 use pbx_wire::{DecodeError, NoMemory};
 use std::alloc::{AllocError, Global};
 

@@ -2,7 +2,7 @@
 use Rattle.std.proofs.Common.{◌≡◌, ℕ, ◌<◌, ◌^◌, nat_lt, Bool, true, false, if◌then◌else◌, Option, Some, None, refl, arith}
 use Rattle.std.proofs.lemmas.Bool.Decides.{nat_tests}
 use Rattle.std.specs.Prelude.{unwrap_or}
-use Rattle.pbx_scope_rules.specs.Digits.{small}
+use Rattle.pbx_link_rules_scope.specs.Digits.{small}
 
 small_at : (n : ℕ) (b : Bool) → nat_lt n (2 ^ 64) ≡ b → n < 2 ^ 64 → unwrap_or (if b then Some n else None) 0 ≡ n
 small_at n true e h = refl

@@ -1,7 +1,7 @@
 -- Values of enums by place.
 use Rattle.std.proofs.Common.{◌≡◌, ℕ, zero, suc, ◌<◌, ◌≤◌, length, List, [], ◌∷◌, get_or, refl, arith}
-use Rattle.pbx_meaning.specs.declared.shape.EnumShape.{EnumShape}
-use Rattle.pbx_meaning.specs.Shape.{enum_values_at}
+use Rattle.pbx_content.specs.declared.shape.EnumShape.{EnumShape}
+use Rattle.pbx_content.specs.Shape.{enum_values_at}
 
 pub no_values : (es : List EnumShape) (e : ℕ) → length es ≤ e → [] ≡ enum_values_at es e
 no_values [] e h = refl

@@ -1,7 +1,7 @@
 -- Ascending fields with the same values at each number are the same.
 use Rattle.std.proofs.Common.{◌≡◌, ℕ, ◌<◌, ◌≤◌, Bool, true, false, if◌then◌else◌, nat_lt, ◌==◌, Some, None, refl, sym, ◌∙◌, subst, arith}
 use Rattle.std.proofs.lemmas.Bool.Decides.{nat_tests}
-use Rattle.pbx_meaning.specs.Content.{Val, Fields, no_fields, field, get, IsAbove, IsAscending}
+use Rattle.pbx_content.specs.Content.{Val, Fields, no_fields, field, get, IsAbove, IsAscending}
 
 -- nothing stands at or below a number that all are above
 pub get-above : (n m : ℕ) (fs : Fields) → IsAbove m fs → n ≤ m → get n fs ≡ None

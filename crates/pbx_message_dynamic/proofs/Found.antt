@@ -1,15 +1,15 @@
 -- The message of a pool at a place, by its name.
 use Rattle.std.proofs.Common.{◌≡◌, ℕ, zero, suc, ◌<◌, ◌≤◌, length, get_or, List, [], ◌∷◌, map, Option, Some, None, refl, sym, ap, ◌∙◌, subst, arith}
 use Rattle.std.specs.Prelude.{Contains, find, slice_get}
-use Rattle.pbx_meaning.specs.declared.shape.MessageShape.{MessageShape}
+use Rattle.pbx_content.specs.declared.shape.MessageShape.{MessageShape}
 use Rattle.pbx_desc_records.specs.declared.file.FileDescriptorProto.{FileDescriptorProto}
 use Rattle.pbx_desc_records.specs.declared.message.DescriptorProto.{DescriptorProto}
-use Rattle.pbx_definitions.specs.Definitions.{message_name}
-use Rattle.pbx_pool_laws.specs.Pool.{ArePooled}
-use Rattle.pbx_pool_laws.proofs.Named.{same_name}
-use Rattle.pbx_pool_laws.proofs.Named.{only_found}
-use Rattle.pbx_described.specs.Descriptors.{Described, all_messages, message_of_name}
-use Rattle.pbx_described.specs.Shapes.{message_shape}
+use Rattle.pbx_link_definitions.specs.Definitions.{message_name}
+use Rattle.pbx_link_rules.specs.Pool.{ArePooled}
+use Rattle.pbx_link_rules.proofs.Named.{same_name}
+use Rattle.pbx_link_rules.proofs.Named.{only_found}
+use Rattle.pbx_link_meaning.specs.Descriptors.{Described, all_messages, message_of_name}
+use Rattle.pbx_link_meaning.specs.Shapes.{message_shape}
 use Rattle.pbx_message_laws.proofs.Placed.{has_name, named_once}
 use Rattle.pbx_message_laws.specs.Types.{PlaceHasType}
 use Rattle.pbx_message_dynamic.specs.Typed.{IsFoundAt}

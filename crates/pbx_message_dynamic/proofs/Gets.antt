@@ -1,11 +1,11 @@
 -- What is read of a field.
 use Rattle.std.proofs.Common.{◌≡◌, ℕ, false, Option, Some, None, sym, ap, ◌∙◌, subst}
 use Rattle.std.specs.Prelude.{IsTrue, Result, Ok, Err, IfOk, IfSome, option_map}
-use Rattle.pbx_meaning.specs.declared.shape.FieldShape.{FieldShape}
-use Rattle.pbx_meaning.specs.declared.shape.Shape.{Shape}
-use Rattle.pbx_meaning.specs.Content.{Content, Val, fields, get}
-use Rattle.pbx_meaning.specs.Shape.{fields_of, field_of, is_float}
-use Rattle.pbx_meaning.specs.Sound.{IsSound}
+use Rattle.pbx_content.specs.declared.shape.FieldShape.{FieldShape}
+use Rattle.pbx_content.specs.declared.shape.Shape.{Shape}
+use Rattle.pbx_content.specs.Content.{Content, Val, fields, get}
+use Rattle.pbx_content.specs.Shape.{fields_of, field_of, is_float}
+use Rattle.pbx_content.specs.Sound.{IsSound}
 use Rattle.pbx_message_laws.specs.Defaults.{value_or_default}
 use Rattle.pbx_message_laws.specs.Laws.{SoundIsSettable}
 use Rattle.pbx_message_laws.specs.Pools.{ListedIsDeclared}

@@ -3,22 +3,22 @@ use Rattle.std.proofs.Common.{◌≡◌, ℕ, zero, suc, ◌+◌, ◌<◌, ◌�
 use Rattle.std.specs.Prelude.{IsTrue, Result, Ok, Err, IfOk}
 use Rattle.std.specs.List.{AllByRecursion}
 use Rattle.std.proofs.lemmas.List.{map-append, map_more, take_all}
-use Rattle.pbx_meaning.specs.declared.shape.Kind.{Kind}
-use Rattle.pbx_meaning.specs.declared.shape.Kind.TheVariants as kind
-use Rattle.pbx_meaning.specs.declared.shape.Shape.{Shape}
-use Rattle.pbx_meaning.specs.Content.{Key, Val, message, keyed, pairs_of, key_before}
-use Rattle.pbx_meaning.specs.Sound.{IsSound, IsElement}
-use Rattle.pbx_meaning.proofs.OntoPairs.{key_follows}
-use Rattle.pbx_codec.specs.declared.contents.Held.{Held}
-use Rattle.pbx_codec.specs.declared.contents.Held as held
-use Rattle.pbx_codec.specs.declared.contents.Pair.{Pair}
-use Rattle.pbx_codec.proofs.Tree.{val_of-Many, val_of-Pairs}
-use Rattle.pbx_meaning.specs.declared.shape.Cardinality.TheVariants.{Repeated, Map}
-use Rattle.pbx_codec.specs.declared.key.MapKey.{MapKey}
-use Rattle.pbx_codec.specs.View.{key_of, val_of, pair_of}
+use Rattle.pbx_content.specs.declared.shape.Kind.{Kind}
+use Rattle.pbx_content.specs.declared.shape.Kind.TheVariants as kind
+use Rattle.pbx_content.specs.declared.shape.Shape.{Shape}
+use Rattle.pbx_content.specs.Content.{Key, Val, message, keyed, pairs_of, key_before}
+use Rattle.pbx_content.specs.Sound.{IsSound, IsElement}
+use Rattle.pbx_content.proofs.OntoPairs.{key_follows}
+use Rattle.pbx_content_codec.specs.declared.contents.Held.{Held}
+use Rattle.pbx_content_codec.specs.declared.contents.Held as held
+use Rattle.pbx_content_codec.specs.declared.contents.Pair.{Pair}
+use Rattle.pbx_content_codec.proofs.Tree.{val_of-Many, val_of-Pairs}
+use Rattle.pbx_content.specs.declared.shape.Cardinality.TheVariants.{Repeated, Map}
+use Rattle.pbx_content_codec.specs.declared.key.MapKey.{MapKey}
+use Rattle.pbx_content_codec.specs.View.{key_of, val_of, pair_of}
 use Rattle.pbx_desc_records.specs.declared.file.FileDescriptorProto.{FileDescriptorProto}
-use Rattle.pbx_key_map.specs.Keys.{is_before, with_entry}
-use Rattle.pbx_key_map.proofs.KeyOrder.{not_both}
+use Rattle.pbx_message_dynamic.specs.Keys.{is_before, with_entry}
+use Rattle.pbx_message_dynamic.proofs.KeyOrder.{not_both}
 use Rattle.pbx_message_laws.specs.Laws.{ListIsOfKind, MapIsOfKinds}
 use Rattle.pbx_message_laws.specs.Settable.{IsPairOf, AscendByKey, IsSettableBy}
 use Rattle.pbx_message_dynamic.specs.declared.value.Value.{Value, out-Value}

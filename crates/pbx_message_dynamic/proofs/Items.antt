@@ -4,23 +4,23 @@ use Rattle.std.specs.Prelude.{IsTrue, Result, Ok, Err, IfOk}
 use Rattle.std.specs.Str.{is_utf8}
 use Rattle.std.specs.List.{AllByRecursion}
 use Rattle.std.proofs.lemmas.List.{map-append}
-use Rattle.pbx_meaning.specs.declared.shape.Kind.{Kind}
-use Rattle.pbx_meaning.specs.Content.{Key, Val, text, many, keyed, vals_of, pairs_of, key_before}
-use Rattle.pbx_meaning.specs.Sound.{IsElement}
-use Rattle.pbx_codec.specs.declared.contents.Held.{Held}
-use Rattle.pbx_codec.specs.declared.contents.Held as held
-use Rattle.pbx_codec.specs.declared.contents.Pair.{Pair}
-use Rattle.pbx_codec.specs.declared.key.MapKey.{MapKey}
-use Rattle.pbx_codec.specs.declared.key.MapKey.TheVariants as key
-use Rattle.pbx_codec.specs.View.{key_of, val_of, pair_of}
-use Rattle.pbx_codec.proofs.Tree.{val_of-Many, val_of-Pairs}
+use Rattle.pbx_content.specs.declared.shape.Kind.{Kind}
+use Rattle.pbx_content.specs.Content.{Key, Val, text, many, keyed, vals_of, pairs_of, key_before}
+use Rattle.pbx_content.specs.Sound.{IsElement}
+use Rattle.pbx_content_codec.specs.declared.contents.Held.{Held}
+use Rattle.pbx_content_codec.specs.declared.contents.Held as held
+use Rattle.pbx_content_codec.specs.declared.contents.Pair.{Pair}
+use Rattle.pbx_content_codec.specs.declared.key.MapKey.{MapKey}
+use Rattle.pbx_content_codec.specs.declared.key.MapKey.TheVariants as key
+use Rattle.pbx_content_codec.specs.View.{key_of, val_of, pair_of}
+use Rattle.pbx_content_codec.proofs.Tree.{val_of-Many, val_of-Pairs}
 use Rattle.pbx_desc_records.specs.declared.file.FileDescriptorProto.{FileDescriptorProto}
-use Rattle.pbx_described.specs.Shapes.{shape_of}
-use Rattle.pbx_key_map.specs.Keys.{is_before, IsBeforeAll, IsInKeyOrder}
+use Rattle.pbx_link_meaning.specs.Shapes.{shape_of}
+use Rattle.pbx_message_dynamic.specs.Keys.{is_before, IsBeforeAll, IsInKeyOrder}
 use Rattle.pbx_message_laws.specs.Laws.{ListIsOfKind, MapIsOfKinds}
 use Rattle.pbx_message_laws.specs.Settable.{IsPairOf, IsBeforeFirst, AscendByKey}
-use Rattle.pbx_codec.specs.declared.contents.Contents.{the_lemmas as held_lemmas}
-use Rattle.pbx_meaning.specs.declared.shape.Cardinality.TheVariants.{Map}
+use Rattle.pbx_content_codec.specs.declared.contents.Contents.{the_lemmas as held_lemmas}
+use Rattle.pbx_content.specs.declared.shape.Cardinality.TheVariants.{Map}
 use Rattle.pbx_message_laws.specs.Settable.{IsSettableBy}
 use Rattle.pbx_message_dynamic.specs.declared.value.Value.{Value, out-Value, the_lemmas}
 use Rattle.pbx_message_dynamic.specs.declared.value.Value as value

@@ -4,10 +4,10 @@ use Rattle.std.specs.Prelude.{ℤ, List, Bool, IsTrue}
 use Rattle.std.specs.Int.{w32, w64}
 use Rattle.std.specs.Int.RustNames.{FitsSigned}
 use Rattle.std.specs.Str.{is_utf8}
-use Rattle.pbx_meaning.specs.declared.shape.Kind.{Kind}
-use Rattle.pbx_meaning.specs.declared.shape.Kind.TheVariants as kind
-use Rattle.pbx_meaning.specs.Content.{truth_key, number_key, text_key}
-use Rattle.pbx_meaning.specs.Sound.{IsNumber, IsKeyOf}
+use Rattle.pbx_content.specs.declared.shape.Kind.{Kind}
+use Rattle.pbx_content.specs.declared.shape.Kind.TheVariants as kind
+use Rattle.pbx_content.specs.Content.{truth_key, number_key, text_key}
+use Rattle.pbx_content.specs.Sound.{IsNumber, IsKeyOf}
 use Rattle.pbx_message_dynamic.specs.Values.{Variant, variant_of, truths, numbers_i32, numbers_i64, numbers_u32, numbers_u64, texts, octet_strings, enum_numbers, messages, lists, maps, no_variant}
 use Rattle.pbx_message_dynamic.specs.Variants.{variant_number}
 

@@ -3,13 +3,13 @@ use Rattle.std.proofs.Common.{◌≡◌, ℕ, suc, Bool, true, false, if◌then�
 use Rattle.std.specs.Prelude.{◌==◌, is_some, Contains, Result, Ok, Err, OnOk, OnErr}
 use Rattle.std.proofs.lemmas.Bool.{eqb-true}
 use Rattle.std.proofs.lemmas.Bool.Decides.{nat_tests}
-use Rattle.pbx_meaning.specs.declared.shape.FieldShape.{FieldShape}
-use Rattle.pbx_meaning.specs.declared.shape.Shape.{Shape}
-use Rattle.pbx_meaning.specs.Content.{Content, content, Fields, Val, fields, get, has, without, with_fields, with_option, IsAscending}
-use Rattle.pbx_meaning.specs.Records.{any}
-use Rattle.pbx_meaning.specs.Shape.{field_of, same_oneof, is_other}
-use Rattle.pbx_meaning.proofs.OntoFields.{AreAbove}
-use Rattle.pbx_number_map.specs.Entries.{value_under, with_entry}
+use Rattle.pbx_content.specs.declared.shape.FieldShape.{FieldShape}
+use Rattle.pbx_content.specs.declared.shape.Shape.{Shape}
+use Rattle.pbx_content.specs.Content.{Content, content, Fields, Val, fields, get, has, without, with_fields, with_option, IsAscending}
+use Rattle.pbx_content.specs.Records.{any}
+use Rattle.pbx_content.specs.Shape.{field_of, same_oneof, is_other}
+use Rattle.pbx_content.proofs.OntoFields.{AreAbove}
+use Rattle.pbx_content_map.specs.Entries.{value_under, with_entry}
 use Rattle.pbx_message_laws.specs.Fields.{cleared_others, is_number_of_other, value_kept, set_value}
 use Rattle.pbx_message_laws.proofs.Changes.{get-without, ascending-without, get-with_option, ascending-with_option}
 use Rattle.pbx_message_laws.proofs.Changed.{ascending-cleared, get-cleared, has_is_get, set_is}

@@ -1,3 +1,5 @@
+pub mod KeyOrder
+pub mod KeyPlaces
 pub mod Decimals
 pub mod EnumValues
 pub mod Extensional

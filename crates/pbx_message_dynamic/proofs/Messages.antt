@@ -1,15 +1,15 @@
 -- Messages as values.
 use Rattle.std.proofs.Common.{◌≡◌, ℕ, List, Some, None, refl, sym, ap, ◌∙◌, subst}
 use Rattle.std.specs.Prelude.{slice_get}
-use Rattle.pbx_meaning.specs.declared.shape.Kind.{Kind}
-use Rattle.pbx_meaning.specs.declared.shape.Kind.TheVariants as kind
-use Rattle.pbx_meaning.specs.Content.{message}
-use Rattle.pbx_meaning.specs.Sound.{IsSound, IsElement}
+use Rattle.pbx_content.specs.declared.shape.Kind.{Kind}
+use Rattle.pbx_content.specs.declared.shape.Kind.TheVariants as kind
+use Rattle.pbx_content.specs.Content.{message}
+use Rattle.pbx_content.specs.Sound.{IsSound, IsElement}
 use Rattle.pbx_desc_records.specs.declared.file.FileDescriptorProto.{FileDescriptorProto}
 use Rattle.pbx_desc_records.specs.declared.message.DescriptorProto.{DescriptorProto}
-use Rattle.pbx_definitions.specs.Definitions.{message_name}
-use Rattle.pbx_described.specs.Descriptors.{Described, IsSame, all_messages}
-use Rattle.pbx_described.specs.Shapes.{shape_of, place_of}
+use Rattle.pbx_link_definitions.specs.Definitions.{message_name}
+use Rattle.pbx_link_meaning.specs.Descriptors.{Described, IsSame, all_messages}
+use Rattle.pbx_link_meaning.specs.Shapes.{shape_of, place_of}
 use Rattle.pbx_message_laws.specs.Pools.{IsPooled, SameIsEqual, PlaceIsOwn, MessageIsPlaced}
 use Rattle.pbx_message_dynamic.specs.declared.value.Value.TheOpen.{Value-F}
 use Rattle.pbx_message_dynamic.specs.Message.{Dynamic}

@@ -3,15 +3,15 @@ use Rattle.std.proofs.Common.{◌≡◌, ℕ, Bool, true, false, List, [], ◌�
 use Rattle.std.specs.Prelude.{not, ◌&&◌, find, Option, option_map, Result, Ok, Err, IfOk}
 use Rattle.std.specs.Str.{bytes_eq}
 use Rattle.std.proofs.lemmas.List.Elements.{Contains-append_right}
-use Rattle.pbx_meaning.specs.declared.shape.FieldShape.{FieldShape}
+use Rattle.pbx_content.specs.declared.shape.FieldShape.{FieldShape}
 use Rattle.pbx_desc_records.specs.declared.field.FieldDescriptorProto.{FieldDescriptorProto}
 use Rattle.pbx_desc_records.specs.declared.message.DescriptorProto.{DescriptorProto}
 use Rattle.pbx_wire.specs.declared.memory.NoMemory.{NoMemory}
-use Rattle.pbx_definitions.specs.Names.{text_or_empty, is_named}
-use Rattle.pbx_described.specs.Descriptors.{Described, number_of_field, fields_of_message, extensions_of_message, with_name}
-use Rattle.pbx_described.specs.Shapes.{field_shape, extension_shape, shape_of, place_of}
-use Rattle.pbx_shapes.specs.Named.{number_named}
-use Rattle.pbx_shape_laws.proofs.PoolParts.{found_there}
+use Rattle.pbx_link_definitions.specs.Names.{text_or_empty, is_named}
+use Rattle.pbx_link_meaning.specs.Descriptors.{Described, number_of_field, fields_of_message, extensions_of_message, with_name}
+use Rattle.pbx_link_meaning.specs.Shapes.{field_shape, extension_shape, shape_of, place_of}
+use Rattle.pbx_link_shapes.specs.Named.{number_named}
+use Rattle.pbx_link_meaning.proofs.PoolParts.{found_there}
 use Rattle.pbx_message_laws.specs.Pools.{IsPooled, MessageIsPlaced, FieldIsListed, NamedIsField}
 use Rattle.pbx_message_dynamic.specs.Fields.{IsNamed}
 use Rattle.pbx_message_dynamic.specs.Message.{type_declared}

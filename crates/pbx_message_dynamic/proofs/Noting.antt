@@ -4,13 +4,13 @@ use Rattle.std.proofs.Common.{refl, sym, ap, ◌∙◌, subst, arith}
 use Rattle.std.specs.Prelude.{◌==◌, IsTrue, option_and_then}
 use Rattle.std.proofs.lemmas.Bool.{eqb-true}
 use Rattle.std.proofs.lemmas.Bool.Decides.{nat_tests}
-use Rattle.pbx_meaning.specs.declared.shape.FieldShape.{FieldShape}
-use Rattle.pbx_meaning.specs.Content.{Fields, has}
-use Rattle.pbx_meaning.specs.Shape.{field_of, is_other}
-use Rattle.pbx_meaning.specs.Sound.{has_one_member}
-use Rattle.pbx_codec.specs.declared.contents.Held.{Held}
-use Rattle.pbx_codec.specs.View.{fields_in, entry_of}
-use Rattle.pbx_number_map.specs.Entries.{value_under, with_entry}
+use Rattle.pbx_content.specs.declared.shape.FieldShape.{FieldShape}
+use Rattle.pbx_content.specs.Content.{Fields, has}
+use Rattle.pbx_content.specs.Shape.{field_of, is_other}
+use Rattle.pbx_content.specs.Sound.{has_one_member}
+use Rattle.pbx_content_codec.specs.declared.contents.Held.{Held}
+use Rattle.pbx_content_codec.specs.View.{fields_in, entry_of}
+use Rattle.pbx_content_map.specs.Entries.{value_under, with_entry}
 use Rattle.pbx_message_laws.proofs.Members.{found, one_member}
 use Rattle.pbx_message_dynamic.proofs.KnownMembers.{under_with}
 use Rattle.pbx_message_dynamic.specs.Members.{AreMembers}

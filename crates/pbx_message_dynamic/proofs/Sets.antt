@@ -1,8 +1,8 @@
 -- A field of a number that is set.
 use Rattle.std.proofs.Common.{◌≡◌, ℕ, Some, ap, ◌∙◌}
-use Rattle.pbx_meaning.specs.declared.shape.FieldShape.{FieldShape}
-use Rattle.pbx_meaning.specs.declared.shape.Shape.{Shape}
-use Rattle.pbx_meaning.specs.Shape.{fields_of, field_of}
+use Rattle.pbx_content.specs.declared.shape.FieldShape.{FieldShape}
+use Rattle.pbx_content.specs.declared.shape.Shape.{Shape}
+use Rattle.pbx_content.specs.Shape.{fields_of, field_of}
 use Rattle.pbx_message_laws.proofs.Members.{found}
 
 -- the field of a number is that of its own number

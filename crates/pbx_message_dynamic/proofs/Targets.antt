@@ -1,19 +1,19 @@
 -- The field that a call means, by its number, and whether it has a value.
 use Rattle.std.proofs.Common.{◌≡◌, ℕ, Bool, true, false, List, [], ◌∷◌, length, map, Option, Some, None, refl, sym, ap, ◌∙◌, subst, arith}
 use Rattle.std.specs.Prelude.{◌↔◌, IsTrue, Contains, option_map, is_some, Result, Ok, Err, OnOk, IfErr}
-use Rattle.pbx_meaning.specs.declared.shape.FieldShape.{FieldShape}
-use Rattle.pbx_meaning.specs.declared.shape.Shape.{Shape}
-use Rattle.pbx_meaning.specs.Content.{Content, content, Fields, no_fields, Val, fields, get, has, without, with_fields}
-use Rattle.pbx_meaning.specs.Shape.{fields_of, field_of, is_float}
-use Rattle.pbx_meaning.specs.Sound.{IsSound}
-use Rattle.pbx_codec.specs.declared.contents.Contents.{Contents, out-Contents}
-use Rattle.pbx_codec.specs.declared.contents.Held.{Held}
-use Rattle.pbx_codec.specs.View.{content_of, fields_in, entry_of}
-use Rattle.pbx_codec.proofs.Tree.{content_is}
+use Rattle.pbx_content.specs.declared.shape.FieldShape.{FieldShape}
+use Rattle.pbx_content.specs.declared.shape.Shape.{Shape}
+use Rattle.pbx_content.specs.Content.{Content, content, Fields, no_fields, Val, fields, get, has, without, with_fields}
+use Rattle.pbx_content.specs.Shape.{fields_of, field_of, is_float}
+use Rattle.pbx_content.specs.Sound.{IsSound}
+use Rattle.pbx_content_codec.specs.declared.contents.Contents.{Contents, out-Contents}
+use Rattle.pbx_content_codec.specs.declared.contents.Held.{Held}
+use Rattle.pbx_content_codec.specs.View.{content_of, fields_in, entry_of}
+use Rattle.pbx_content_codec.proofs.Tree.{content_is}
 use Rattle.pbx_desc_records.specs.declared.field.FieldDescriptorProto.{FieldDescriptorProto}
 use Rattle.pbx_desc_records.specs.declared.message.DescriptorProto.{DescriptorProto}
-use Rattle.pbx_described.specs.Descriptors.{Described, IsSame, parent_of, extended_of, number_of_field, fields_of_message, extensions_of_message}
-use Rattle.pbx_described.specs.Shapes.{field_shape, extension_shape}
+use Rattle.pbx_link_meaning.specs.Descriptors.{Described, IsSame, parent_of, extended_of, number_of_field, fields_of_message, extensions_of_message}
+use Rattle.pbx_link_meaning.specs.Shapes.{field_shape, extension_shape}
 use Rattle.pbx_message_laws.specs.Laws.{SoundIsSettable, HasIsGet}
 use Rattle.pbx_message_laws.specs.Pools.{IsPooled, SameIsEqual, FieldIsListed, ExtensionIsListed, ListedIsDeclared}
 use Rattle.pbx_message_dynamic.specs.declared.error.SetFieldError.{SetFieldError}

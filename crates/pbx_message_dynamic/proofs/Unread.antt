@@ -1,10 +1,10 @@
 -- A tree that is read as nothing stands for nothing.
 use Rattle.std.proofs.Common.{◌≡◌, ◌∙◌, ◌⊎◌, inl, inr, not, Some, None, sym}
 use Rattle.serde_json.specs.Data.{Data}
-use Rattle.pbx_meaning.specs.Content.{Content}
+use Rattle.pbx_content.specs.Content.{Content}
 use Rattle.pbx_desc_records.specs.declared.message.DescriptorProto.{DescriptorProto}
-use Rattle.pbx_described.specs.Descriptors.{Described}
-use Rattle.pbx_described.specs.Shapes.{shape_of, place_of}
+use Rattle.pbx_link_meaning.specs.Descriptors.{Described}
+use Rattle.pbx_link_meaning.specs.Shapes.{shape_of, place_of}
 use Rattle.pbx_json_meaning.specs.Stands.{content_for}
 use Rattle.pbx_json_meaning.specs.declared.error.JsonError.{JsonError}
 use Rattle.pbx_json_meaning.specs.declared.kind.JsonKind.TheVariants.{NoMemory}

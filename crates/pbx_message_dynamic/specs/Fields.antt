@@ -1,12 +1,12 @@
 -- Fields of dynamic messages: whose they are, and what reading, setting and clearing them does.
 use Rattle.std.specs.Prelude.{false, ◌≡◌, ◌↔◌, ℕ, List, Bool, not, ◌&&◌, IsTrue, Option, Some, None, find}
 use Rattle.std.specs.Str.{bytes_eq}
-use Rattle.pbx_meaning.specs.declared.shape.FieldShape.{FieldShape}
-use Rattle.pbx_meaning.specs.Content.{fields, get, has, without, with_fields}
-use Rattle.pbx_meaning.specs.Shape.{field_of, is_float}
+use Rattle.pbx_content.specs.declared.shape.FieldShape.{FieldShape}
+use Rattle.pbx_content.specs.Content.{fields, get, has, without, with_fields}
+use Rattle.pbx_content.specs.Shape.{field_of, is_float}
 use Rattle.pbx_desc_records.specs.declared.field.FieldDescriptorProto.{FieldDescriptorProto}
 use Rattle.pbx_desc_records.specs.declared.message.DescriptorProto.{DescriptorProto}
-use Rattle.pbx_described.specs.Descriptors.{Described, IsSame, parent_of, extended_of, number_of_field}
+use Rattle.pbx_link_meaning.specs.Descriptors.{Described, IsSame, parent_of, extended_of, number_of_field}
 use Rattle.pbx_message_laws.specs.Defaults.{value_or_default}
 use Rattle.pbx_message_laws.specs.Fields.{set_value}
 use Rattle.pbx_message_dynamic.specs.declared.error.SetFieldError.{SetFieldError}

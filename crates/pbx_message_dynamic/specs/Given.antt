@@ -1,13 +1,13 @@
 -- Values that are given for what trees hold.
 use Rattle.std.specs.Prelude.{◌≡◌, ℤ, List}
-use Rattle.pbx_meaning.specs.declared.shape.Cardinality.{Cardinality}
-use Rattle.pbx_meaning.specs.declared.shape.Kind.{Kind}
-use Rattle.pbx_meaning.specs.declared.shape.Kind.TheVariants as kind
-use Rattle.pbx_meaning.specs.declared.shape.Shape.{Shape}
-use Rattle.pbx_meaning.specs.Content.{Key, Val, number, message, many, keyed, vals_of, pairs_of}
-use Rattle.pbx_meaning.specs.Sound.{IsSound}
-use Rattle.pbx_codec.specs.declared.key.MapKey.{MapKey}
-use Rattle.pbx_codec.specs.View.{key_of}
+use Rattle.pbx_content.specs.declared.shape.Cardinality.{Cardinality}
+use Rattle.pbx_content.specs.declared.shape.Kind.{Kind}
+use Rattle.pbx_content.specs.declared.shape.Kind.TheVariants as kind
+use Rattle.pbx_content.specs.declared.shape.Shape.{Shape}
+use Rattle.pbx_content.specs.Content.{Key, Val, number, message, many, keyed, vals_of, pairs_of}
+use Rattle.pbx_content.specs.Sound.{IsSound}
+use Rattle.pbx_content_codec.specs.declared.key.MapKey.{MapKey}
+use Rattle.pbx_content_codec.specs.View.{key_of}
 use Rattle.pbx_desc_records.specs.declared.file.FileDescriptorProto.{FileDescriptorProto}
 use Rattle.pbx_message_dynamic.specs.declared.value.Value.{Value, out-Value}
 use Rattle.pbx_message_dynamic.specs.Values.{val_of_value, IsOfKind, IsOfCardinality, IsListOfKind, IsMapOfKinds, IsMessageAt, variant_in, variant_in_key, variant_of}

@@ -1,3 +1,5 @@
+pub mod Keys
+pub mod formers
 pub mod Message
 pub mod Values
 pub mod Fields

@@ -1,9 +1,9 @@
 -- Of the oneofs of a message's type the members that may have values (Protocol Buffers "Language Guide (proto 3)": Oneof Features).
 use Rattle.std.specs.Prelude.{◌≡◌, ℕ, ◌==◌, List, Option, Some, None, IsTrue, if◌then◌else◌}
-use Rattle.pbx_meaning.specs.declared.shape.FieldShape.{FieldShape}
-use Rattle.pbx_meaning.specs.Content.{Fields, has, without}
-use Rattle.pbx_meaning.specs.Shape.{field_of}
-use Rattle.pbx_number_map.specs.Entries.{value_under, with_entry}
+use Rattle.pbx_content.specs.declared.shape.FieldShape.{FieldShape}
+use Rattle.pbx_content.specs.Content.{Fields, has, without}
+use Rattle.pbx_content.specs.Shape.{field_of}
+use Rattle.pbx_content_map.specs.Entries.{value_under, with_entry}
 
 -- Under a oneof stands a member of it, and each member that has a value stands under its oneof.
 pub record AreMembers (gs : List FieldShape) (fs : Fields) (ms : List (ℕ × ℕ)) : Type 0 where

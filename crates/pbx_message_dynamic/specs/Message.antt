@@ -1,16 +1,16 @@
 -- A dynamic message: its type, as a message of a pool, and what it holds.
 use Rattle.std.specs.Prelude.{ℕ, List, refl}
 use Rattle.std.specs.Coded.{Coded, code_by, coded×}
-use Rattle.pbx_meaning.specs.declared.shape.FieldShape.{FieldShape}
-use Rattle.pbx_meaning.specs.declared.shape.Shape.{Shape}
-use Rattle.pbx_meaning.specs.Content.{Content}
-use Rattle.pbx_codec.specs.Code.{content_code}
-use Rattle.pbx_meaning.specs.Encoding.{encoded}
-use Rattle.pbx_meaning.specs.Shape.{fields_of, declared_of}
+use Rattle.pbx_content.specs.declared.shape.FieldShape.{FieldShape}
+use Rattle.pbx_content.specs.declared.shape.Shape.{Shape}
+use Rattle.pbx_content.specs.Content.{Content}
+use Rattle.pbx_content_codec.specs.Code.{content_code}
+use Rattle.pbx_content.specs.Encoding.{encoded}
+use Rattle.pbx_content.specs.Shape.{fields_of, declared_of}
 use Rattle.pbx_desc_records.specs.declared.message.DescriptorProto.{DescriptorProto}
 use Rattle.pbx_desc_records.specs.contracts.message.DescriptorProto as message_proto
-use Rattle.pbx_described.specs.Descriptors.{Described, described_code}
-use Rattle.pbx_described.specs.Shapes.{shape_of, place_of}
+use Rattle.pbx_link_meaning.specs.Descriptors.{Described, described_code}
+use Rattle.pbx_link_meaning.specs.Shapes.{shape_of, place_of}
 
 -- a message's type and what it holds
 pub record Dynamic : Type 0 where

@@ -1,9 +1,9 @@
 -- The field that a call means, by its number.
 use Rattle.std.specs.Prelude.{◌≡◌, ℕ, Option, Some, None}
-use Rattle.pbx_meaning.specs.declared.shape.FieldShape.{FieldShape}
-use Rattle.pbx_meaning.specs.Shape.{field_of}
+use Rattle.pbx_content.specs.declared.shape.FieldShape.{FieldShape}
+use Rattle.pbx_content.specs.Shape.{field_of}
 use Rattle.pbx_desc_records.specs.declared.message.DescriptorProto.{DescriptorProto}
-use Rattle.pbx_described.specs.Descriptors.{Described}
+use Rattle.pbx_link_meaning.specs.Descriptors.{Described}
 use Rattle.pbx_message_dynamic.specs.Fields.{Meant}
 use Rattle.pbx_message_dynamic.specs.Message.{type_fields}
 

@@ -1,10 +1,10 @@
 -- What reading a message of a type from a JSON tree answers, and writing one.
 use Rattle.std.specs.Prelude.{◌≡◌, ◌⊎◌, Bool, not, Some, None}
 use Rattle.serde_json.specs.Data.{Data}
-use Rattle.pbx_meaning.specs.Content.{Content}
+use Rattle.pbx_content.specs.Content.{Content}
 use Rattle.pbx_desc_records.specs.declared.message.DescriptorProto.{DescriptorProto}
-use Rattle.pbx_described.specs.Descriptors.{Described}
-use Rattle.pbx_described.specs.Shapes.{shape_of, place_of}
+use Rattle.pbx_link_meaning.specs.Descriptors.{Described}
+use Rattle.pbx_link_meaning.specs.Shapes.{shape_of, place_of}
 use Rattle.pbx_json_meaning.specs.Stands.{Stands}
 use Rattle.pbx_json_meaning.specs.Faults.{FirstJsonFault}
 use Rattle.pbx_json_meaning.specs.Canonical.{canonical}

@@ -1,19 +1,19 @@
 -- Values and what trees hold for them.
 use Rattle.std.specs.Prelude.{◌≡◌, ℕ, List, map, Option, Some, None}
-use Rattle.pbx_meaning.specs.declared.shape.Cardinality.{Cardinality}
-use Rattle.pbx_meaning.specs.declared.shape.Kind.{Kind}
-use Rattle.pbx_meaning.specs.declared.shape.Kind.TheVariants as kind
-use Rattle.pbx_meaning.specs.declared.shape.FieldShape.{FieldShape}
-use Rattle.pbx_meaning.specs.Content.{Key, Val, message, many, keyed, vals_of, pairs_of}
-use Rattle.pbx_meaning.specs.Sound.{IsElement, IsKeyOf, AreElements, ArePairs}
-use Rattle.pbx_codec.specs.declared.contents.Held.{Held}
-use Rattle.pbx_codec.specs.declared.contents.Pair.{Pair}
-use Rattle.pbx_codec.specs.declared.key.MapKey.{MapKey}
-use Rattle.pbx_codec.specs.View.{key_of, val_of, pair_of}
+use Rattle.pbx_content.specs.declared.shape.Cardinality.{Cardinality}
+use Rattle.pbx_content.specs.declared.shape.Kind.{Kind}
+use Rattle.pbx_content.specs.declared.shape.Kind.TheVariants as kind
+use Rattle.pbx_content.specs.declared.shape.FieldShape.{FieldShape}
+use Rattle.pbx_content.specs.Content.{Key, Val, message, many, keyed, vals_of, pairs_of}
+use Rattle.pbx_content.specs.Sound.{IsElement, IsKeyOf, AreElements, ArePairs}
+use Rattle.pbx_content_codec.specs.declared.contents.Held.{Held}
+use Rattle.pbx_content_codec.specs.declared.contents.Pair.{Pair}
+use Rattle.pbx_content_codec.specs.declared.key.MapKey.{MapKey}
+use Rattle.pbx_content_codec.specs.View.{key_of, val_of, pair_of}
 use Rattle.pbx_desc_records.specs.declared.file.FileDescriptorProto.{FileDescriptorProto}
 use Rattle.pbx_desc_records.specs.declared.message.DescriptorProto.{DescriptorProto}
-use Rattle.pbx_described.specs.Descriptors.{Described}
-use Rattle.pbx_described.specs.Shapes.{shape_of}
+use Rattle.pbx_link_meaning.specs.Descriptors.{Described}
+use Rattle.pbx_link_meaning.specs.Shapes.{shape_of}
 use Rattle.pbx_message_laws.specs.Types.{IsTypeAt}
 use Rattle.pbx_message_laws.specs.Settable.{IsSettable, IsSettableBy}
 use Rattle.pbx_message_dynamic.specs.declared.error.SetFieldError.{SetFieldError}

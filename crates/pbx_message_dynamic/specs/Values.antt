@@ -1,17 +1,17 @@
 -- Values of fields: which content's value each stands for, and which are of a field's kind.
 use Rattle.std.specs.Prelude.{◌≡◌, pos, List, [], ◌∷◌, map, false}
-use Rattle.pbx_codec.specs.declared.key.MapKey.{MapKey}
-use Rattle.pbx_codec.specs.declared.key.MapKey.TheVariants as key
-use Rattle.pbx_meaning.specs.declared.shape.Kind.{Kind}
-use Rattle.pbx_meaning.specs.declared.shape.Kind.TheVariants as kind
-use Rattle.pbx_meaning.specs.declared.shape.Cardinality.{Cardinality}
-use Rattle.pbx_meaning.specs.declared.shape.Cardinality.TheVariants.{Singular, Repeated, Map}
-use Rattle.pbx_meaning.specs.declared.shape.FieldShape.{FieldShape}
-use Rattle.pbx_meaning.specs.Content.{Val, number, truth, text, octets, message, many, keyed, vals_of, pairs_of}
-use Rattle.pbx_meaning.specs.Shape.{is_float}
-use Rattle.pbx_codec.specs.View.{key_of}
+use Rattle.pbx_content_codec.specs.declared.key.MapKey.{MapKey}
+use Rattle.pbx_content_codec.specs.declared.key.MapKey.TheVariants as key
+use Rattle.pbx_content.specs.declared.shape.Kind.{Kind}
+use Rattle.pbx_content.specs.declared.shape.Kind.TheVariants as kind
+use Rattle.pbx_content.specs.declared.shape.Cardinality.{Cardinality}
+use Rattle.pbx_content.specs.declared.shape.Cardinality.TheVariants.{Singular, Repeated, Map}
+use Rattle.pbx_content.specs.declared.shape.FieldShape.{FieldShape}
+use Rattle.pbx_content.specs.Content.{Val, number, truth, text, octets, message, many, keyed, vals_of, pairs_of}
+use Rattle.pbx_content.specs.Shape.{is_float}
+use Rattle.pbx_content_codec.specs.View.{key_of}
 use Rattle.pbx_desc_records.specs.declared.file.FileDescriptorProto.{FileDescriptorProto}
-use Rattle.pbx_described.specs.Shapes.{place_of}
+use Rattle.pbx_link_meaning.specs.Shapes.{place_of}
 use Rattle.pbx_message_dynamic.specs.declared.value.Value.{Value, out-Value, fold-Value}
 use Rattle.pbx_message_dynamic.specs.declared.value.Value.TheOpen.{Value-F}
 

@@ -3,25 +3,25 @@ ghost use Rattle.std.specs.Prelude.{◌≡◌, ◌<◌, ◌^◌, ℕ, pos, List 
 ghost use Rattle.std.specs.Int.{w32, w64};
 ghost use Rattle.std.specs.Int.RustNames.{FitsSigned};
 ghost use Rattle.std.specs.Str.{is_utf8};
-ghost use Rattle.pbx_token.specs.Escapes.{unescaped};
-ghost use Rattle.pbx_meaning.specs.declared.shape.Kind.TheVariants as kinds;
-ghost use Rattle.pbx_meaning.specs.Content.{octets, number as number_of};
-ghost use Rattle.pbx_meaning.specs.Meaning.{zero_of};
-ghost use Rattle.pbx_meaning.specs.Shape.{enum_values_of, is_float};
-ghost use Rattle.pbx_meaning.specs.Sound.{IsNumber, IsElement};
-ghost use Rattle.pbx_codec.specs.View.{val_of};
-ghost use Rattle.pbx_definitions.specs.Says.{signed_or_zero};
-ghost use Rattle.pbx_scope_rules.specs.Defaults.{decimal_value, digits_value as digits_value_of};
-ghost use Rattle.pbx_scope_rules.specs.Digits.{with_digit as with_digit_of, small};
+ghost use Rattle.pbx_parse_token.specs.Escapes.{unescaped};
+ghost use Rattle.pbx_content.specs.declared.shape.Kind.TheVariants as kinds;
+ghost use Rattle.pbx_content.specs.Content.{octets, number as number_of};
+ghost use Rattle.pbx_content.specs.Meaning.{zero_of};
+ghost use Rattle.pbx_content.specs.Shape.{enum_values_of, is_float};
+ghost use Rattle.pbx_content.specs.Sound.{IsNumber, IsElement};
+ghost use Rattle.pbx_content_codec.specs.View.{val_of};
+ghost use Rattle.pbx_link_definitions.specs.Says.{signed_or_zero};
+ghost use Rattle.pbx_link_rules_scope.specs.Defaults.{decimal_value, digits_value as digits_value_of};
+ghost use Rattle.pbx_link_rules_scope.specs.Digits.{with_digit as with_digit_of, small};
 ghost use Rattle.pbx_message_laws.specs.Defaults.{number_named as number_named_of, enum_default as enum_default_of, declared_val, default_of};
 ghost use Rattle.pbx_message_laws.specs.Pools.{IsReadable};
 ghost use Rattle.pbx_message_laws.specs.Settable.{IsSettable};
 
 use crate::putting::first_value;
 use bytes::Bytes;
-use pbx_codec::{Contents, Held};
-use pbx_meaning::{Cardinality, EnumValueShape, FieldShape, Kind, Schema};
-use pbx_token::unescape;
+use pbx_content::{Cardinality, EnumValueShape, FieldShape, Kind, Schema};
+use pbx_content_codec::{Contents, Held};
+use pbx_parse_token::unescape;
 use pbx_wire::{List, NoMemory, Text};
 use std::alloc::Global;
 

@@ -1,10 +1,10 @@
 // What trees hold, as values.
 ghost use Rattle.std.specs.Prelude.{◌≡◌, map, false, option_map, IfOk, IfSome};
 ghost use Rattle.std.specs.List.{AllByRecursion};
-ghost use Rattle.pbx_meaning.specs.Content.{number, number_key, message};
-ghost use Rattle.pbx_meaning.specs.Shape.{is_float};
-ghost use Rattle.pbx_codec.specs.View.{val_of, key_of, pair_of, content_of};
-ghost use Rattle.pbx_described.specs.Shapes.{shape_of};
+ghost use Rattle.pbx_content.specs.Content.{number, number_key, message};
+ghost use Rattle.pbx_content.specs.Shape.{is_float};
+ghost use Rattle.pbx_content_codec.specs.View.{val_of, key_of, pair_of, content_of};
+ghost use Rattle.pbx_link_meaning.specs.Shapes.{shape_of};
 ghost use Rattle.pbx_message_laws.specs.Defaults.{default_of, value_or_default as value_or_default_of};
 ghost use Rattle.pbx_message_laws.specs.Pools.{IsReadable};
 ghost use Rattle.pbx_message_laws.specs.Settable.{AscendByKey, IsSettable, IsSettableBy};
@@ -12,13 +12,13 @@ ghost use Rattle.pbx_message_dynamic.specs.Values.{variant_of, messages};
 ghost use Rattle.pbx_message_dynamic.specs.Typed.{IsTyped};
 ghost use Rattle.pbx_message_dynamic.specs.Given.{IsGivenNumber, IsGiven, IsGivenList, IsGivenKey, IsGivenMap, IsFieldGiven, HoldsSound, HoldsPair};
 
+use crate::KeyMap;
 use crate::defaults::{default_held, default_is_readable};
 use crate::message::DynamicMessage;
 use crate::typed::ValueType;
 use crate::value::Value;
-use pbx_codec::{Contents, Held, MapKey, Pair};
-use pbx_key_map::KeyMap;
-use pbx_meaning::{Cardinality, FieldShape, Kind, Schema};
+use pbx_content::{Cardinality, FieldShape, Kind, Schema};
+use pbx_content_codec::{Contents, Held, MapKey, Pair};
 use pbx_message_laws::items_are_of_kinds;
 use pbx_wire::{List, NoMemory};
 use std::alloc::Global;

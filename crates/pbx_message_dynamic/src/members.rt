@@ -1,15 +1,15 @@
 // The members of oneofs that may have values.
 ghost use Rattle.std.specs.Prelude.{◌≡◌, ℕ, List, map, IsTrue, IfOk, option_and_then};
-ghost use Rattle.pbx_meaning.specs.Content.{fields as fields_in_content, with_fields};
-ghost use Rattle.pbx_meaning.specs.Shape.{field_of, fields_of};
-ghost use Rattle.pbx_meaning.specs.Sound.{has_one_member};
-ghost use Rattle.pbx_codec.specs.View.{content_of, fields_in, entry_of};
-ghost use Rattle.pbx_number_map.specs.Entries.{value_under};
+ghost use Rattle.pbx_content.specs.Content.{fields as fields_in_content, with_fields};
+ghost use Rattle.pbx_content.specs.Shape.{field_of, fields_of};
+ghost use Rattle.pbx_content.specs.Sound.{has_one_member};
+ghost use Rattle.pbx_content_codec.specs.View.{content_of, fields_in, entry_of};
+ghost use Rattle.pbx_content_map.specs.Entries.{value_under};
 ghost use Rattle.pbx_message_dynamic.specs.Members.{AreMembers, AreMembersIf, IsNoted, without_former};
 
-use pbx_codec::{Contents, Held};
-use pbx_meaning::Schema;
-use pbx_number_map::NumberMap;
+use pbx_content::Schema;
+use pbx_content_codec::{Contents, Held};
+use pbx_content_map::NumberMap;
 use pbx_wire::NoMemory;
 use std::alloc::Global;
 

@@ -1,11 +1,11 @@
 ghost use Rattle.std.specs.Prelude.{◌≡◌, ◌-◌, ◌^◌, min, Some, IfOk, IfErr, OnOk, OnErr};
-ghost use Rattle.pbx_meaning.specs.Content.{empty, kept as kept_of, fields as fields_in_content, without, with_fields};
-ghost use Rattle.pbx_meaning.specs.Encoding.{encoded};
-ghost use Rattle.pbx_meaning.specs.Faults.{IsFaultOf, IsToldFault};
-ghost use Rattle.pbx_meaning.specs.Meaning.{meaning_of};
-ghost use Rattle.pbx_meaning.specs.Onto.{merged_of};
-ghost use Rattle.pbx_meaning.specs.Sound.{IsSound, depth as depth_of};
-ghost use Rattle.pbx_described.specs.Shapes.{shape_of, place_of};
+ghost use Rattle.pbx_content.specs.Content.{empty, kept as kept_of, fields as fields_in_content, without, with_fields};
+ghost use Rattle.pbx_content.specs.Encoding.{encoded};
+ghost use Rattle.pbx_content.specs.Faults.{IsFaultOf, IsToldFault};
+ghost use Rattle.pbx_content.specs.Meaning.{meaning_of};
+ghost use Rattle.pbx_content.specs.Onto.{merged_of};
+ghost use Rattle.pbx_content.specs.Sound.{IsSound, depth as depth_of};
+ghost use Rattle.pbx_link_meaning.specs.Shapes.{shape_of, place_of};
 ghost use Rattle.pbx_message_dynamic.specs.Message.{shape_in, place_in, text_in, dynamic, with_content};
 ghost use Rattle.pbx_message_dynamic.specs.Targets.{IsNumbered};
 ghost use Rattle.pbx_message_dynamic.specs.Fields.{IsOwnField, IsOwnExtension, IsNamed, IsGot, HasValue, IsFieldSet, IsNotSet, IsCleared};
@@ -15,16 +15,16 @@ use crate::own::{extension_number, field_number, kept_number, named_number};
 use crate::reading::numbered_value;
 use crate::setting::set_numbered;
 use crate::value::Value;
-use pbx_codec::{Contents, decode, depth, encode, merge};
-use pbx_desc_decoding::DecodeMessage;
+use pbx_content::{encoding_decodes, meaning_is_sound, onto_is_following};
+use pbx_content_codec::{Contents, decode, depth, encode, merge};
+use pbx_content_map::NumberMap;
+use pbx_desc::DecodeMessage;
 use pbx_desc_encoding::Message;
 use pbx_link::{ExtensionDescriptor, FieldDescriptor, MessageDescriptor};
-use pbx_meaning::{encoding_decodes, meaning_is_sound, onto_is_following};
 use pbx_message_laws::{
     clearing_is_sound, empty_is_sound, fields_are_as_set, fields_are_listed,
     sound_values_are_settable,
 };
-use pbx_number_map::NumberMap;
 use pbx_wire::{DecodeError, NoMemory, Recs};
 use std::alloc::Global;
 use std::marker::Model;
@@ -41,10 +41,10 @@ pub struct DynamicMessage {
 }
 
 impl Model for DynamicMessage {
-    ghost use Rattle.pbx_meaning.specs.Content.{fields};
-    ghost use Rattle.pbx_meaning.specs.Sound.{IsSound};
-    ghost use Rattle.pbx_codec.specs.View.{content_of};
-    ghost use Rattle.pbx_described.specs.Shapes.{shape_of, place_of};
+    ghost use Rattle.pbx_content.specs.Content.{fields};
+    ghost use Rattle.pbx_content.specs.Sound.{IsSound};
+    ghost use Rattle.pbx_content_codec.specs.View.{content_of};
+    ghost use Rattle.pbx_link_meaning.specs.Shapes.{shape_of, place_of};
     ghost use Rattle.pbx_message_dynamic.specs.Members.{AreMembersIf};
     ghost use Rattle.pbx_message_dynamic.specs.Message.{Dynamic, dynamic_code, type_fields};
 

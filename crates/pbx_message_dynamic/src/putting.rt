@@ -3,19 +3,19 @@ ghost use Rattle.std.specs.Prelude.{◌≡◌, pos, Some, OnOk, OnErr};
 ghost use Rattle.std.specs.Int.{w32};
 ghost use Rattle.std.specs.Int.RustNames.{FitsSigned};
 ghost use Rattle.std.specs.Ordering.{int_eq};
-ghost use Rattle.pbx_meaning.specs.Content.{fields as fields_in_content, with_fields, with_option};
-ghost use Rattle.pbx_meaning.specs.Meaning.{is_default as is_default_of, zero_number as zero_number_of};
-ghost use Rattle.pbx_meaning.specs.Shape.{first_number, first_of as first_of_values, field_of, fields_of};
-ghost use Rattle.pbx_meaning.specs.Sound.{IsSound};
-ghost use Rattle.pbx_codec.specs.View.{content_of, val_of};
-ghost use Rattle.pbx_number_map.specs.Entries.{value_under};
+ghost use Rattle.pbx_content.specs.Content.{fields as fields_in_content, with_fields, with_option};
+ghost use Rattle.pbx_content.specs.Meaning.{is_default as is_default_of, zero_number as zero_number_of};
+ghost use Rattle.pbx_content.specs.Shape.{first_number, first_of as first_of_values, field_of, fields_of};
+ghost use Rattle.pbx_content.specs.Sound.{IsSound};
+ghost use Rattle.pbx_content_codec.specs.View.{content_of, val_of};
+ghost use Rattle.pbx_content_map.specs.Entries.{value_under};
 ghost use Rattle.pbx_message_laws.specs.Fields.{keeps_default as keeps_default_of, set_value, value_kept};
 ghost use Rattle.pbx_message_dynamic.specs.Members.{AreMembersIf, IsNoted, without_former};
 
 use crate::members::{clear_former, known_members, member_under, noted};
-use pbx_codec::{Contents, Held};
-use pbx_meaning::{Cardinality, EnumShape, FieldShape, Kind, Schema};
-use pbx_number_map::NumberMap;
+use pbx_content::{Cardinality, EnumShape, FieldShape, Kind, Schema};
+use pbx_content_codec::{Contents, Held};
+use pbx_content_map::NumberMap;
 use pbx_wire::NoMemory;
 use std::alloc::Global;
 
@@ -52,7 +52,7 @@ fn zero_number(schema: &Schema, kind: Kind) -> i32
 }
 
 /// Whether the value is the kind's default.
-#[tactic(auto, using(pbx_codec::proofs::Tree::default_many, pbx_codec::proofs::Tree::default_pairs))]
+#[tactic(auto, using(pbx_content_codec::proofs::Tree::default_many, pbx_content_codec::proofs::Tree::default_pairs))]
 fn is_default(schema: &Schema, kind: Kind, held: &Held) -> bool
     ensures { result ≡ is_default_of schema.now kind (val_of held.now) }
 {

@@ -1,8 +1,8 @@
 // Fields that are read, by their numbers.
 ghost use Rattle.std.specs.Prelude.{◌≡◌, IfOk};
-ghost use Rattle.pbx_meaning.specs.Sound.{IsSound};
-ghost use Rattle.pbx_codec.specs.View.{content_of};
-ghost use Rattle.pbx_described.specs.Shapes.{shape_of, place_of};
+ghost use Rattle.pbx_content.specs.Sound.{IsSound};
+ghost use Rattle.pbx_content_codec.specs.View.{content_of};
+ghost use Rattle.pbx_link_meaning.specs.Shapes.{shape_of, place_of};
 ghost use Rattle.pbx_message_dynamic.specs.Fields.{IsGot};
 ghost use Rattle.pbx_message_dynamic.specs.Message.{dynamic};
 ghost use Rattle.pbx_message_dynamic.specs.Targets.{IsNumbered};
@@ -10,9 +10,9 @@ ghost use Rattle.pbx_message_dynamic.specs.Targets.{IsNumbered};
 use crate::giving::value_or_default;
 use crate::typed::{is_float, value_type};
 use crate::value::Value;
-use pbx_codec::Contents;
+use pbx_content::Schema;
+use pbx_content_codec::Contents;
 use pbx_link::MessageDescriptor;
-use pbx_meaning::Schema;
 use pbx_message_laws::{defaults_are_settable, fields_are_listed, sound_values_are_settable};
 use pbx_wire::NoMemory;
 use std::alloc::Global;

@@ -1,9 +1,9 @@
 // Fields that are set, by their numbers.
 ghost use Rattle.std.specs.Prelude.{◌≡◌, IfOk, IfErr, OnOk, OnErr};
-ghost use Rattle.pbx_meaning.specs.Content.{fields as fields_in_content};
-ghost use Rattle.pbx_meaning.specs.Sound.{IsSound};
-ghost use Rattle.pbx_codec.specs.View.{content_of};
-ghost use Rattle.pbx_described.specs.Shapes.{shape_of, place_of};
+ghost use Rattle.pbx_content.specs.Content.{fields as fields_in_content};
+ghost use Rattle.pbx_content.specs.Sound.{IsSound};
+ghost use Rattle.pbx_content_codec.specs.View.{content_of};
+ghost use Rattle.pbx_link_meaning.specs.Shapes.{shape_of, place_of};
 ghost use Rattle.pbx_message_dynamic.specs.Fields.{IsFieldSet, IsNotSet};
 ghost use Rattle.pbx_message_dynamic.specs.Members.{AreMembersIf};
 ghost use Rattle.pbx_message_dynamic.specs.Message.{dynamic, type_fields};
@@ -16,11 +16,11 @@ use crate::holding::field_held;
 use crate::putting::put_value;
 use crate::typed::{is_float, value_type};
 use crate::value::Value;
-use pbx_codec::{Contents, Held};
+use pbx_content::{FieldShape, Schema};
+use pbx_content_codec::{Contents, Held};
+use pbx_content_map::NumberMap;
 use pbx_link::MessageDescriptor;
-use pbx_meaning::{FieldShape, Schema};
 use pbx_message_laws::setting_is_sound;
-use pbx_number_map::NumberMap;
 use std::alloc::Global;
 
 /// The value, where the field may be set to it.

@@ -7,11 +7,10 @@ ghost use Rattle.pbx_message_dynamic.specs.Message.{shape_in, place_in};
 ghost use Rattle.pbx_message_dynamic.specs.Trees.{IsRead, IsReadFault, IsUnread, IsWritten, IsWriteFault, IsUnwritten};
 
 use crate::message::DynamicMessage;
-use pbx_json_laws::{stands_sound, values_have_texts};
+use pbx_json_laws::{shapes_are_well_named, stands_sound, values_have_texts};
 use pbx_json_levels::fits as content_fits;
 use pbx_json_meaning::{DeserializeOptions, JsonError, JsonKind, Place, SerializeOptions};
 use pbx_json_reading::read_content;
-use pbx_json_shape_laws::shapes_are_well_named;
 use pbx_json_writing::write_content;
 use pbx_link::MessageDescriptor;
 use pbx_wire::NoMemory;

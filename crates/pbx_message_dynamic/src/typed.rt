@@ -1,13 +1,13 @@
 // The types of values: their kinds, and the message types that kinds name by places.
 ghost use Rattle.std.specs.Prelude.{◌≡◌};
-ghost use Rattle.pbx_meaning.specs.Shape.{is_float as is_float_of};
-ghost use Rattle.pbx_described.specs.Shapes.{shape_of};
+ghost use Rattle.pbx_content.specs.Shape.{is_float as is_float_of};
+ghost use Rattle.pbx_link_meaning.specs.Shapes.{shape_of};
 ghost use Rattle.pbx_message_dynamic.specs.Typed.{IsTypeOf, IsFoundAt, IsTyped};
 ghost use Rattle.pbx_message_dynamic.specs.Values.{variant_of};
 ghost use Rattle.pbx_message_dynamic.specs.Variants.{variant_number};
 
+use pbx_content::{Kind, Schema};
 use pbx_link::MessageDescriptor;
-use pbx_meaning::{Kind, Schema};
 use pbx_message_laws::{kinds_have_types, messages_are_placed};
 
 /// The type of a value of a field of `holder`.

@@ -1,6 +1,6 @@
+use crate::KeyMap;
 use crate::message::DynamicMessage;
 use bytes::Bytes;
-use pbx_key_map::KeyMap;
 use pbx_wire::{List, Text};
 
 /// A value of a field (Protocol Buffers "Language Guide (proto 3)": Scalar Value Types).

@@ -2,9 +2,9 @@
 use Rattle.std.proofs.Common.{◌≡◌, ◌∙◌, ℕ, Bool, true, false, ◌&&◌, if◌then◌else◌, List, [], ◌∷◌, Option, Some, None, refl, ap, arith}
 use Rattle.std.proofs.lemmas.Bool.Decides.{nat_tests}
 use Rattle.std.specs.Prelude.{◌==◌, is_some}
-use Rattle.pbx_meaning.specs.declared.shape.FieldShape.{FieldShape}
-use Rattle.pbx_meaning.specs.Content.{content, Fields, no_fields, field, Val, get, has, without, IsAscending}
-use Rattle.pbx_meaning.specs.Shape.{is_other}
+use Rattle.pbx_content.specs.declared.shape.FieldShape.{FieldShape}
+use Rattle.pbx_content.specs.Content.{content, Fields, no_fields, field, Val, get, has, without, IsAscending}
+use Rattle.pbx_content.specs.Shape.{is_other}
 use Rattle.pbx_message_laws.specs.Fields.{cleared_others, is_number_of_other, value_kept}
 use Rattle.pbx_message_laws.specs.Laws.{SoundAscends, SetIs, SetIsGot, ClearedIs, ClearedIsGone, HasIsGet, SettingKeeps}
 use Rattle.pbx_message_laws.proofs.Changes.{ascending-without, get-without, get-with_option}

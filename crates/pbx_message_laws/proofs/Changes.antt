@@ -1,9 +1,9 @@
--- Fields with the value of a number changed, as pbx_codec has it too and keeps to itself.
+-- Fields with the value of a number changed, as pbx_content_codec has it too and keeps to itself.
 use Rattle.std.proofs.Common.{◌≡◌, ℕ, ◌<◌, ◌≤◌, Bool, true, false, if◌then◌else◌, nat_lt, Option, Some, None, refl, sym, ◌∙◌, arith}
 use Rattle.std.specs.Prelude.{◌==◌}
 use Rattle.std.proofs.lemmas.Bool.Decides.{nat_tests}
-use Rattle.pbx_meaning.specs.Content.{Fields, no_fields, field, Val, get, added, without, with_option, IsAbove, IsAscending}
-use Rattle.pbx_meaning.proofs.OntoFields.{get-above}
+use Rattle.pbx_content.specs.Content.{Fields, no_fields, field, Val, get, added, without, with_option, IsAbove, IsAscending}
+use Rattle.pbx_content.proofs.OntoFields.{get-above}
 
 -- ---- ascending numbers
 

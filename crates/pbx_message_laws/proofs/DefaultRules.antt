@@ -6,25 +6,25 @@ use Rattle.std.proofs.lemmas.List.Folds.{list_any-append}
 use Rattle.std.proofs.lemmas.List.Elements.{Contains-append_cases}
 use Rattle.pbx_desc_records.specs.declared.field.FieldDescriptorProto.{FieldDescriptorProto}
 use Rattle.pbx_desc_records.specs.declared.file.FileDescriptorProto.{FileDescriptorProto}
-use Rattle.pbx_definitions.specs.Definitions.{Place, Part, at, fields, extensions}
-use Rattle.pbx_definitions.specs.Names.{text_or_empty, dotted}
-use Rattle.pbx_definitions.specs.Says.{is_number, is_proto3, is_repeated, number_or_zero}
-use Rattle.pbx_scope.specs.declared.types.Bound.{Bound}
-use Rattle.pbx_scope.specs.declared.types.Bound.TheVariants.{Message as to_message, Enum as to_enum}
-use Rattle.pbx_scope.specs.Scope.{visible, bound_if, bound_name}
-use Rattle.pbx_field_rules.specs.Rules.{all_fields, is_type, is_named_type, is_bad_type, has_bad_type}
-use Rattle.pbx_scope_rules.specs.Rules.{places_by, is_bad_type_name, has_bad_type_name, has_bad_extendee, has_no_extendee, unbound_names}
-use Rattle.pbx_scope_rules.specs.Rules.{unbound_in_fields, unbound_in_extensions, unbound_in_methods}
-use Rattle.pbx_scope_rules.specs.Defaults.{is_default_of, has_bad_default, bad_defaults}
-use Rattle.pbx_linked.specs.Linked.{linked_record, type_by, exact_by, exact}
-use Rattle.pbx_rules.specs.Breaches.{keeps_rules}
-use Rattle.pbx_rules.proofs.First.{rule_7, rule_8, rule_11}
-use Rattle.pbx_rules.proofs.RulesKept.{keeps_each}
-use Rattle.pbx_pool_laws.specs.Pool.{ArePooled}
-use Rattle.pbx_pool_laws.proofs.Lists.{neither, left_nil, right_nil, none_where}
-use Rattle.pbx_pool_laws.proofs.LinkedParts.{changed_in, field_linked, extension_linked, fields_of_linked, extensions_of_linked}
-use Rattle.pbx_pool_laws.proofs.Types.{Source, source, not_at}
-use Rattle.pbx_shape_laws.proofs.PoolParts.{in_pool}
+use Rattle.pbx_link_definitions.specs.Definitions.{Place, Part, at, fields, extensions}
+use Rattle.pbx_link_definitions.specs.Names.{text_or_empty, dotted}
+use Rattle.pbx_link_definitions.specs.Says.{is_number, is_proto3, is_repeated, number_or_zero}
+use Rattle.pbx_link_scope.specs.declared.types.Bound.{Bound}
+use Rattle.pbx_link_scope.specs.declared.types.Bound.TheVariants.{Message as to_message, Enum as to_enum}
+use Rattle.pbx_link_scope.specs.Scope.{visible, bound_if, bound_name}
+use Rattle.pbx_link_rules_field.specs.Rules.{all_fields, is_type, is_named_type, is_bad_type, has_bad_type}
+use Rattle.pbx_link_rules_scope.specs.Rules.{places_by, is_bad_type_name, has_bad_type_name, has_bad_extendee, has_no_extendee, unbound_names}
+use Rattle.pbx_link_rules_scope.specs.Rules.{unbound_in_fields, unbound_in_extensions, unbound_in_methods}
+use Rattle.pbx_link_rules_scope.specs.Defaults.{is_default_of, has_bad_default, bad_defaults}
+use Rattle.pbx_link_record.specs.Linked.{linked_record, type_by, exact_by, exact}
+use Rattle.pbx_link_rules.specs.Breaches.{keeps_rules}
+use Rattle.pbx_link_rules.proofs.First.{rule_7, rule_8, rule_11}
+use Rattle.pbx_link_rules.proofs.RulesKept.{keeps_each}
+use Rattle.pbx_link_rules.specs.Pool.{ArePooled}
+use Rattle.pbx_link_rules.proofs.Lists.{neither, left_nil, right_nil, none_where}
+use Rattle.pbx_link_rules.proofs.LinkedParts.{changed_in, field_linked, extension_linked, fields_of_linked, extensions_of_linked}
+use Rattle.pbx_link_rules.proofs.Types.{Source, source, not_at}
+use Rattle.pbx_link_meaning.proofs.PoolParts.{in_pool}
 use Rattle.pbx_message_laws.proofs.DefaultTexts.{IsTyped}
 
 -- ---- one field

@@ -5,28 +5,28 @@ use Rattle.std.specs.Prelude.{Contains, filter, IsTrue}
 use Rattle.std.specs.List.{flat_map}
 use Rattle.std.specs.Str.{is_utf8}
 use Rattle.std.proofs.lemmas.List.Elements.{Contains-append_left, Contains-append_right}
-use Rattle.pbx_meaning.specs.declared.shape.Kind.{Kind}
-use Rattle.pbx_meaning.specs.declared.shape.Kind.TheVariants as kind
-use Rattle.pbx_meaning.specs.declared.shape.Cardinality.{Cardinality}
-use Rattle.pbx_meaning.specs.declared.shape.Cardinality.TheVariants.{Singular, Repeated, Map}
-use Rattle.pbx_meaning.specs.declared.shape.FieldShape.{FieldShape}
-use Rattle.pbx_meaning.specs.declared.shape.Shape.{Shape}
-use Rattle.pbx_meaning.specs.Content.{Val, fields as fields_of_content, get}
-use Rattle.pbx_meaning.specs.Shape.{fields_of, field_of, is_float}
-use Rattle.pbx_meaning.specs.Sound.{IsElement}
+use Rattle.pbx_content.specs.declared.shape.Kind.{Kind}
+use Rattle.pbx_content.specs.declared.shape.Kind.TheVariants as kind
+use Rattle.pbx_content.specs.declared.shape.Cardinality.{Cardinality}
+use Rattle.pbx_content.specs.declared.shape.Cardinality.TheVariants.{Singular, Repeated, Map}
+use Rattle.pbx_content.specs.declared.shape.FieldShape.{FieldShape}
+use Rattle.pbx_content.specs.declared.shape.Shape.{Shape}
+use Rattle.pbx_content.specs.Content.{Val, fields as fields_of_content, get}
+use Rattle.pbx_content.specs.Shape.{fields_of, field_of, is_float}
+use Rattle.pbx_content.specs.Sound.{IsElement}
 use Rattle.pbx_desc_records.specs.declared.field.FieldDescriptorProto.{FieldDescriptorProto}
 use Rattle.pbx_desc_records.specs.declared.file.FileDescriptorProto.{FileDescriptorProto}
 use Rattle.pbx_desc_records.specs.declared.message.DescriptorProto.{DescriptorProto}
-use Rattle.pbx_definitions.specs.Definitions.{Part, fields_in, messages, fields, extensions}
-use Rattle.pbx_definitions.specs.Says.{number_or_zero, is_repeated}
-use Rattle.pbx_field_rules.specs.Rules.{all_fields}
-use Rattle.pbx_pool_laws.proofs.Types.{source}
-use Rattle.pbx_described.specs.Descriptors.{Described, described, all_extensions, fields_of_message, extensions_of_message, is_map}
-use Rattle.pbx_described.specs.Shapes.{entry_kind, type_of_field, kind_of, value_kind, cardinality_of, field_shape, extension_shape, shape_of}
-use Rattle.pbx_shape_laws.proofs.Lists.{told_of, is_told}
+use Rattle.pbx_link_definitions.specs.Definitions.{Part, fields_in, messages, fields, extensions}
+use Rattle.pbx_link_definitions.specs.Says.{number_or_zero, is_repeated}
+use Rattle.pbx_link_rules_field.specs.Rules.{all_fields}
+use Rattle.pbx_link_rules.proofs.Types.{source}
+use Rattle.pbx_link_meaning.specs.Descriptors.{Described, described, all_extensions, fields_of_message, extensions_of_message, is_map}
+use Rattle.pbx_link_meaning.specs.Shapes.{entry_kind, type_of_field, kind_of, value_kind, cardinality_of, field_shape, extension_shape, shape_of}
+use Rattle.pbx_link_meaning.proofs.Lists.{told_of, is_told}
 use Rattle.pbx_message_laws.specs.Defaults.{declared_val, singular_default, default_by, default_of, value_or_default}
 use Rattle.pbx_message_laws.specs.Settable.{IsSettableBy, IsSettable}
-use Rattle.pbx_described.specs.Shapes.{place_of}
+use Rattle.pbx_link_meaning.specs.Shapes.{place_of}
 use Rattle.pbx_message_laws.specs.Pools.{IsPooled, IsShapeOf, IsReadable, DefaultIsSettable, ReadIsSettable}
 use Rattle.pbx_message_laws.proofs.DefaultTexts.{FitIf, zero_element, good_default}
 use Rattle.pbx_message_laws.proofs.DefaultRules.{TypedBy, pool_defaults}

@@ -7,19 +7,19 @@ use Rattle.std.specs.Str.{is_utf8, chars}
 use lib.Utf8.{encode}
 use Rattle.std.proofs.lemmas.Bool.{eqb-true}
 use Rattle.std.proofs.lemmas.Bool.Decides.{nat_tests}
-use Rattle.pbx_meaning.specs.declared.shape.Kind.{Kind}
-use Rattle.pbx_meaning.specs.declared.shape.Kind.TheVariants as kind
-use Rattle.pbx_meaning.specs.declared.shape.Shape.{Shape}
-use Rattle.pbx_meaning.specs.Content.{empty}
-use Rattle.pbx_meaning.specs.Meaning.{zero_of}
-use Rattle.pbx_meaning.specs.Shape.{fields_of, is_float}
-use Rattle.pbx_meaning.specs.Sound.{IsNumber, IsElement}
-use Rattle.pbx_meaning.proofs.SoundValues.{nothing_sound, sound_of}
-use Rattle.pbx_definitions.specs.Says.{signed_or_zero}
-use Rattle.pbx_field_rules.specs.Rules.{is_type}
-use Rattle.pbx_scope_rules.specs.Defaults.{digits_value, decimal_value, fits_signed, fits_unsigned, passes, is_signed_text, is_unsigned_text, is_scalar_default}
+use Rattle.pbx_content.specs.declared.shape.Kind.{Kind}
+use Rattle.pbx_content.specs.declared.shape.Kind.TheVariants as kind
+use Rattle.pbx_content.specs.declared.shape.Shape.{Shape}
+use Rattle.pbx_content.specs.Content.{empty}
+use Rattle.pbx_content.specs.Meaning.{zero_of}
+use Rattle.pbx_content.specs.Shape.{fields_of, is_float}
+use Rattle.pbx_content.specs.Sound.{IsNumber, IsElement}
+use Rattle.pbx_content.proofs.SoundValues.{nothing_sound, sound_of}
+use Rattle.pbx_link_definitions.specs.Says.{signed_or_zero}
+use Rattle.pbx_link_rules_field.specs.Rules.{is_type}
+use Rattle.pbx_link_rules_scope.specs.Defaults.{digits_value, decimal_value, fits_signed, fits_unsigned, passes, is_signed_text, is_unsigned_text, is_scalar_default}
 use Rattle.pbx_desc_records.specs.declared.file.FileDescriptorProto.{FileDescriptorProto}
-use Rattle.pbx_described.specs.Shapes.{place_of_message, place_of_enum, scalar_kind, kind_by}
+use Rattle.pbx_link_meaning.specs.Shapes.{place_of_message, place_of_enum, scalar_kind, kind_by}
 use Rattle.pbx_message_laws.specs.Defaults.{enum_default, declared_val}
 
 -- ---- numbers

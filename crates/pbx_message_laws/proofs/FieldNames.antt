@@ -5,30 +5,30 @@ use Rattle.std.specs.List.{list_any, flat_map}
 use Rattle.std.specs.Str.{bytes_eq}
 use Rattle.std.proofs.lemmas.Grind.{flat_map-append}
 use Rattle.std.proofs.lemmas.List.Folds.{list_any-append}
-use Rattle.pbx_meaning.specs.declared.shape.FieldShape.{FieldShape}
+use Rattle.pbx_content.specs.declared.shape.FieldShape.{FieldShape}
 use Rattle.pbx_desc_records.specs.declared.field.FieldDescriptorProto.{FieldDescriptorProto}
 use Rattle.pbx_desc_records.specs.declared.file.FileDescriptorProto.{FileDescriptorProto}
 use Rattle.pbx_desc_records.specs.declared.message.DescriptorProto.{DescriptorProto}
-use Rattle.pbx_definitions.specs.Names.{text_or_empty, is_named, is_ident}
-use Rattle.pbx_definitions.specs.Definitions.{Place, Part, Defined, name_place, fields_in, nested_in, messages_from, messages, fields}
-use Rattle.pbx_definitions.specs.Definitions.{definitions, definitions_from, before_nested, after_nested, field_definition}
-use Rattle.pbx_definitions.specs.Definitions.{enum_definitions, service_definitions, top_messages, top_enums, top_extensions, services}
-use Rattle.pbx_definitions.specs.Places.{places_where, place_if}
-use Rattle.pbx_definitions.specs.declared.definitions.Sort.TheVariants.{Field as a_field, Extension as an_extension}
-use Rattle.pbx_definitions.proofs.Told.{Each, ind_part, messages_from_at, definitions_from_at}
-use Rattle.pbx_scope.specs.Scope.{visible}
-use Rattle.pbx_linked.specs.Linked.{linked_record}
-use Rattle.pbx_record_rules.specs.FileRules.{is_bad_package, is_bad_name, bad_names}
-use Rattle.pbx_rules.specs.Breaches.{keeps_rules}
-use Rattle.pbx_rules.proofs.First.{rule_4}
-use Rattle.pbx_rules.proofs.RulesKept.{keeps_each}
-use Rattle.pbx_pool_laws.specs.Pool.{ArePooled}
-use Rattle.pbx_pool_laws.proofs.Lists.{neither, no_other, right_nil, none_where, any_mapped, here, there}
-use Rattle.pbx_pool_laws.proofs.LinkedParts.{changed_in, field_linked, fields_of_linked}
-use Rattle.pbx_pool_laws.proofs.Types.{source, not_at}
-use Rattle.pbx_described.specs.Descriptors.{Described, described, fields_of_message, extensions_of_message, with_name}
-use Rattle.pbx_described.specs.Shapes.{field_shape, extension_shape}
-use Rattle.pbx_shape_laws.proofs.Lists.{told_of, is_told}
+use Rattle.pbx_link_definitions.specs.Names.{text_or_empty, is_named, is_ident}
+use Rattle.pbx_link_definitions.specs.Definitions.{Place, Part, Defined, name_place, fields_in, nested_in, messages_from, messages, fields}
+use Rattle.pbx_link_definitions.specs.Definitions.{definitions, definitions_from, before_nested, after_nested, field_definition}
+use Rattle.pbx_link_definitions.specs.Definitions.{enum_definitions, service_definitions, top_messages, top_enums, top_extensions, services}
+use Rattle.pbx_link_definitions.specs.Places.{places_where, place_if}
+use Rattle.pbx_link_definitions.specs.declared.definitions.Sort.TheVariants.{Field as a_field, Extension as an_extension}
+use Rattle.pbx_link_definitions.proofs.Told.{Each, ind_part, messages_from_at, definitions_from_at}
+use Rattle.pbx_link_scope.specs.Scope.{visible}
+use Rattle.pbx_link_record.specs.Linked.{linked_record}
+use Rattle.pbx_link_rules_record.specs.FileRules.{is_bad_package, is_bad_name, bad_names}
+use Rattle.pbx_link_rules.specs.Breaches.{keeps_rules}
+use Rattle.pbx_link_rules.proofs.First.{rule_4}
+use Rattle.pbx_link_rules.proofs.RulesKept.{keeps_each}
+use Rattle.pbx_link_rules.specs.Pool.{ArePooled}
+use Rattle.pbx_link_rules.proofs.Lists.{neither, no_other, right_nil, none_where, any_mapped, here, there}
+use Rattle.pbx_link_rules.proofs.LinkedParts.{changed_in, field_linked, fields_of_linked}
+use Rattle.pbx_link_rules.proofs.Types.{source, not_at}
+use Rattle.pbx_link_meaning.specs.Descriptors.{Described, described, fields_of_message, extensions_of_message, with_name}
+use Rattle.pbx_link_meaning.specs.Shapes.{field_shape, extension_shape}
+use Rattle.pbx_link_meaning.proofs.Lists.{told_of, is_told}
 use Rattle.pbx_message_laws.specs.Pools.{IsPooled, NamedIsField}
 use Rattle.pbx_message_laws.proofs.Placed.{message_is_placed}
 

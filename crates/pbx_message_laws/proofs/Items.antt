@@ -1,10 +1,10 @@
 -- Lists and maps, item by item.
 use Rattle.std.proofs.Common.{List, [], ◌∷◌, refl}
 use Rattle.std.specs.List.{AllByRecursion}
-use Rattle.pbx_meaning.specs.declared.shape.Kind.{Kind}
-use Rattle.pbx_meaning.specs.declared.shape.Shape.{Shape}
-use Rattle.pbx_meaning.specs.Content.{Key, Val, vals_of, pairs_of}
-use Rattle.pbx_meaning.specs.Sound.{IsBefore, AreElements, ArePairs, IsElement}
+use Rattle.pbx_content.specs.declared.shape.Kind.{Kind}
+use Rattle.pbx_content.specs.declared.shape.Shape.{Shape}
+use Rattle.pbx_content.specs.Content.{Key, Val, vals_of, pairs_of}
+use Rattle.pbx_content.specs.Sound.{IsBefore, AreElements, ArePairs, IsElement}
 use Rattle.pbx_message_laws.specs.Settable.{IsPairOf, IsBeforeFirst, AscendByKey}
 use Rattle.pbx_message_laws.specs.Laws.{ListIsOfKind, MapIsOfKinds, SignedInOrder, UnsignedInOrder, TruthsInOrder, TextsInOrder}
 

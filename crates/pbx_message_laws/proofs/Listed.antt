@@ -1,14 +1,14 @@
 -- Fields by number and in declared order.
 use Rattle.std.proofs.Common.{◌≡◌, ◌⊎◌, inl, inr, ℕ, zero, suc, nat_lt, Bool, true, false, if◌then◌else◌, List, [], ◌∷◌, map, refl, ap, subst, arith}
 use Rattle.std.specs.Prelude.{Contains}
-use Rattle.pbx_meaning.specs.declared.shape.Shape.{Shape}
-use Rattle.pbx_meaning.specs.declared.shape.FieldShape.{FieldShape}
-use Rattle.pbx_meaning.specs.Shape.{declared_of, inserted, by_number, fields_of}
+use Rattle.pbx_content.specs.declared.shape.Shape.{Shape}
+use Rattle.pbx_content.specs.declared.shape.FieldShape.{FieldShape}
+use Rattle.pbx_content.specs.Shape.{declared_of, inserted, by_number, fields_of}
 use Rattle.std.specs.List.{IsDistinct}
-use Rattle.pbx_meaning.specs.Sound.{AreProper}
-use Rattle.pbx_meaning.proofs.OntoFields.{AreAbove, fields_ascend}
-use Rattle.pbx_pool_laws.proofs.Lists.{here, there}
-use Rattle.pbx_shape_laws.proofs.PoolParts.{found_there}
+use Rattle.pbx_content.specs.Sound.{AreProper}
+use Rattle.pbx_content.proofs.OntoFields.{AreAbove, fields_ascend}
+use Rattle.pbx_link_rules.proofs.Lists.{here, there}
+use Rattle.pbx_link_meaning.proofs.PoolParts.{found_there}
 use Rattle.pbx_message_laws.specs.Pools.{DeclaredIsListed, ListedIsDeclared, FoundIsListed}
 use Rattle.pbx_message_laws.proofs.Members.{listed, found}
 

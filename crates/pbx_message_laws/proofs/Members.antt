@@ -7,12 +7,12 @@ use Rattle.std.proofs.lemmas.Bool.{eqb-true}
 use Rattle.std.proofs.lemmas.Bool.Decides.{nat_tests}
 use Rattle.std.proofs.lemmas.List.Elements.{All-contains, All-contains_itself}
 use Rattle.std.proofs.lemmas.List.Sums.{AllPass-from_list_all, list_all-from_AllPass}
-use Rattle.pbx_meaning.specs.declared.shape.FieldShape.{FieldShape}
-use Rattle.pbx_meaning.specs.Content.{Fields, has}
-use Rattle.pbx_meaning.specs.Records.{any}
-use Rattle.pbx_meaning.specs.Shape.{field_of, same_oneof, is_other}
-use Rattle.pbx_meaning.specs.Sound.{has_one_member}
-use Rattle.pbx_meaning.proofs.OntoFields.{AreAbove}
+use Rattle.pbx_content.specs.declared.shape.FieldShape.{FieldShape}
+use Rattle.pbx_content.specs.Content.{Fields, has}
+use Rattle.pbx_content.specs.Records.{any}
+use Rattle.pbx_content.specs.Shape.{field_of, same_oneof, is_other}
+use Rattle.pbx_content.specs.Sound.{has_one_member}
+use Rattle.pbx_content.proofs.OntoFields.{AreAbove}
 
 -- ---- tests of all items
 

@@ -7,22 +7,22 @@ use Rattle.std.proofs.lemmas.Bool.Decides.{nat_tests}
 use Rattle.std.specs.Str.{bytes_eq}
 use Rattle.std.proofs.lemmas.List.Elements.{Contains-append_left, Contains-append_right, Contains-append_cases}
 use Rattle.std.proofs.lemmas.List.Quantifiers.{position-Some}
-use Rattle.pbx_meaning.specs.Shape.{declared_at, declared_of, fields_of, field_of}
-use Rattle.pbx_meaning.specs.declared.shape.FieldShape.{FieldShape}
+use Rattle.pbx_content.specs.Shape.{declared_at, declared_of, fields_of, field_of}
+use Rattle.pbx_content.specs.declared.shape.FieldShape.{FieldShape}
 use Rattle.pbx_desc_records.specs.declared.file.FileDescriptorProto.{FileDescriptorProto}
 use Rattle.pbx_desc_records.specs.declared.message.DescriptorProto.{DescriptorProto}
-use Rattle.pbx_definitions.specs.Definitions.{Part, message_name, messages}
-use Rattle.pbx_pool_laws.specs.Pool.{ArePooled}
-use Rattle.pbx_pool_laws.proofs.Counted.{count, count_map, message_once}
-use Rattle.pbx_pool_laws.proofs.Distinct.{pooled_are_distinct}
-use Rattle.pbx_pool_laws.proofs.Named.{same_name}
-use Rattle.pbx_pool_laws.proofs.Types.{source}
-use Rattle.pbx_described.specs.Descriptors.{Described, all_messages, fields_of_message, extensions_of_message}
-use Rattle.pbx_described.specs.Shapes.{message_place, field_shape, extension_shape, message_shape, shape_of}
-use Rattle.pbx_described.proofs.DescribedLists.{parts_back}
-use Rattle.pbx_shape_laws.proofs.Lists.{one_item}
-use Rattle.pbx_shape_laws.proofs.Proper.{types_are_proper}
-use Rattle.pbx_described.specs.Shapes.{place_of}
+use Rattle.pbx_link_definitions.specs.Definitions.{Part, message_name, messages}
+use Rattle.pbx_link_rules.specs.Pool.{ArePooled}
+use Rattle.pbx_link_rules.proofs.Counted.{count, count_map, message_once}
+use Rattle.pbx_link_rules.proofs.Distinct.{pooled_are_distinct}
+use Rattle.pbx_link_rules.proofs.Named.{same_name}
+use Rattle.pbx_link_rules.proofs.Types.{source}
+use Rattle.pbx_link_meaning.specs.Descriptors.{Described, all_messages, fields_of_message, extensions_of_message}
+use Rattle.pbx_link_meaning.specs.Shapes.{message_place, field_shape, extension_shape, message_shape, shape_of}
+use Rattle.pbx_link_meaning.proofs.DescribedLists.{parts_back}
+use Rattle.pbx_link_meaning.proofs.Lists.{one_item}
+use Rattle.pbx_link_meaning.proofs.Proper.{types_are_proper}
+use Rattle.pbx_link_meaning.specs.Shapes.{place_of}
 use Rattle.pbx_message_laws.specs.Pools.{IsPooled, IsShapeOf, MessageIsPlaced, SameIsEqual, PlaceIsOwn, FieldIsListed, ExtensionIsListed, ListedIsField}
 use Rattle.pbx_message_laws.specs.Pools.{SameHasField, SameHasExtension}
 use Rattle.pbx_message_laws.proofs.Listed.{split, mapped, declared_is_listed, listed_is_declared}

@@ -3,14 +3,14 @@ use Rattle.std.proofs.Common.{◌≡◌, ℕ, true, false, List, [], ◌∷◌, 
 use Rattle.std.specs.Prelude.{pos, negsuc, codes}
 use Rattle.std.specs.Str.{is_utf8, chars}
 use lib.Utf8.{encode}
-use Rattle.pbx_token.specs.Escapes.{escape_at, unescaped_after}
-use Rattle.pbx_meaning.specs.declared.shape.Kind.{Kind}
-use Rattle.pbx_meaning.specs.declared.shape.Kind.TheVariants as kind
-use Rattle.pbx_meaning.specs.declared.shape.Cardinality.TheVariants.{Singular, Repeated, Map}
-use Rattle.pbx_meaning.specs.declared.shape.FieldShape.{FieldShape}
-use Rattle.pbx_meaning.specs.declared.shape.Shape.{Shape}
-use Rattle.pbx_meaning.specs.Content.{content, no_fields, field, number, truth, text, octets, message, empty, many, keyed, no_vals, val, no_pairs, pair}
-use Rattle.pbx_meaning.specs.Content.{number_key}
+use Rattle.pbx_parse_token.specs.Escapes.{escape_at, unescaped_after}
+use Rattle.pbx_content.specs.declared.shape.Kind.{Kind}
+use Rattle.pbx_content.specs.declared.shape.Kind.TheVariants as kind
+use Rattle.pbx_content.specs.declared.shape.Cardinality.TheVariants.{Singular, Repeated, Map}
+use Rattle.pbx_content.specs.declared.shape.FieldShape.{FieldShape}
+use Rattle.pbx_content.specs.declared.shape.Shape.{Shape}
+use Rattle.pbx_content.specs.Content.{content, no_fields, field, number, truth, text, octets, message, empty, many, keyed, no_vals, val, no_pairs, pair}
+use Rattle.pbx_content.specs.Content.{number_key}
 use Rattle.pbx_message_laws.specs.Defaults.{default_of, value_or_default}
 use Rattle.pbx_message_laws.specs.Fields.{set_value}
 use Rattle.pbx_message_laws.specs.Settable.{IsSettable}

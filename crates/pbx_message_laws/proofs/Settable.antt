@@ -1,16 +1,16 @@
 -- Values that a field may be set to, and those that it may have.
 use Rattle.std.proofs.Common.{◌≡◌, inl, inr, Bool, true, false, if◌then◌else◌, Option, Some, None, refl, sym, subst}
-use Rattle.pbx_meaning.specs.declared.shape.Kind.{Kind}
-use Rattle.pbx_meaning.specs.declared.shape.Cardinality.{Cardinality}
-use Rattle.pbx_meaning.specs.declared.shape.Cardinality.TheVariants.{Singular, Repeated, Map}
-use Rattle.pbx_meaning.specs.declared.shape.Shape.{Shape}
-use Rattle.pbx_meaning.specs.declared.shape.FieldShape.{FieldShape}
-use Rattle.pbx_meaning.specs.Content.{content, Val, number, truth, text, octets, message, many, keyed, Vals, no_vals, val, Pairs, no_pairs, pair}
-use Rattle.pbx_meaning.specs.Shape.{fields_of, field_of, is_float}
-use Rattle.pbx_meaning.specs.Meaning.{is_default, shown}
-use Rattle.pbx_meaning.specs.Sound.{IsShown, IsSoundAt, IsElement, AreElements, ArePairs}
-use Rattle.pbx_meaning.proofs.WrittenNumbers.{number_numeral}
-use Rattle.pbx_meaning.proofs.SoundValues.{get_sound}
+use Rattle.pbx_content.specs.declared.shape.Kind.{Kind}
+use Rattle.pbx_content.specs.declared.shape.Cardinality.{Cardinality}
+use Rattle.pbx_content.specs.declared.shape.Cardinality.TheVariants.{Singular, Repeated, Map}
+use Rattle.pbx_content.specs.declared.shape.Shape.{Shape}
+use Rattle.pbx_content.specs.declared.shape.FieldShape.{FieldShape}
+use Rattle.pbx_content.specs.Content.{content, Val, number, truth, text, octets, message, many, keyed, Vals, no_vals, val, Pairs, no_pairs, pair}
+use Rattle.pbx_content.specs.Shape.{fields_of, field_of, is_float}
+use Rattle.pbx_content.specs.Meaning.{is_default, shown}
+use Rattle.pbx_content.specs.Sound.{IsShown, IsSoundAt, IsElement, AreElements, ArePairs}
+use Rattle.pbx_content.proofs.WrittenNumbers.{number_numeral}
+use Rattle.pbx_content.proofs.SoundValues.{get_sound}
 use Rattle.pbx_message_laws.specs.Fields.{keeps_default, value_kept}
 use Rattle.pbx_message_laws.specs.Settable.{IsListOf, IsMapOf, IsSettableBy, IsSettable}
 use Rattle.pbx_message_laws.specs.Laws.{SoundIsSettable}

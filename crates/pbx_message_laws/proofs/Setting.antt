@@ -4,13 +4,13 @@ use Rattle.std.proofs.Common.{subst, arith}
 use Rattle.std.specs.Prelude.{◌==◌, is_some, Contains, IsTrue}
 use Rattle.std.proofs.lemmas.Bool.{eqb-true}
 use Rattle.std.proofs.lemmas.Bool.Decides.{nat_tests}
-use Rattle.pbx_meaning.specs.declared.shape.Shape.{Shape}
-use Rattle.pbx_meaning.specs.declared.shape.FieldShape.{FieldShape}
-use Rattle.pbx_meaning.specs.Content.{content, empty, Fields, no_fields, field, Val, get, has, added, without, with_option, IsAscending}
-use Rattle.pbx_meaning.specs.Shape.{fields_of, field_of, is_other}
-use Rattle.pbx_meaning.specs.Sound.{has_one_member, AreSound, IsSoundAt}
-use Rattle.pbx_meaning.proofs.OntoFields.{AreAbove}
-use Rattle.pbx_meaning.proofs.SoundValues.{nothing_sound, sound_of}
+use Rattle.pbx_content.specs.declared.shape.Shape.{Shape}
+use Rattle.pbx_content.specs.declared.shape.FieldShape.{FieldShape}
+use Rattle.pbx_content.specs.Content.{content, empty, Fields, no_fields, field, Val, get, has, added, without, with_option, IsAscending}
+use Rattle.pbx_content.specs.Shape.{fields_of, field_of, is_other}
+use Rattle.pbx_content.specs.Sound.{has_one_member, AreSound, IsSoundAt}
+use Rattle.pbx_content.proofs.OntoFields.{AreAbove}
+use Rattle.pbx_content.proofs.SoundValues.{nothing_sound, sound_of}
 use Rattle.pbx_message_laws.specs.Fields.{cleared_others, is_number_of_other, value_kept}
 use Rattle.pbx_message_laws.specs.Laws.{EmptyIsSound, SettingIsSound, ClearingIsSound}
 use Rattle.pbx_message_laws.proofs.Changes.{ascending-without, get-without, get-with_option, ascending-with_option}

@@ -6,32 +6,32 @@ use Rattle.std.specs.List.{list_any, flat_map, enumerate_from}
 use Rattle.std.specs.Str.{bytes_eq}
 use Rattle.std.proofs.lemmas.Bool.{eqb-true, ltb-true}
 use Rattle.std.proofs.lemmas.Bool.Decides.{nat_tests}
-use Rattle.pbx_meaning.specs.Shape.{same_oneof, is_other}
+use Rattle.pbx_content.specs.Shape.{same_oneof, is_other}
 use Rattle.pbx_desc_records.specs.declared.field.FieldDescriptorProto.{FieldDescriptorProto}
 use Rattle.pbx_desc_records.specs.declared.field.OneofDescriptorProto.{OneofDescriptorProto}
 use Rattle.pbx_desc_records.specs.declared.file.FileDescriptorProto.{FileDescriptorProto}
 use Rattle.pbx_desc_records.specs.declared.message.DescriptorProto.{DescriptorProto, out-DescriptorProto}
 use Rattle.pbx_desc_records.specs.declared.message.DescriptorProto.TheOpen.{DescriptorProto-F}
-use Rattle.pbx_definitions.specs.Definitions.{Place, Part, part, message_name, messages, fields_in, oneofs_in}
-use Rattle.pbx_definitions.specs.Says.{is_number}
-use Rattle.pbx_scope.specs.Scope.{visible}
-use Rattle.pbx_field_rules.specs.Rules.{has_oneof, bad_member, bad_members_in, empty_oneofs_in, bad_oneofs_in, bad_extension_members, is_below}
-use Rattle.pbx_linked.specs.Settled.{settled_oneof}
-use Rattle.pbx_linked.specs.Laws.{linked_part}
-use Rattle.pbx_rules.specs.Breaches.{keeps_rules}
-use Rattle.pbx_rules.proofs.First.{rule_9}
-use Rattle.pbx_rules.proofs.RulesKept.{keeps_each}
-use Rattle.pbx_pool_laws.specs.Pool.{ArePooled}
-use Rattle.pbx_pool_laws.proofs.Lists.{here, there, left_nil, none_where, any_mapped, parts_from}
-use Rattle.pbx_pool_laws.proofs.LinkedParts.{changed_in, field_linked}
-use Rattle.pbx_pool_laws.proofs.Named.{same_name}
-use Rattle.pbx_pool_laws.proofs.Types.{source, not_at}
-use Rattle.pbx_described.specs.Descriptors.{Described, described, fields_of_message, is_member}
-use Rattle.pbx_described.specs.Shapes.{index_if, field_shape}
-use Rattle.pbx_shape_laws.proofs.Lists.{any_weaker, nil_inside, both_parts, both_true}
-use Rattle.pbx_shape_laws.proofs.Numbers.{number_is}
-use Rattle.pbx_shape_laws.proofs.PoolParts.{linked_layer_is, fields_in_linked}
-use Rattle.pbx_shape_laws.proofs.Types.{of_pool, each_message}
+use Rattle.pbx_link_definitions.specs.Definitions.{Place, Part, part, message_name, messages, fields_in, oneofs_in}
+use Rattle.pbx_link_definitions.specs.Says.{is_number}
+use Rattle.pbx_link_scope.specs.Scope.{visible}
+use Rattle.pbx_link_rules_field.specs.Rules.{has_oneof, bad_member, bad_members_in, empty_oneofs_in, bad_oneofs_in, bad_extension_members, is_below}
+use Rattle.pbx_link_record.specs.Settled.{settled_oneof}
+use Rattle.pbx_link_record.specs.Laws.{linked_part}
+use Rattle.pbx_link_rules.specs.Breaches.{keeps_rules}
+use Rattle.pbx_link_rules.proofs.First.{rule_9}
+use Rattle.pbx_link_rules.proofs.RulesKept.{keeps_each}
+use Rattle.pbx_link_rules.specs.Pool.{ArePooled}
+use Rattle.pbx_link_rules.proofs.Lists.{here, there, left_nil, none_where, any_mapped, parts_from}
+use Rattle.pbx_link_rules.proofs.LinkedParts.{changed_in, field_linked}
+use Rattle.pbx_link_rules.proofs.Named.{same_name}
+use Rattle.pbx_link_rules.proofs.Types.{source, not_at}
+use Rattle.pbx_link_meaning.specs.Descriptors.{Described, described, fields_of_message, is_member}
+use Rattle.pbx_link_meaning.specs.Shapes.{index_if, field_shape}
+use Rattle.pbx_link_meaning.proofs.Lists.{any_weaker, nil_inside, both_parts, both_true}
+use Rattle.pbx_link_meaning.proofs.Numbers.{number_is}
+use Rattle.pbx_link_meaning.proofs.PoolParts.{linked_layer_is, fields_in_linked}
+use Rattle.pbx_link_meaning.proofs.Types.{of_pool, each_message}
 use Rattle.pbx_message_laws.specs.Pools.{IsPooled}
 use Rattle.pbx_message_laws.specs.Oneofs.{AreMembers, OtherIsMember, ExtensionIsNone}
 use Rattle.pbx_message_laws.proofs.Listed.{mapped}

@@ -5,29 +5,29 @@ use Rattle.std.specs.Prelude.{ℤ, pos, negsuc, Contains, is_some, find, unwrap_
 use Rattle.std.specs.List.{flat_map, enumerate_from}
 use Rattle.std.specs.Str.{bytes_eq}
 use Rattle.std.proofs.lemmas.Slice.Eq.{bytes_eq-Decides}
-use Rattle.pbx_meaning.specs.declared.shape.Kind.{Kind}
-use Rattle.pbx_meaning.specs.declared.shape.Kind.TheVariants as kind
-use Rattle.pbx_meaning.specs.declared.shape.FieldShape.{FieldShape}
+use Rattle.pbx_content.specs.declared.shape.Kind.{Kind}
+use Rattle.pbx_content.specs.declared.shape.Kind.TheVariants as kind
+use Rattle.pbx_content.specs.declared.shape.FieldShape.{FieldShape}
 use Rattle.pbx_desc_records.specs.declared.field.FieldDescriptorProto.{FieldDescriptorProto}
 use Rattle.pbx_desc_records.specs.declared.file.FileDescriptorProto.{FileDescriptorProto}
 use Rattle.pbx_desc_records.specs.declared.message.DescriptorProto.{DescriptorProto}
-use Rattle.pbx_definitions.specs.Definitions.{Part, message_name, messages, fields_in, extensions}
-use Rattle.pbx_definitions.specs.Says.{is_number, number_or_zero}
-use Rattle.pbx_field_rules.specs.Rules.{all_fields}
-use Rattle.pbx_pool_laws.specs.Pool.{ArePooled}
-use Rattle.pbx_pool_laws.specs.PoolLaws.{undotted, message_with_file}
-use Rattle.pbx_pool_laws.proofs.Counted.{count}
-use Rattle.pbx_pool_laws.proofs.References.{types_are_there}
-use Rattle.pbx_pool_laws.proofs.Types.{source}
-use Rattle.pbx_described.specs.Descriptors.{Described, described, all_messages, all_extensions, message_of_name, message_referred, referred, is_map}
-use Rattle.pbx_described.specs.Descriptors.{fields_of_message, extensions_of_message, with_number}
-use Rattle.pbx_described.specs.Shapes.{message_place, place_of_message, place_of_enum, scalar_kind, kind_by, kind_of, part_kind, entry_kind, type_of_field}
-use Rattle.pbx_described.specs.Shapes.{value_kind}
-use Rattle.pbx_described.specs.Shapes.{field_shape, extension_shape}
-use Rattle.pbx_shape_laws.proofs.Lists.{told_of, is_told}
-use Rattle.pbx_shape_laws.proofs.PoolParts.{found_there}
-use Rattle.pbx_shape_laws.proofs.Types.{of_pool}
-use Rattle.pbx_described.specs.Shapes.{place_of}
+use Rattle.pbx_link_definitions.specs.Definitions.{Part, message_name, messages, fields_in, extensions}
+use Rattle.pbx_link_definitions.specs.Says.{is_number, number_or_zero}
+use Rattle.pbx_link_rules_field.specs.Rules.{all_fields}
+use Rattle.pbx_link_rules.specs.Pool.{ArePooled}
+use Rattle.pbx_link_rules.specs.PoolLaws.{undotted, message_with_file}
+use Rattle.pbx_link_rules.proofs.Counted.{count}
+use Rattle.pbx_link_rules.proofs.References.{types_are_there}
+use Rattle.pbx_link_rules.proofs.Types.{source}
+use Rattle.pbx_link_meaning.specs.Descriptors.{Described, described, all_messages, all_extensions, message_of_name, message_referred, referred, is_map}
+use Rattle.pbx_link_meaning.specs.Descriptors.{fields_of_message, extensions_of_message, with_number}
+use Rattle.pbx_link_meaning.specs.Shapes.{message_place, place_of_message, place_of_enum, scalar_kind, kind_by, kind_of, part_kind, entry_kind, type_of_field}
+use Rattle.pbx_link_meaning.specs.Shapes.{value_kind}
+use Rattle.pbx_link_meaning.specs.Shapes.{field_shape, extension_shape}
+use Rattle.pbx_link_meaning.proofs.Lists.{told_of, is_told}
+use Rattle.pbx_link_meaning.proofs.PoolParts.{found_there}
+use Rattle.pbx_link_meaning.proofs.Types.{of_pool}
+use Rattle.pbx_link_meaning.specs.Shapes.{place_of}
 use Rattle.pbx_message_laws.specs.Pools.{IsPooled, IsShapeOf}
 use Rattle.pbx_message_laws.specs.Types.{IsTypeAt, PlaceHasType, ReferredHasPlace, KindHasType}
 use Rattle.pbx_message_laws.proofs.DefaultRules.{pool_names}

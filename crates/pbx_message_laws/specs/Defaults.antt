@@ -1,19 +1,19 @@
 -- What a field has that has no value (Protocol Buffers "Language Guide (proto 2)": Optional Fields And Default Values).
 use Rattle.std.specs.Prelude.{ℕ, ℤ, List, [], ◌∷◌, codes, true, Option, Some, None, if◌then◌else◌}
 use Rattle.std.specs.Str.{bytes_eq}
-use Rattle.pbx_token.specs.Escapes.{unescaped}
-use Rattle.pbx_meaning.specs.declared.shape.Kind.{Kind}
-use Rattle.pbx_meaning.specs.declared.shape.Kind.TheVariants as kind
-use Rattle.pbx_meaning.specs.declared.shape.Cardinality.{Cardinality}
-use Rattle.pbx_meaning.specs.declared.shape.Cardinality.TheVariants.{Singular, Repeated, Map}
-use Rattle.pbx_meaning.specs.declared.shape.EnumValueShape.{EnumValueShape}
-use Rattle.pbx_meaning.specs.declared.shape.FieldShape.{FieldShape}
-use Rattle.pbx_meaning.specs.declared.shape.Shape.{Shape}
-use Rattle.pbx_meaning.specs.Content.{Val, number, truth, text, octets, many, keyed, no_vals, no_pairs}
-use Rattle.pbx_meaning.specs.Meaning.{zero_of, or_else}
-use Rattle.pbx_meaning.specs.Shape.{enum_values_of, first_number}
-use Rattle.pbx_definitions.specs.Says.{signed_or_zero}
-use Rattle.pbx_scope_rules.specs.Defaults.{decimal_value}
+use Rattle.pbx_parse_token.specs.Escapes.{unescaped}
+use Rattle.pbx_content.specs.declared.shape.Kind.{Kind}
+use Rattle.pbx_content.specs.declared.shape.Kind.TheVariants as kind
+use Rattle.pbx_content.specs.declared.shape.Cardinality.{Cardinality}
+use Rattle.pbx_content.specs.declared.shape.Cardinality.TheVariants.{Singular, Repeated, Map}
+use Rattle.pbx_content.specs.declared.shape.EnumValueShape.{EnumValueShape}
+use Rattle.pbx_content.specs.declared.shape.FieldShape.{FieldShape}
+use Rattle.pbx_content.specs.declared.shape.Shape.{Shape}
+use Rattle.pbx_content.specs.Content.{Val, number, truth, text, octets, many, keyed, no_vals, no_pairs}
+use Rattle.pbx_content.specs.Meaning.{zero_of, or_else}
+use Rattle.pbx_content.specs.Shape.{enum_values_of, first_number}
+use Rattle.pbx_link_definitions.specs.Says.{signed_or_zero}
+use Rattle.pbx_link_rules_scope.specs.Defaults.{decimal_value}
 
 -- the number of the first value of the name, or this one where no value has it
 abbrev pub number_named : List ℕ → ℤ → List EnumValueShape → ℤ

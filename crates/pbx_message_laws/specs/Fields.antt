@@ -1,13 +1,13 @@
 -- What a content holds after one of its fields is set (Protocol Buffers "Language Guide (proto 3)": Oneof Features; "Application Note: Field Presence").
 use Rattle.std.specs.Prelude.{ℕ, ◌==◌, ◌&&◌, List, [], ◌∷◌, Bool, false, Option, Some, if◌then◌else◌}
-use Rattle.pbx_meaning.specs.declared.shape.Cardinality.{Cardinality}
-use Rattle.pbx_meaning.specs.declared.shape.Cardinality.TheVariants.{Singular, Repeated, Map}
-use Rattle.pbx_meaning.specs.declared.shape.FieldShape.{FieldShape}
-use Rattle.pbx_meaning.specs.declared.shape.Shape.{Shape}
-use Rattle.pbx_meaning.specs.Content.{Content, Fields, Val, fields, without, with_fields, with_option}
-use Rattle.pbx_meaning.specs.Meaning.{shown}
-use Rattle.pbx_meaning.specs.Records.{any}
-use Rattle.pbx_meaning.specs.Shape.{is_other}
+use Rattle.pbx_content.specs.declared.shape.Cardinality.{Cardinality}
+use Rattle.pbx_content.specs.declared.shape.Cardinality.TheVariants.{Singular, Repeated, Map}
+use Rattle.pbx_content.specs.declared.shape.FieldShape.{FieldShape}
+use Rattle.pbx_content.specs.declared.shape.Shape.{Shape}
+use Rattle.pbx_content.specs.Content.{Content, Fields, Val, fields, without, with_fields, with_option}
+use Rattle.pbx_content.specs.Meaning.{shown}
+use Rattle.pbx_content.specs.Records.{any}
+use Rattle.pbx_content.specs.Shape.{is_other}
 
 -- without the values of the other members of the oneof of f
 abbrev pub cleared_others : FieldShape → List FieldShape → Fields → Fields

@@ -1,13 +1,13 @@
 -- What holds of contents whose fields are set and cleared, of values that may be set, and of keys of maps.
 use Rattle.std.specs.Prelude.{◌≡◌, ◌↔◌, ℕ, ◌==◌, nat_lt, ℤ, pos, int_lt, Bool, false, not, ◌&&◌, Some, None, if◌then◌else◌, is_some, List}
 use Rattle.std.specs.List.{AllByRecursion}
-use Rattle.pbx_meaning.specs.declared.shape.Kind.{Kind}
-use Rattle.pbx_meaning.specs.declared.shape.FieldShape.{FieldShape}
-use Rattle.pbx_meaning.specs.declared.shape.Shape.{Shape}
-use Rattle.pbx_meaning.specs.Content.{Content, Fields, Val, empty, fields, kept, get, has, without, with_fields, IsAscending, vals_of, pairs_of}
-use Rattle.pbx_meaning.specs.Content.{Key, truth_key, number_key, text_key, key_before, bytes_before}
-use Rattle.pbx_meaning.specs.Shape.{declared_of, fields_of, field_of, is_float}
-use Rattle.pbx_meaning.specs.Sound.{AreProper, IsSound, AreElements, ArePairs, IsElement}
+use Rattle.pbx_content.specs.declared.shape.Kind.{Kind}
+use Rattle.pbx_content.specs.declared.shape.FieldShape.{FieldShape}
+use Rattle.pbx_content.specs.declared.shape.Shape.{Shape}
+use Rattle.pbx_content.specs.Content.{Content, Fields, Val, empty, fields, kept, get, has, without, with_fields, IsAscending, vals_of, pairs_of}
+use Rattle.pbx_content.specs.Content.{Key, truth_key, number_key, text_key, key_before, bytes_before}
+use Rattle.pbx_content.specs.Shape.{declared_of, fields_of, field_of, is_float}
+use Rattle.pbx_content.specs.Sound.{AreProper, IsSound, AreElements, ArePairs, IsElement}
 use Rattle.pbx_message_laws.specs.Fields.{is_number_of_other, value_kept, set_value}
 use Rattle.pbx_message_laws.specs.Settable.{IsPairOf, AscendByKey, IsSettable}
 

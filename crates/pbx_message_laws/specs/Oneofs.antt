@@ -1,12 +1,12 @@
 -- Members of oneofs, by descriptors (Protocol Buffers "Language Guide (proto 3)": Oneof).
 use Rattle.std.specs.Prelude.{◌≡◌, ◌↔◌, ◌==◌, false, true, IsTrue, Contains}
-use Rattle.pbx_meaning.specs.declared.shape.FieldShape.{FieldShape}
-use Rattle.pbx_meaning.specs.Shape.{is_other}
+use Rattle.pbx_content.specs.declared.shape.FieldShape.{FieldShape}
+use Rattle.pbx_content.specs.Shape.{is_other}
 use Rattle.pbx_desc_records.specs.declared.field.FieldDescriptorProto.{FieldDescriptorProto}
 use Rattle.pbx_desc_records.specs.declared.field.OneofDescriptorProto.{OneofDescriptorProto}
 use Rattle.pbx_desc_records.specs.declared.message.DescriptorProto.{DescriptorProto}
-use Rattle.pbx_described.specs.Descriptors.{Described, fields_of_message, oneofs_of_message, number_of_field, is_member}
-use Rattle.pbx_described.specs.Shapes.{field_shape, extension_shape}
+use Rattle.pbx_link_meaning.specs.Descriptors.{Described, fields_of_message, oneofs_of_message, number_of_field, is_member}
+use Rattle.pbx_link_meaning.specs.Shapes.{field_shape, extension_shape}
 use Rattle.pbx_message_laws.specs.Pools.{IsPooled}
 
 -- two fields with different numbers are members of one oneof of the message

@@ -3,21 +3,21 @@ use Rattle.std.specs.Prelude.{◌≡◌, ◌⊎◌, ℕ, List, [], Bool, false, 
 use Rattle.std.specs.Int.{w32}
 use Rattle.std.specs.Int.RustNames.{FitsSigned}
 use Rattle.std.specs.Str.{is_utf8, bytes_eq}
-use Rattle.pbx_meaning.specs.declared.shape.Kind.TheVariants as kind
-use Rattle.pbx_meaning.specs.declared.shape.FieldShape.{FieldShape}
-use Rattle.pbx_meaning.specs.declared.shape.Shape.{Shape}
-use Rattle.pbx_meaning.specs.Shape.{declared_of, fields_of, field_of, is_float}
-use Rattle.pbx_meaning.specs.Sound.{AreProper, IsSound}
-use Rattle.pbx_meaning.specs.Content.{Content, fields, get}
+use Rattle.pbx_content.specs.declared.shape.Kind.TheVariants as kind
+use Rattle.pbx_content.specs.declared.shape.FieldShape.{FieldShape}
+use Rattle.pbx_content.specs.declared.shape.Shape.{Shape}
+use Rattle.pbx_content.specs.Shape.{declared_of, fields_of, field_of, is_float}
+use Rattle.pbx_content.specs.Sound.{AreProper, IsSound}
+use Rattle.pbx_content.specs.Content.{Content, fields, get}
 use Rattle.pbx_desc_records.specs.declared.field.FieldDescriptorProto.{FieldDescriptorProto}
 use Rattle.pbx_desc_records.specs.declared.message.DescriptorProto.{DescriptorProto}
-use Rattle.pbx_definitions.specs.Definitions.{message_name}
-use Rattle.pbx_pool_laws.specs.Pool.{ArePooled}
-use Rattle.pbx_described.specs.Descriptors.{Described, IsSame, all_messages, fields_of_message, extensions_of_message, number_of_field, with_name}
-use Rattle.pbx_described.specs.Shapes.{message_place, field_shape, extension_shape, message_shape, shape_of}
+use Rattle.pbx_link_definitions.specs.Definitions.{message_name}
+use Rattle.pbx_link_rules.specs.Pool.{ArePooled}
+use Rattle.pbx_link_meaning.specs.Descriptors.{Described, IsSame, all_messages, fields_of_message, extensions_of_message, number_of_field, with_name}
+use Rattle.pbx_link_meaning.specs.Shapes.{message_place, field_shape, extension_shape, message_shape, shape_of}
 use Rattle.pbx_message_laws.specs.Defaults.{enum_default, default_of, value_or_default}
 use Rattle.pbx_message_laws.specs.Settable.{IsSettable}
-use Rattle.pbx_described.specs.Shapes.{place_of}
+use Rattle.pbx_link_meaning.specs.Shapes.{place_of}
 
 -- ---- fields of a type by number and in declared order
 

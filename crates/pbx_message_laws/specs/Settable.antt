@@ -1,12 +1,12 @@
 -- Values that a field may be set to (Protocol Buffers "Language Guide (proto 3)": Scalar Value Types, Maps).
 use Rattle.std.specs.Prelude.{List, [], ◌∷◌, IsTrue}
-use Rattle.pbx_meaning.specs.declared.shape.Kind.{Kind}
-use Rattle.pbx_meaning.specs.declared.shape.Cardinality.{Cardinality}
-use Rattle.pbx_meaning.specs.declared.shape.Cardinality.TheVariants.{Singular, Repeated, Map}
-use Rattle.pbx_meaning.specs.declared.shape.FieldShape.{FieldShape}
-use Rattle.pbx_meaning.specs.declared.shape.Shape.{Shape}
-use Rattle.pbx_meaning.specs.Content.{Key, key_before, Val, many, keyed}
-use Rattle.pbx_meaning.specs.Sound.{IsKeyOf, AreElements, ArePairs, IsElement}
+use Rattle.pbx_content.specs.declared.shape.Kind.{Kind}
+use Rattle.pbx_content.specs.declared.shape.Cardinality.{Cardinality}
+use Rattle.pbx_content.specs.declared.shape.Cardinality.TheVariants.{Singular, Repeated, Map}
+use Rattle.pbx_content.specs.declared.shape.FieldShape.{FieldShape}
+use Rattle.pbx_content.specs.declared.shape.Shape.{Shape}
+use Rattle.pbx_content.specs.Content.{Key, key_before, Val, many, keyed}
+use Rattle.pbx_content.specs.Sound.{IsKeyOf, AreElements, ArePairs, IsElement}
 
 -- ---- lists
 

@@ -1,14 +1,14 @@
 -- The message types that kinds name by their places, as messages of the pool.
 use Rattle.std.specs.Prelude.{◌≡◌, ℕ, List, [], Option, Some, slice_get}
-use Rattle.pbx_meaning.specs.declared.shape.Kind.TheVariants as kind
-use Rattle.pbx_meaning.specs.declared.shape.FieldShape.{FieldShape}
-use Rattle.pbx_meaning.specs.Shape.{fields_of, field_of}
+use Rattle.pbx_content.specs.declared.shape.Kind.TheVariants as kind
+use Rattle.pbx_content.specs.declared.shape.FieldShape.{FieldShape}
+use Rattle.pbx_content.specs.Shape.{fields_of, field_of}
 use Rattle.pbx_desc_records.specs.declared.file.FileDescriptorProto.{FileDescriptorProto}
 use Rattle.pbx_desc_records.specs.declared.message.DescriptorProto.{DescriptorProto}
-use Rattle.pbx_pool_laws.specs.Pool.{ArePooled}
-use Rattle.pbx_described.specs.Descriptors.{Described, all_messages, message_referred}
-use Rattle.pbx_described.specs.Shapes.{place_of_message, shape_of}
-use Rattle.pbx_described.specs.Shapes.{place_of}
+use Rattle.pbx_link_rules.specs.Pool.{ArePooled}
+use Rattle.pbx_link_meaning.specs.Descriptors.{Described, all_messages, message_referred}
+use Rattle.pbx_link_meaning.specs.Shapes.{place_of_message, shape_of}
+use Rattle.pbx_link_meaning.specs.Shapes.{place_of}
 use Rattle.pbx_message_laws.specs.Pools.{IsPooled}
 
 -- the message of the pool stands at the place, which is its own

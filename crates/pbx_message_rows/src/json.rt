@@ -10,7 +10,7 @@ use pbx_json::{
 };
 use pbx_link::{DescriptorPool, MessageDescriptor};
 use pbx_message_dynamic::DynamicMessage;
-use pbx_wkt_shape::has_shape;
+use pbx_wkt::has_shape;
 use serde_json::Value;
 use std::alloc::Global;
 use test_rows::Row;

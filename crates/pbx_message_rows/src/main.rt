@@ -1,4 +1,4 @@
-//! Asks of `pbx_message_dynamic`, `pbx_json` and `pbx_reflection`, as rows of data; or, with words, decodes a message and encodes it again.
+//! Asks of `pbx_message_dynamic`, `pbx_json` and `pbx_message`, as rows of data; or, with words, decodes a message and encodes it again.
 //!
 //! A row has a word, and what the word asks for. Of a dynamic message, the bytes of a `FileDescriptorSet` in hexadecimal digits follow, the full
 //! name of a type of its pool and the bytes of a message of the type. `read` asks for that message alone; `merge` for what it is with the bytes of
@@ -20,7 +20,7 @@
 //! are, and of a record its bytes in hexadecimal digits. `Box<i32>` asks of a number in a box, and `DynamicMessage` of the message of the built-in
 //! type that one more field names. The answer is the full name of the type, and the bytes of the dynamic message or why there is none.
 //!
-//! `recode shape` has a shape, as `pbx_shape_text` says, and bytes in hexadecimal digits, and asks for the canonical encoding of the message of its
+//! `recode shape` has a shape, as `test_rows` says, and bytes in hexadecimal digits, and asks for the canonical encoding of the message of its
 //! first type that they mean. `recode type` asks the same of a set, a type of its pool and bytes. Where the program is given words, it answers no
 //! rows, but does this with its input, for `bench/wire`.
 //!

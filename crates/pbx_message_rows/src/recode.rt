@@ -1,23 +1,22 @@
 //! Decodes a message and encodes it again.
 //!
-//! Of a run with words the one word is a shape, as `pbx_shape_text` says; the input is a message of its first type. Two words are the bytes of a
+//! Of a run with words the one word is a shape, as `test_rows` says; the input is a message of its first type. Two words are the bytes of a
 //! `FileDescriptorSet` in hexadecimal digits and the full name of a type of its pool; the input is then read as a dynamic message. The output is the
 //! message's canonical encoding. The status is 1, with a line on err, where the input is no such message, 2 where the words name no type, 3 where a
 //! stream fails, and 4 for want of memory.
 
 use crate::stop::Stop;
 use hex::FromHexError;
-use pbx_codec::{decode, encode};
+use pbx_content_codec::{decode, encode};
 use pbx_desc_encoding::Message;
 use pbx_link::{DescriptorError, DescriptorPool};
 use pbx_message_dynamic::DynamicMessage;
-use pbx_shape_text::{ShapeTextError, schema};
 use pbx_wire::{Blob, DecodeError, NoMemory};
 use protox_io::{ReadFault, RealSink, RealSource, Sink, SinkError, Source, read_to_end, write_all};
 use std::alloc::{AllocError, Global};
 use std::env;
 use std::process::ExitCode;
-use test_rows::Row;
+use test_rows::{Row, ShapeTextError, schema};
 
 /// The greatest message, in bytes.
 const LIMIT: usize = 1 << 30;

@@ -2,7 +2,7 @@
 
 use crate::said::add_message;
 use crate::stop::Stop;
-use pbx_desc_decoding::DecodeMessage;
+use pbx_desc::DecodeMessage;
 use pbx_desc_encoding::Message;
 use pbx_desc_records::FileDescriptorProto;
 use pbx_message_dynamic::DynamicMessage;

@@ -3,8 +3,8 @@
 use crate::stop::Stop;
 use pbx_desc_encoding::Message;
 use pbx_link::{DescriptorPool, MessageDescriptor};
+use pbx_message::{ReflectError, ReflectMessage};
 use pbx_message_dynamic::DynamicMessage;
-use pbx_reflection::{ReflectError, ReflectMessage};
 use std::alloc::{AllocError, Global};
 
 /// Adds the full name of the type, if there is one.

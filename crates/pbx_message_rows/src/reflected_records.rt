@@ -2,7 +2,7 @@
 
 use crate::reflected::reflected;
 use crate::stop::Stop;
-use pbx_desc_decoding::DecodeMessage;
+use pbx_desc::DecodeMessage;
 use pbx_desc_encoding::{
     DescriptorProto, EnumDescriptorProto, EnumReservedRange, EnumValueDescriptorProto,
     ExtensionRange, FieldDescriptorProto, FileDescriptorProto, FileDescriptorSet, Location,
@@ -10,8 +10,8 @@ use pbx_desc_encoding::{
     SourceCodeInfo,
 };
 use pbx_link::DescriptorPool;
+use pbx_message::ReflectMessage;
 use pbx_message_dynamic::DynamicMessage;
-use pbx_reflection::ReflectMessage;
 use pbx_types::{Any, Duration, Empty, FieldMask, ListValue, Struct, Timestamp, Value};
 use pbx_wkt::make_wkt_descriptor_pool;
 use std::alloc::Global;

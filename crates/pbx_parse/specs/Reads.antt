@@ -1,13 +1,13 @@
 -- Which record a source reads as.
 use Rattle.std.specs.Prelude.{◌≡◌, ℕ, List, []}
-use Rattle.pbx_token.specs.Tokens.{Token}
-use Rattle.pbx_token.specs.Pieces.{Lexes}
-use Rattle.pbx_tree.specs.Tree.{File}
-use Rattle.pbx_tree.specs.Grammar.{file_then}
-use Rattle.pbx_tree.specs.Conditions.{Conditions}
+use Rattle.pbx_parse_token.specs.Tokens.{Token}
+use Rattle.pbx_parse_token.specs.Pieces.{Lexes}
+use Rattle.pbx_parse_tree.specs.Tree.{File}
+use Rattle.pbx_parse_tree.specs.Grammar.{file_then}
+use Rattle.pbx_parse_tree.specs.Conditions.{Conditions}
 use Rattle.pbx_desc_records.specs.declared.file.FileDescriptorProto.{FileDescriptorProto}
-use Rattle.pbx_locations.specs.Locations.{locations_of}
-use Rattle.pbx_translation.specs.Translation.{translate_of}
+use Rattle.pbx_parse_locations.specs.Locations.{locations_of}
+use Rattle.pbx_parse_translation.specs.Translation.{translate_of}
 
 -- the record of a file of this name, with the places of its parts in the source
 abbrev pub record_of : List ℕ → List Token → File → FileDescriptorProto

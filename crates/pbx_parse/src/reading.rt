@@ -2,21 +2,21 @@
 
 ghost use Rattle.std.specs.Prelude.{◌≡◌, ◌≤◌, ℕ, List, length, IfOk, IfErr};
 ghost use Rattle.pbx_desc_records.specs.declared.file.FileDescriptorProto.{FileDescriptorProto as Record};
-ghost use Rattle.pbx_token.specs.View.{tokens_of};
-ghost use Rattle.pbx_tree.specs.View.{file_of};
-ghost use Rattle.pbx_locations.specs.Locations.{extent_of, locations_in};
-ghost use Rattle.pbx_translation.specs.Translation.{translate_of};
+ghost use Rattle.pbx_parse_token.specs.View.{tokens_of};
+ghost use Rattle.pbx_parse_tree.specs.View.{file_of};
+ghost use Rattle.pbx_parse_locations.specs.Locations.{extent_of, locations_in};
+ghost use Rattle.pbx_parse_translation.specs.Translation.{translate_of};
 ghost use Rattle.pbx_parse.specs.Reads.{Reads};
 ghost use Rattle.pbx_parse.specs.Errors.{Refuses, GivesUnlessMemory};
 
 use crate::error::ParseError;
 use crate::refusal::{of_lexing, of_reading};
 use pbx_desc_records::FileDescriptorProto;
-use pbx_locations::{Extent, file_extent, locations};
-use pbx_reader::read_file;
-use pbx_token::{Token, lex};
-use pbx_translation::translate;
-use pbx_tree::File;
+use pbx_parse_locations::{Extent, file_extent, locations};
+use pbx_parse_reader::read_file;
+use pbx_parse_token::{Token, lex};
+use pbx_parse_translation::translate;
+use pbx_parse_tree::File;
 use pbx_wire::NoMemory;
 use std::alloc::Global;
 
@@ -80,6 +80,6 @@ pub fn parse(alloc: Global, name: &str, source: &str) -> Result<FileDescriptorPr
 pub fn at_most_one()
     ensures { (name source : List ℕ) (f g : Record) → Reads name source f → Reads name source g → f ≡ g }
 {
-    pbx_token::at_most_one();
-    pbx_tree::at_most_one();
+    pbx_parse_token::at_most_one();
+    pbx_parse_tree::at_most_one();
 }

@@ -1,15 +1,15 @@
 //! What is said of a source that has no record.
 
 ghost use Rattle.std.specs.Prelude.{◌≡◌, ◌≤◌, ℕ, List, length, IfOk, IfSome, IfNone};
-ghost use Rattle.pbx_token.specs.View.{IsCut, BeginsIn, BeginIn, IsWithin, FailsNot as lexed};
-ghost use Rattle.pbx_reader.specs.View.{left_at, FailsNot as spelled};
+ghost use Rattle.pbx_parse_token.specs.View.{IsCut, BeginsIn, BeginIn, IsWithin, FailsNot as lexed};
+ghost use Rattle.pbx_parse_reader.specs.View.{left_at, FailsNot as spelled};
 ghost use Rattle.pbx_parse.specs.Errors.{IsOneLine, Refuses};
 
 use crate::error::ParseError;
 use crate::found::{Found, found_text, one_line};
-use pbx_reader::{ReadError, read_file};
-use pbx_token::{Fault, LexError, Place, Token, Word, after, tokens_before_fault};
-use pbx_tree::Expected;
+use pbx_parse_reader::{ReadError, read_file};
+use pbx_parse_token::{Fault, LexError, Place, Token, Word, after, tokens_before_fault};
+use pbx_parse_tree::Expected;
 use pbx_wire::{NoMemory, Text};
 use std::alloc::Global;
 

@@ -19,3 +19,7 @@ pub mod Writing
 pub mod Ranges
 pub mod MaskTexts
 pub mod Rewritten
+pub mod Digits
+pub mod TimestampDays
+pub mod Moments
+pub mod Timestamps

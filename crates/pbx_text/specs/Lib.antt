@@ -5,3 +5,4 @@ pub mod Duration
 pub mod Timestamp
 pub mod Mask
 pub mod Laws
+pub mod TimestampLaws

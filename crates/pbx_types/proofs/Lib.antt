@@ -1,3 +1,13 @@
+pub mod TextOrder
+pub mod TextPlaces
+pub mod Unread
+pub mod Types
+pub mod Fields
+pub mod Sound
+pub mod Built
+pub mod Told
+pub mod Lists
+pub mod Walk
 pub mod Trees
 pub mod Members
 pub mod Pairs

@@ -3,15 +3,15 @@ use Rattle.std.proofs.Common.{◌≡◌, ℕ, Bool, true, false, not, ◌&&◌, 
 use Rattle.std.specs.Prelude.{◌==◌}
 use Rattle.pbx_wire.proofs.Written.{both}
 use Rattle.pbx_wire.specs.declared.rec.Rec.{Rec}
-use Rattle.pbx_meaning.specs.declared.shape.FieldShape.{FieldShape}
-use Rattle.pbx_meaning.specs.Content.{Content, content, fields, kept, Fields, no_fields, field, Val, get, has}
-use Rattle.pbx_meaning.specs.Shape.{fields_of}
-use Rattle.pbx_meaning.specs.Sound.{IsSound, has_one_member}
-use Rattle.pbx_types_shape.specs.TypesShape.{types_shape, value_fields}
-use Rattle.pbx_types_contents.specs.FieldContent.{record_content}
+use Rattle.pbx_content.specs.declared.shape.FieldShape.{FieldShape}
+use Rattle.pbx_content.specs.Content.{Content, content, fields, kept, Fields, no_fields, field, Val, get, has}
+use Rattle.pbx_content.specs.Shape.{fields_of}
+use Rattle.pbx_content.specs.Sound.{IsSound, has_one_member}
+use Rattle.pbx_desc_shapes.specs.TypesShape.{types_shape, value_fields}
+use Rattle.pbx_types.specs.FieldContent.{record_content}
 use Rattle.pbx_types.specs.Content.{last_member}
-use Rattle.pbx_types_contents.proofs.Sound.{AreAt, AreTaken, shown_again, sound_at, whole}
-use Rattle.pbx_types_contents.proofs.Types.{value_type}
+use Rattle.pbx_types.proofs.Sound.{AreAt, AreTaken, shown_again, sound_at, whole}
+use Rattle.pbx_types.proofs.Types.{value_type}
 
 abbrev is_there : Option Val → Bool
 is_there None = false

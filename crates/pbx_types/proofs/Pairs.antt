@@ -2,15 +2,15 @@
 use Rattle.std.proofs.Common.{◌≡◌, ℕ, ◌+◌, ◌<◌, true, Bool, List, [], ◌∷◌, ◌++◌, length, take, get_or, map, refl, sym, ap, ◌∙◌, subst}
 use Rattle.std.specs.Str.{is_utf8}
 use Rattle.std.proofs.lemmas.List.{take_more, map-append}
-use Rattle.pbx_meaning.specs.declared.shape.Kind.TheVariants as kind
-use Rattle.pbx_meaning.specs.Content.{Content, Key, Val, text_key, message, pairs_of, Pairs, no_pairs, pair}
-use Rattle.pbx_meaning.specs.Sound.{IsSound, ArePairs, IsBefore}
-use Rattle.pbx_codec.specs.declared.contents.Pair.{Pair}
-use Rattle.pbx_codec.specs.View.{pair_of}
-use Rattle.pbx_types_contents.proofs.Told.{mapped_more}
-use Rattle.pbx_text_map.specs.Texts.{IsBeforeAll, IsInOrder}
+use Rattle.pbx_content.specs.declared.shape.Kind.TheVariants as kind
+use Rattle.pbx_content.specs.Content.{Content, Key, Val, text_key, message, pairs_of, Pairs, no_pairs, pair}
+use Rattle.pbx_content.specs.Sound.{IsSound, ArePairs, IsBefore}
+use Rattle.pbx_content_codec.specs.declared.contents.Pair.{Pair}
+use Rattle.pbx_content_codec.specs.View.{pair_of}
+use Rattle.pbx_types.proofs.Told.{mapped_more}
+use Rattle.pbx_types.specs.Texts.{IsBeforeAll, IsInOrder}
 use Rattle.pbx_types.specs.declared.tree.Value.{Value}
-use Rattle.pbx_types_shape.specs.TypesShape.{types_shape}
+use Rattle.pbx_desc_shapes.specs.TypesShape.{types_shape}
 use Rattle.pbx_types.specs.Content.{value_content}
 use Rattle.pbx_types.specs.Layers.{value_pair}
 

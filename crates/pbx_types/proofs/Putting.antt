@@ -3,10 +3,10 @@ use Rattle.std.proofs.Common.{◌≡◌, ℕ, ℤ, Bool, true, List, [], ◌∷�
 use Rattle.std.specs.Int.{w32}
 use Rattle.std.specs.Int.RustNames.{FitsSigned}
 use Rattle.std.specs.Str.{is_utf8}
-use Rattle.pbx_meaning.specs.Content.{Content, content, fields, no_fields, field, with_fields, with_value, Val, number, truth, text, message}
-use Rattle.pbx_meaning.specs.Sound.{IsSound}
-use Rattle.pbx_types_shape.specs.TypesShape.{types_shape, value_fields}
-use Rattle.pbx_types_contents.specs.FieldContent.{fields_from}
+use Rattle.pbx_content.specs.Content.{Content, content, fields, no_fields, field, with_fields, with_value, Val, number, truth, text, message}
+use Rattle.pbx_content.specs.Sound.{IsSound}
+use Rattle.pbx_desc_shapes.specs.TypesShape.{types_shape, value_fields}
+use Rattle.pbx_types.specs.FieldContent.{fields_from}
 use Rattle.pbx_types.specs.Content.{last_member}
 use Rattle.pbx_types.specs.Layers.{PutsMember}
 

@@ -3,25 +3,25 @@ use Rattle.std.proofs.Common.{◌≡◌, ℕ, true, List, [], ◌∷◌, ◌++�
 use Rattle.std.specs.Prelude.{ℤ, Bool}
 use Rattle.std.proofs.lemmas.List.{map-append}
 use Rattle.pbx_wire.specs.declared.rec.Rec.{Rec}
-use Rattle.pbx_meaning.specs.declared.shape.FieldShape.{FieldShape}
-use Rattle.pbx_meaning.specs.declared.shape.Kind.{Kind}
-use Rattle.pbx_meaning.specs.declared.shape.Kind.TheVariants as kind
-use Rattle.pbx_meaning.specs.Content.{Content, fields, kept, without, with_fields, get, Key, text_key, Val, number, truth, text, octets, message, many, keyed, vals_of, pairs_of}
-use Rattle.pbx_meaning.specs.Meaning.{shown}
-use Rattle.pbx_meaning.specs.Sound.{IsSound, IsElement, IsKeyOf}
-use Rattle.pbx_codec.specs.declared.contents.Held.{Held}
-use Rattle.pbx_codec.specs.declared.contents.Pair.{Pair}
-use Rattle.pbx_codec.specs.declared.contents.Contents.{Contents}
-use Rattle.pbx_codec.specs.View.{content_of, val_of, pair_of}
-use Rattle.pbx_text_map.specs.Texts.{IsInOrder, with_entry}
-use Rattle.pbx_text_map.proofs.TextPlaces.{with_last}
-use Rattle.pbx_types_shape.specs.TypesShape.{types_shape, value_fields, struct_fields, list_fields}
-use Rattle.pbx_types_contents.specs.FieldContent.{record_content}
-use Rattle.pbx_types_contents.specs.Sound.{IsOf, MayBe}
-use Rattle.pbx_types_contents.specs.Taking.{IsAt, Takes}
-use Rattle.pbx_types_contents.proofs.Lists.{message_is}
-use Rattle.pbx_types_contents.proofs.Sound.{AreAt}
-use Rattle.pbx_types_contents.proofs.Walk.{IsPlain, taken_is, get_left, kept_left}
+use Rattle.pbx_content.specs.declared.shape.FieldShape.{FieldShape}
+use Rattle.pbx_content.specs.declared.shape.Kind.{Kind}
+use Rattle.pbx_content.specs.declared.shape.Kind.TheVariants as kind
+use Rattle.pbx_content.specs.Content.{Content, fields, kept, without, with_fields, get, Key, text_key, Val, number, truth, text, octets, message, many, keyed, vals_of, pairs_of}
+use Rattle.pbx_content.specs.Meaning.{shown}
+use Rattle.pbx_content.specs.Sound.{IsSound, IsElement, IsKeyOf}
+use Rattle.pbx_content_codec.specs.declared.contents.Held.{Held}
+use Rattle.pbx_content_codec.specs.declared.contents.Pair.{Pair}
+use Rattle.pbx_content_codec.specs.declared.contents.Contents.{Contents}
+use Rattle.pbx_content_codec.specs.View.{content_of, val_of, pair_of}
+use Rattle.pbx_types.specs.Texts.{IsInOrder, with_entry}
+use Rattle.pbx_types.proofs.TextPlaces.{with_last}
+use Rattle.pbx_desc_shapes.specs.TypesShape.{types_shape, value_fields, struct_fields, list_fields}
+use Rattle.pbx_types.specs.FieldContent.{record_content}
+use Rattle.pbx_types.specs.Sound.{IsOf, MayBe}
+use Rattle.pbx_types.specs.Taking.{IsAt, Takes}
+use Rattle.pbx_types.proofs.Lists.{message_is}
+use Rattle.pbx_types.proofs.Sound.{AreAt}
+use Rattle.pbx_types.proofs.Walk.{IsPlain, taken_is, get_left, kept_left}
 use Rattle.pbx_types.specs.declared.tree.ListValue.{ListValue, roll-ListValue, fold-roll-ListValue}
 use Rattle.pbx_types.specs.declared.tree.Struct.{Struct, roll-Struct, fold-roll-Struct}
 use Rattle.pbx_types.specs.declared.tree.Value.{Value, roll-Value, fold-roll-Value}

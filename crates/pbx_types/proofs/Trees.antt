@@ -3,15 +3,15 @@ use Rattle.std.proofs.Common.{◌≡◌, ℕ, ℤ, Bool, true, List, [], ◌∷�
 use Rattle.std.specs.List.{filter}
 use Rattle.pbx_wire.specs.Text.{are_fit}
 use Rattle.pbx_wire.specs.declared.rec.Rec.{Rec}
-use Rattle.pbx_meaning.specs.Content.{Content, content, fields, no_fields, with_fields, Key, Val, message}
-use Rattle.pbx_codec.specs.declared.contents.Contents.{Contents}
-use Rattle.pbx_codec.specs.View.{content_of}
-use Rattle.pbx_types_shape.specs.TypesShape.{value_fields}
-use Rattle.pbx_types_contents.specs.Building.{Holds}
-use Rattle.pbx_types_contents.specs.FieldContent.{fields_from}
-use Rattle.pbx_types_contents.specs.Unknown.{is_writable_beside}
-use Rattle.pbx_types_contents.proofs.Built.{made}
-use Rattle.pbx_types_contents.proofs.Types.{value_type}
+use Rattle.pbx_content.specs.Content.{Content, content, fields, no_fields, with_fields, Key, Val, message}
+use Rattle.pbx_content_codec.specs.declared.contents.Contents.{Contents}
+use Rattle.pbx_content_codec.specs.View.{content_of}
+use Rattle.pbx_desc_shapes.specs.TypesShape.{value_fields}
+use Rattle.pbx_types.specs.Building.{Holds}
+use Rattle.pbx_types.specs.FieldContent.{fields_from}
+use Rattle.pbx_types.specs.Unknown.{is_writable_beside}
+use Rattle.pbx_types.proofs.Built.{made}
+use Rattle.pbx_types.proofs.Types.{value_type}
 use Rattle.pbx_types.specs.declared.tree.ListValue.{ListValue, out-ListValue, fold_out-ListValue}
 use Rattle.pbx_types.specs.declared.tree.ListValue.TheOpen.{ListValue-F, Struct-F, Value-F}
 use Rattle.pbx_types.specs.declared.tree.Struct.{Struct, out-Struct, fold_out-Struct}

@@ -1,8 +1,8 @@
 -- What the records that hold one another hold as messages: one layer, with the contents of the records in it in their places.
 use Rattle.std.specs.Prelude.{ℕ, List, [], ◌∷◌, map, Bool, true, ◌&&◌, Option, Some, None, option_map, is_none, if◌then◌else◌}
-use Rattle.pbx_meaning.specs.Content.{Content, Key, text_key, Val, number, truth, text, message, many, keyed, vals_of, pairs_of}
-use Rattle.pbx_types_shape.specs.TypesShape.{struct_fields, value_fields, list_fields}
-use Rattle.pbx_types_contents.specs.FieldContent.{record_content}
+use Rattle.pbx_content.specs.Content.{Content, Key, text_key, Val, number, truth, text, message, many, keyed, vals_of, pairs_of}
+use Rattle.pbx_desc_shapes.specs.TypesShape.{struct_fields, value_fields, list_fields}
+use Rattle.pbx_types.specs.FieldContent.{record_content}
 use Rattle.pbx_types.specs.declared.tree.ListValue.{ListValue, fold-ListValue}
 use Rattle.pbx_types.specs.declared.tree.Struct.{Struct, fold-Struct}
 use Rattle.pbx_types.specs.declared.tree.Value.{Value, fold-Value}

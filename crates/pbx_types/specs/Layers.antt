@@ -1,13 +1,13 @@
 -- The records that hold one another, one layer at a time.
 use Rattle.std.specs.Prelude.{◌≡◌, ℕ, List, true, map, Option, option_map}
 use Rattle.std.specs.Str.{is_utf8}
-use Rattle.pbx_meaning.specs.Content.{Content, fields, no_fields, with_fields, Key, Val, text_key, message}
-use Rattle.pbx_meaning.specs.Sound.{has_one_member}
-use Rattle.pbx_codec.specs.declared.contents.Held.{Held}
-use Rattle.pbx_codec.specs.View.{val_of}
-use Rattle.pbx_types_shape.specs.TypesShape.{value_fields}
-use Rattle.pbx_types_contents.specs.FieldContent.{fields_from}
-use Rattle.pbx_types_contents.specs.Sound.{AreValues}
+use Rattle.pbx_content.specs.Content.{Content, fields, no_fields, with_fields, Key, Val, text_key, message}
+use Rattle.pbx_content.specs.Sound.{has_one_member}
+use Rattle.pbx_content_codec.specs.declared.contents.Held.{Held}
+use Rattle.pbx_content_codec.specs.View.{val_of}
+use Rattle.pbx_desc_shapes.specs.TypesShape.{value_fields}
+use Rattle.pbx_types.specs.FieldContent.{fields_from}
+use Rattle.pbx_types.specs.Sound.{AreValues}
 use Rattle.pbx_types.specs.declared.tree.ListValue.{ListValue, out-ListValue}
 use Rattle.pbx_types.specs.declared.tree.ListValue.TheOpen.{ListValue-F, Struct-F, Value-F}
 use Rattle.pbx_types.specs.declared.tree.Struct.{Struct, out-Struct}

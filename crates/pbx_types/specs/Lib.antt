@@ -1,2 +1,10 @@
+pub mod Texts
+pub mod formers
+pub mod Unknown
+pub mod FieldContent
+pub mod Sound
+pub mod Building
+pub mod Taking
+pub mod PlainContent
 pub mod Content
 pub mod Layers

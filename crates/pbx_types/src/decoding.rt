@@ -1,25 +1,24 @@
 ghost use Rattle.std.specs.Prelude.{◌≡◌, Some, map, option_map, IfOk};
-ghost use Rattle.pbx_meaning.specs.declared.shape.Kind.TheVariants as kind;
-ghost use Rattle.pbx_meaning.specs.Content.{message, pairs_of};
-ghost use Rattle.pbx_meaning.specs.Meaning.{meaning_of};
-ghost use Rattle.pbx_meaning.specs.Faults.{IsFaultOf};
-ghost use Rattle.pbx_meaning.specs.Sound.{IsSound, ArePairs, IsKeyOf};
-ghost use Rattle.pbx_codec.specs.View.{content_of, val_of, pair_of};
-ghost use Rattle.pbx_types_shape.specs.TypesShape.{types_shape};
-ghost use Rattle.pbx_types_contents.specs.Sound.{AreOf};
-ghost use Rattle.pbx_types_contents.specs.Taking.{Takes};
+ghost use Rattle.pbx_content.specs.declared.shape.Kind.TheVariants as kind;
+ghost use Rattle.pbx_content.specs.Content.{message, pairs_of};
+ghost use Rattle.pbx_content.specs.Meaning.{meaning_of};
+ghost use Rattle.pbx_content.specs.Faults.{IsFaultOf};
+ghost use Rattle.pbx_content.specs.Sound.{IsSound, ArePairs, IsKeyOf};
+ghost use Rattle.pbx_content_codec.specs.View.{content_of, val_of, pair_of};
+ghost use Rattle.pbx_desc_shapes.specs.TypesShape.{types_shape};
+ghost use Rattle.pbx_types.specs.Sound.{AreOf};
+ghost use Rattle.pbx_types.specs.Taking.{Takes};
 ghost use Rattle.pbx_types.specs.Content.{struct_content, list_content, value_content};
 ghost use Rattle.pbx_types.specs.Layers.{value_message, value_pair, held_pair};
 
 use crate::tree::{ListValue, Struct, Value};
-use pbx_codec::{Contents, Held, MapKey, Pair};
-use pbx_desc_decoding::DecodeMessage;
-use pbx_text_map::TextMap;
-use pbx_types_contents::{
-    FromContents, kept_records, message_of, record_from_bytes, take_int32, take_pairs, take_text,
-    take_truth, take_values,
+use crate::{
+    FromContents, TextMap, kept_records, message_of, record_from_bytes, take_int32, take_pairs,
+    take_text, take_truth, take_values,
 };
-use pbx_types_shape::well_known_place as place;
+use pbx_content_codec::{Contents, Held, MapKey, Pair};
+use pbx_desc::DecodeMessage;
+use pbx_desc_shapes::well_known_place as place;
 use pbx_wire::{DecodeError, List, NoMemory, Text};
 use std::alloc::Global;
 

@@ -1,20 +1,19 @@
 ghost use Rattle.std.specs.Prelude.{◌≡◌, None, map, IfOk, OnOk};
-ghost use Rattle.pbx_meaning.specs.declared.shape.Kind.TheVariants as kind;
-ghost use Rattle.pbx_meaning.specs.Content.{vals_of, pairs_of};
-ghost use Rattle.pbx_meaning.specs.Sound.{AreElements, ArePairs};
-ghost use Rattle.pbx_codec.specs.View.{content_of, val_of, pair_of};
-ghost use Rattle.pbx_types_shape.specs.TypesShape.{types_shape};
-ghost use Rattle.pbx_types_contents.specs.Building.{Holds};
+ghost use Rattle.pbx_content.specs.declared.shape.Kind.TheVariants as kind;
+ghost use Rattle.pbx_content.specs.Content.{vals_of, pairs_of};
+ghost use Rattle.pbx_content.specs.Sound.{AreElements, ArePairs};
+ghost use Rattle.pbx_content_codec.specs.View.{content_of, val_of, pair_of};
+ghost use Rattle.pbx_desc_shapes.specs.TypesShape.{types_shape};
+ghost use Rattle.pbx_types.specs.Building.{Holds};
 ghost use Rattle.pbx_types.specs.declared.tree.Value.{out-Value};
 ghost use Rattle.pbx_types.specs.Content.{struct_content, list_content, value_content};
 ghost use Rattle.pbx_types.specs.Layers.{value_values, value_message, value_pair, PutsMember, IsNamed};
 
 use crate::tree::{ListValue, Struct, Value};
-use pbx_codec::{Contents, Held, MapKey, Pair};
+use crate::{HasContents, TextMap, kept_contents, put_list, put_pairs, record_bytes};
+use pbx_content_codec::{Contents, Held, MapKey, Pair};
 use pbx_desc_encoding::Message;
-use pbx_text_map::TextMap;
-use pbx_types_contents::{HasContents, kept_contents, put_list, put_pairs, record_bytes};
-use pbx_types_shape::well_known_place as place;
+use pbx_desc_shapes::well_known_place as place;
 use pbx_wire::{List, NoMemory, Text};
 use std::alloc::Global;
 

@@ -1,14 +1,38 @@
-//! The records of well-known types, and their wire bytes: `Struct`, `Value` and `ListValue`, as `google/protobuf/struct.proto`
-//! declares them, and those of `pbx_types_plain`, which are named here too.
+//! The records of well-known types, and their wire bytes, as the files of `google/protobuf` declare them. Each is made into the
+//! content of a message field by field, and taken out of one.
 #![tactic(auto)]
 
+mod any;
+mod contents;
+mod copying;
 mod decoding;
+mod elements;
 mod encoding;
+mod mask;
+mod record_decoding;
+mod record_encoding;
+mod taking;
+mod text_map;
+mod time;
 mod tree;
+mod unknown;
 
-pub use pbx_desc_decoding::DecodeMessage;
+pub use any::{Any, Empty};
+pub use contents::{
+    HasContents, kept_contents, put_int32, put_int64, put_list, put_octets, put_pairs, put_text,
+    text_values,
+};
+pub use elements::{message_of, text_list};
+pub use mask::FieldMask;
+pub use pbx_desc::DecodeMessage;
 pub use pbx_desc_encoding::Message;
-pub use pbx_text_map::TextMap;
-pub use pbx_types_plain::{Any, Duration, Empty, FieldMask, Timestamp};
-pub use pbx_types_shape::types_shape;
+pub use pbx_desc_shapes::types_shape;
+pub use record_decoding::record_from_bytes;
+pub use record_encoding::record_bytes;
+pub use taking::{
+    FromContents, kept_records, take_int32, take_int64, take_octets, take_pairs, take_text,
+    take_truth, take_values,
+};
+pub use text_map::TextMap;
+pub use time::{Duration, Timestamp};
 pub use tree::{ListValue, Struct, Value};

@@ -1,6 +1,6 @@
 ghost use Rattle.std.specs.Prelude.{◌≡◌, None, [], IfOk};
 
-use pbx_text_map::TextMap;
+use crate::TextMap;
 use pbx_wire::{List, NoMemory, Recs, Text, copy_recs};
 use std::alloc::Global;
 

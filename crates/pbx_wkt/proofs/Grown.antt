@@ -2,10 +2,10 @@
 use Rattle.std.proofs.Common.{◌≡◌, ◌∙◌, ℕ, zero, suc, ◌+◌, List, [], ◌∷◌, ◌++◌, take, true, Some, sym, ap, subst, add-one, arith}
 use Rattle.std.specs.Prelude.{slice_get, Contains}
 use Rattle.pbx_desc_records.specs.declared.file.FileDescriptorProto.{FileDescriptorProto}
-use Rattle.pbx_definitions.specs.Definitions.{Place}
-use Rattle.pbx_rules.specs.Breaches.{keeps_rules, BreaksFirst}
-use Rattle.pbx_rules.proofs.RulesKept.{keeps_each}
-use Rattle.pbx_pool_laws.specs.Pool.{with_file}
+use Rattle.pbx_link_definitions.specs.Definitions.{Place}
+use Rattle.pbx_link_rules.specs.Breaches.{keeps_rules, BreaksFirst}
+use Rattle.pbx_link_rules.proofs.RulesKept.{keeps_each}
+use Rattle.pbx_link_rules.specs.Pool.{with_file}
 use Rattle.pbx_wkt_files.specs.Files.{wkt_files}
 use Rattle.pbx_wkt_laws.proofs.Kept.{files_linked}
 

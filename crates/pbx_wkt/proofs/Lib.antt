@@ -1,1 +1,9 @@
 pub mod Grown
+mod Lists
+mod Rules
+mod Places
+mod Oneofs
+mod Alike
+mod Values
+mod Rows
+mod Whole

@@ -1,7 +1,7 @@
 // The pool of the built-in files.
 ghost use Rattle.std.specs.Prelude.{◌≡◌, true, IfOk, OnOk};
-ghost use Rattle.pbx_rules.specs.Breaches.{keeps_rules};
-ghost use Rattle.pbx_pool_laws.specs.Pool.{with_file};
+ghost use Rattle.pbx_link_rules.specs.Breaches.{keeps_rules};
+ghost use Rattle.pbx_link_rules.specs.Pool.{with_file};
 ghost use Rattle.pbx_wkt_files.specs.Files.{wkt_files};
 
 use pbx_desc_records::FileDescriptorProto;

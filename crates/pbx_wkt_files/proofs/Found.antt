@@ -3,7 +3,7 @@ use Rattle.std.proofs.Common.{◌≡◌, ◌∙◌, ℕ, zero, suc, ◌+◌, Lis
 use Rattle.std.specs.Prelude.{find, slice_get, IfSome}
 use Rattle.std.specs.Str.{bytes_eq}
 use Rattle.pbx_desc_records.specs.declared.file.FileDescriptorProto.{FileDescriptorProto}
-use Rattle.pbx_definitions.specs.Names.{is_named}
+use Rattle.pbx_link_definitions.specs.Names.{is_named}
 
 abbrev pub Named : List FileDescriptorProto → ℕ → List ℕ → Type 0
 Named files i own = IfSome (slice_get files i) (λ (f : FileDescriptorProto). f.name ≡ Some own)

@@ -4,7 +4,7 @@
 use Rattle.std.specs.Prelude.{ℕ, List, [], ◌∷◌, ◌++◌, map, Option, Some, None, codes, find}
 use Rattle.pbx_desc_records.specs.declared.field.FieldDescriptorProto.{FieldDescriptorProto}
 use Rattle.pbx_desc_records.specs.declared.file.FileDescriptorProto.{FileDescriptorProto}
-use Rattle.pbx_definitions.specs.Names.{is_named}
+use Rattle.pbx_link_definitions.specs.Names.{is_named}
 use Rattle.pbx_wkt_files.specs.Records.{double, float, int64, uint64, int32, bool, string, bytes, uint32, message, enum, optional, required, repeated}
 use Rattle.pbx_wkt_files.specs.Records.{with_default, with_options, member, uninterpreted, number_option, text_option}
 use Rattle.pbx_wkt_files.specs.Records.{plain, optioned, choosing, ranged, extensions, an_enum}

@@ -13,7 +13,7 @@ use Rattle.pbx_desc_records.specs.declared.message.DescriptorProto.TheOpen.{Desc
 use Rattle.pbx_desc_records.specs.declared.message.ExtensionRange.{ExtensionRange}
 use Rattle.pbx_desc_records.specs.declared.message.ReservedRange.{ReservedRange}
 use Rattle.pbx_desc_records.specs.declared.options.Options.{Options}
-use Rattle.pbx_linked.specs.Linked.{default_json_name}
+use Rattle.pbx_link_record.specs.Linked.{default_json_name}
 
 -- ---- options
 

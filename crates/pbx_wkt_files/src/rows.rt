@@ -14,77 +14,77 @@ use crate::table::{
     FILE_WRAPPERS,
 };
 
-#[tactic(auto, unfolding(pbx_linked::specs::Linked::camel_from))]
+#[tactic(auto, unfolding(pbx_link_record::specs::Linked::camel_from))]
 pub(crate) fn any_row() -> &'static FileRow
     ensures { row_file result.now ≡ file_record any_file }
 {
     &FILE_ANY
 }
 
-#[tactic(auto, unfolding(pbx_linked::specs::Linked::camel_from))]
+#[tactic(auto, unfolding(pbx_link_record::specs::Linked::camel_from))]
 pub(crate) fn source_context_row() -> &'static FileRow
     ensures { row_file result.now ≡ file_record source_context_file }
 {
     &FILE_SOURCE_CONTEXT
 }
 
-#[tactic(auto, unfolding(pbx_linked::specs::Linked::camel_from))]
+#[tactic(auto, unfolding(pbx_link_record::specs::Linked::camel_from))]
 pub(crate) fn type_row() -> &'static FileRow
     ensures { row_file result.now ≡ file_record type_file }
 {
     &FILE_TYPE
 }
 
-#[tactic(auto, unfolding(pbx_linked::specs::Linked::camel_from))]
+#[tactic(auto, unfolding(pbx_link_record::specs::Linked::camel_from))]
 pub(crate) fn api_row() -> &'static FileRow
     ensures { row_file result.now ≡ file_record api_file }
 {
     &FILE_API
 }
 
-#[tactic(auto, unfolding(pbx_linked::specs::Linked::camel_from))]
+#[tactic(auto, unfolding(pbx_link_record::specs::Linked::camel_from))]
 pub(crate) fn duration_row() -> &'static FileRow
     ensures { row_file result.now ≡ file_record duration_file }
 {
     &FILE_DURATION
 }
 
-#[tactic(auto, unfolding(pbx_linked::specs::Linked::camel_from))]
+#[tactic(auto, unfolding(pbx_link_record::specs::Linked::camel_from))]
 pub(crate) fn empty_row() -> &'static FileRow
     ensures { row_file result.now ≡ file_record empty_file }
 {
     &FILE_EMPTY
 }
 
-#[tactic(auto, unfolding(pbx_linked::specs::Linked::camel_from))]
+#[tactic(auto, unfolding(pbx_link_record::specs::Linked::camel_from))]
 pub(crate) fn field_mask_row() -> &'static FileRow
     ensures { row_file result.now ≡ file_record field_mask_file }
 {
     &FILE_FIELD_MASK
 }
 
-#[tactic(auto, unfolding(pbx_linked::specs::Linked::camel_from))]
+#[tactic(auto, unfolding(pbx_link_record::specs::Linked::camel_from))]
 pub(crate) fn struct_row() -> &'static FileRow
     ensures { row_file result.now ≡ file_record struct_file }
 {
     &FILE_STRUCT
 }
 
-#[tactic(auto, unfolding(pbx_linked::specs::Linked::camel_from))]
+#[tactic(auto, unfolding(pbx_link_record::specs::Linked::camel_from))]
 pub(crate) fn timestamp_row() -> &'static FileRow
     ensures { row_file result.now ≡ file_record timestamp_file }
 {
     &FILE_TIMESTAMP
 }
 
-#[tactic(auto, unfolding(pbx_linked::specs::Linked::camel_from))]
+#[tactic(auto, unfolding(pbx_link_record::specs::Linked::camel_from))]
 pub(crate) fn wrappers_row() -> &'static FileRow
     ensures { row_file result.now ≡ file_record wrappers_file }
 {
     &FILE_WRAPPERS
 }
 
-#[tactic(auto, unfolding(pbx_linked::specs::Linked::camel_from))]
+#[tactic(auto, unfolding(pbx_link_record::specs::Linked::camel_from))]
 pub(crate) fn plugin_row() -> &'static FileRow
     ensures { row_file result.now ≡ file_record plugin_file }
 {
@@ -98,35 +98,35 @@ pub(crate) fn descriptor_row() -> &'static FileRow
     &FILE_DESCRIPTOR
 }
 
-#[tactic(auto, unfolding(pbx_linked::specs::Linked::camel_from, crate::specs::Files::descriptor_files))]
+#[tactic(auto, unfolding(pbx_link_record::specs::Linked::camel_from, crate::specs::Files::descriptor_files))]
 pub(crate) fn descriptor_files_rows() -> &'static [TopRow]
     ensures { map row_top result.now ≡ map top_record descriptor_files }
 {
     &DESCRIPTOR_FILES
 }
 
-#[tactic(auto, unfolding(pbx_linked::specs::Linked::camel_from, crate::specs::Files::descriptor_members))]
+#[tactic(auto, unfolding(pbx_link_record::specs::Linked::camel_from, crate::specs::Files::descriptor_members))]
 pub(crate) fn descriptor_members_rows() -> &'static [TopRow]
     ensures { map row_top result.now ≡ map top_record descriptor_members }
 {
     &DESCRIPTOR_MEMBERS
 }
 
-#[tactic(auto, unfolding(pbx_linked::specs::Linked::camel_from, crate::specs::Files::descriptor_file_options))]
+#[tactic(auto, unfolding(pbx_link_record::specs::Linked::camel_from, crate::specs::Files::descriptor_file_options))]
 pub(crate) fn descriptor_file_options_rows() -> &'static [TopRow]
     ensures { map row_top result.now ≡ map top_record descriptor_file_options }
 {
     &DESCRIPTOR_FILE_OPTIONS
 }
 
-#[tactic(auto, unfolding(pbx_linked::specs::Linked::camel_from, crate::specs::Files::descriptor_field_options))]
+#[tactic(auto, unfolding(pbx_link_record::specs::Linked::camel_from, crate::specs::Files::descriptor_field_options))]
 pub(crate) fn descriptor_field_options_rows() -> &'static [TopRow]
     ensures { map row_top result.now ≡ map top_record descriptor_field_options }
 {
     &DESCRIPTOR_FIELD_OPTIONS
 }
 
-#[tactic(auto, unfolding(pbx_linked::specs::Linked::camel_from, crate::specs::Files::descriptor_features))]
+#[tactic(auto, unfolding(pbx_link_record::specs::Linked::camel_from, crate::specs::Files::descriptor_features))]
 pub(crate) fn descriptor_features_rows() -> &'static [TopRow]
     ensures { map row_top result.now ≡ map top_record descriptor_features }
 {

@@ -3,9 +3,9 @@ use Rattle.std.proofs.Common.{◌≡◌, ◌∙◌, ℕ, zero, suc, List, [], �
 use Rattle.std.specs.Prelude.{slice_get}
 use Rattle.std.proofs.lemmas.List.{map-append}
 use Rattle.pbx_desc_records.specs.declared.file.FileDescriptorProto.{FileDescriptorProto}
-use Rattle.pbx_definitions.specs.Names.{prefixes, name_parts}
-use Rattle.pbx_definitions.specs.Places.{repeated}
-use Rattle.pbx_pool_laws.specs.Pool.{IsLinked}
+use Rattle.pbx_link_definitions.specs.Names.{prefixes, name_parts}
+use Rattle.pbx_link_definitions.specs.Places.{repeated}
+use Rattle.pbx_link_rules.specs.Pool.{IsLinked}
 use Rattle.pbx_wkt_files.specs.Records.{File, file_record}
 use Rattle.pbx_wkt_files.specs.Files.{any_file, source_context_file, type_file, api_file, descriptor_file, duration_file, empty_file, field_mask_file}
 use Rattle.pbx_wkt_files.specs.Files.{struct_file, timestamp_file, wrappers_file, plugin_file}

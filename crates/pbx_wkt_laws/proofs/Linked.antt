@@ -10,8 +10,8 @@ use Rattle.pbx_wire.specs.Text.{is_numbered, is_record_number}
 use Rattle.pbx_wire.specs.declared.rec.Rec.{Rec, the_lemmas as rec_lemmas}
 use Rattle.pbx_wire.specs.declared.rec.Rec.{Varint, Fixed64, Bytes, Group', Fixed32}
 use Rattle.pbx_wire.proofs.Written.{both}
-use Rattle.pbx_desc_shape.specs.DescriptorShape.{file_fields, message_fields, field_fields, enum_fields, enum_value_fields}
-use Rattle.pbx_meaning.specs.declared.shape.FieldShape.{FieldShape}
+use Rattle.pbx_desc_shapes.specs.DescriptorShape.{file_fields, message_fields, field_fields, enum_fields, enum_value_fields}
+use Rattle.pbx_content.specs.declared.shape.FieldShape.{FieldShape}
 use Rattle.pbx_desc_records.specs.declared.enumeration.EnumReservedRange.{EnumReservedRange}
 use Rattle.pbx_desc_records.specs.declared.enumeration.EnumDescriptorProto.{EnumDescriptorProto}
 use Rattle.pbx_desc_records.specs.declared.enumeration.EnumValueDescriptorProto.{EnumValueDescriptorProto}
@@ -23,14 +23,14 @@ use Rattle.pbx_desc_records.specs.declared.message.DescriptorProto.{out-roll-Des
 use Rattle.pbx_desc_records.specs.declared.message.ExtensionRange.{ExtensionRange}
 use Rattle.pbx_desc_records.specs.declared.message.ReservedRange.{ReservedRange}
 use Rattle.pbx_desc_records.specs.declared.options.Options.{Options}
-use Rattle.pbx_definitions.specs.Names.{qualified, text_or_empty, dotted}
-use Rattle.pbx_scope.specs.Scope.{visible}
-use Rattle.pbx_record_rules.specs.EntryRules.{is_empty}
-use Rattle.pbx_linked.specs.Unknown.{unread, settled_unknown}
-use Rattle.pbx_linked.specs.Settled.{settled_options, settled_extension_range, settled_reserved_range, settled_field, settled_oneof}
-use Rattle.pbx_linked.specs.Settled.{settled_enum_range, settled_value, settled_enum, settled_message, settled_file}
-use Rattle.pbx_linked.specs.Linked.{exact, exact_by, type_by, json_name_or_default, linked_field, linked_message, linked_with, linked_record}
-use Rattle.pbx_linked.proofs.Layers.{linked_open, linked_out, settled_open, settled_out}
+use Rattle.pbx_link_definitions.specs.Names.{qualified, text_or_empty, dotted}
+use Rattle.pbx_link_scope.specs.Scope.{visible}
+use Rattle.pbx_link_rules_record.specs.EntryRules.{is_empty}
+use Rattle.pbx_link_record.specs.Unknown.{unread, settled_unknown}
+use Rattle.pbx_link_record.specs.Settled.{settled_options, settled_extension_range, settled_reserved_range, settled_field, settled_oneof}
+use Rattle.pbx_link_record.specs.Settled.{settled_enum_range, settled_value, settled_enum, settled_message, settled_file}
+use Rattle.pbx_link_record.specs.Linked.{exact, exact_by, type_by, json_name_or_default, linked_field, linked_message, linked_with, linked_record}
+use Rattle.pbx_link_record.proofs.Layers.{linked_open, linked_out, settled_open, settled_out}
 use Rattle.pbx_wkt_files.specs.Records.{Message, Top, File, extension_range, reserved_range, oneof, options_of, message_layer, message_record}
 use Rattle.pbx_wkt_files.specs.Records.{top_record, file_record}
 use Rattle.pbx_wkt_laws.proofs.Opened.{Layer}

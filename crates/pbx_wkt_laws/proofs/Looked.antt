@@ -6,13 +6,13 @@ use Rattle.std.specs.Str.{bytes_eq}
 use Rattle.std.proofs.lemmas.List.{map-append}
 use Rattle.pbx_desc_records.specs.declared.enumeration.EnumDescriptorProto.{EnumDescriptorProto}
 use Rattle.pbx_desc_records.specs.declared.message.DescriptorProto.{out-roll-DescriptorProto}
-use Rattle.pbx_definitions.specs.Definitions.{Part, messages, enums, enum_name}
-use Rattle.pbx_definitions.specs.Names.{qualified, text_or_empty}
-use Rattle.pbx_definitions.specs.Says.{is_set, option_bool}
-use Rattle.pbx_scope.specs.declared.types.Bound.{Bound}
-use Rattle.pbx_scope.specs.declared.types.Bound.TheVariants.{Message as to_message, Enum as to_enum}
-use Rattle.pbx_scope.specs.Scope.{bound_name, types, type_named, type_from, bound, bound_if}
-use Rattle.pbx_scope_rules.specs.MapFields.{is_entry_type, full_name_of}
+use Rattle.pbx_link_definitions.specs.Definitions.{Part, messages, enums, enum_name}
+use Rattle.pbx_link_definitions.specs.Names.{qualified, text_or_empty}
+use Rattle.pbx_link_definitions.specs.Says.{is_set, option_bool}
+use Rattle.pbx_link_scope.specs.declared.types.Bound.{Bound}
+use Rattle.pbx_link_scope.specs.declared.types.Bound.TheVariants.{Message as to_message, Enum as to_enum}
+use Rattle.pbx_link_scope.specs.Scope.{bound_name, types, type_named, type_from, bound, bound_if}
+use Rattle.pbx_link_rules_scope.specs.MapFields.{is_entry_type, full_name_of}
 use Rattle.pbx_wkt_files.specs.Records.{File, file_record}
 use Rattle.pbx_wkt_laws.proofs.Opened.{Layer, shut, open_name, open_messages, messages_shut, all_enums_of, enums_are}
 

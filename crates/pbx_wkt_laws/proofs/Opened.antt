@@ -7,14 +7,14 @@ use Rattle.pbx_desc_records.specs.declared.field.FieldDescriptorProto.{FieldDesc
 use Rattle.pbx_desc_records.specs.declared.field.OneofDescriptorProto.{OneofDescriptorProto}
 use Rattle.pbx_desc_records.specs.declared.message.DescriptorProto.{DescriptorProto, roll-DescriptorProto, out-roll-DescriptorProto}
 use Rattle.pbx_desc_records.specs.declared.message.DescriptorProto.TheOpen.{DescriptorProto-F}
-use Rattle.pbx_definitions.specs.declared.definitions.Sort.TheVariants.{Message as a_message, Field as a_field, Oneof as a_oneof}
-use Rattle.pbx_definitions.specs.declared.definitions.Sort.TheVariants.{Extension as an_extension}
-use Rattle.pbx_definitions.specs.Definitions.{Part, Defined, Place, part, parts, fields_in, enums_in}
-use Rattle.pbx_definitions.specs.Definitions.{oneofs_in, messages_from, extensions_from, definitions_from, messages, fields, enums}
-use Rattle.pbx_definitions.specs.Definitions.{extensions, definitions, before_nested, after_nested, defined, field_definition}
-use Rattle.pbx_definitions.specs.Definitions.{enum_definitions}
-use Rattle.pbx_definitions.specs.Names.{qualified, text_or_empty}
-use Rattle.pbx_definitions.proofs.Told.{messages_from_at, extensions_from_at, definitions_from_at}
+use Rattle.pbx_link_definitions.specs.declared.definitions.Sort.TheVariants.{Message as a_message, Field as a_field, Oneof as a_oneof}
+use Rattle.pbx_link_definitions.specs.declared.definitions.Sort.TheVariants.{Extension as an_extension}
+use Rattle.pbx_link_definitions.specs.Definitions.{Part, Defined, Place, part, parts, fields_in, enums_in}
+use Rattle.pbx_link_definitions.specs.Definitions.{oneofs_in, messages_from, extensions_from, definitions_from, messages, fields, enums}
+use Rattle.pbx_link_definitions.specs.Definitions.{extensions, definitions, before_nested, after_nested, defined, field_definition}
+use Rattle.pbx_link_definitions.specs.Definitions.{enum_definitions}
+use Rattle.pbx_link_definitions.specs.Names.{qualified, text_or_empty}
+use Rattle.pbx_link_definitions.proofs.Told.{messages_from_at, extensions_from_at, definitions_from_at}
 use Rattle.pbx_wkt_files.specs.Records.{Message, Top, File, message_layer, message_record, top_record, file_record}
 
 -- what a message's record holds

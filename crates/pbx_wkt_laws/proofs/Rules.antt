@@ -7,7 +7,7 @@ use Rattle.std.specs.Str.{bytes_eq}
 use Rattle.pbx_wire.specs.Text.{is_numbered}
 use Rattle.pbx_wire.specs.declared.rec.Rec.{Rec}
 use Rattle.pbx_wire.proofs.Written.{both}
-use Rattle.pbx_meaning.specs.Records.{number_of}
+use Rattle.pbx_content.specs.Records.{number_of}
 use Rattle.pbx_desc_records.specs.declared.enumeration.EnumValueDescriptorProto.{EnumValueDescriptorProto}
 use Rattle.pbx_desc_records.specs.declared.options.Options.{Options}
 use Rattle.pbx_desc_records.specs.declared.enumeration.EnumDescriptorProto.{EnumDescriptorProto}
@@ -17,31 +17,31 @@ use Rattle.pbx_desc_records.specs.declared.file.FileDescriptorProto.{FileDescrip
 use Rattle.pbx_desc_records.specs.declared.message.DescriptorProto.{DescriptorProto, roll-DescriptorProto, out-DescriptorProto, out-roll-DescriptorProto}
 use Rattle.pbx_desc_records.specs.declared.message.ExtensionRange.{ExtensionRange}
 use Rattle.pbx_desc_records.specs.declared.message.ReservedRange.{ReservedRange}
-use Rattle.pbx_definitions.specs.Definitions.{Place, Part, Defined, at, part, parts, full_name, name_place, messages, top_messages, enums}
-use Rattle.pbx_definitions.specs.Definitions.{extensions, definitions, fields_in, values_in}
-use Rattle.pbx_definitions.specs.Names.{among, qualified, text_or_empty}
-use Rattle.pbx_definitions.specs.Places.{places_where, place_if, repeated}
-use Rattle.pbx_definitions.specs.Ranges.{Range, in_ranges}
-use Rattle.pbx_definitions.specs.Says.{is_proto3, is_set, is_number, is_optional, is_repeated, is_entry, option_bool, has_option, signed_or_zero}
-use Rattle.pbx_definitions.specs.Says.{are_equal, is_uninterpreted, has_record}
-use Rattle.pbx_scope.specs.declared.types.Bound.{Bound}
-use Rattle.pbx_scope.specs.Scope.{packages, visible}
-use Rattle.pbx_pooled.specs.Pooled.{like_named, all_packages}
-use Rattle.pbx_field_rules.specs.Rules.{bad_field_numbers, bad_types, bad_oneofs, bad_labels, bad_types_among, bad_labels_among, bad_numbers_in}
-use Rattle.pbx_field_rules.specs.Rules.{is_field_number, like_numbered, is_below, has_oneof, bad_member, bad_oneofs_in, is_bad_extension}
-use Rattle.pbx_record_rules.specs.FileRules.{unknown_syntax, bad_names, is_bad_name, is_bad_package}
-use Rattle.pbx_record_rules.specs.EnumRules.{bad_enums, bad_enum}
-use Rattle.pbx_record_rules.specs.EntryRules.{is_empty, bad_entries, is_bad_entry, are_entry_fields}
-use Rattle.pbx_record_rules.specs.OptionRules.{uninterpreted_options, uninterpreted, uninterpreted_in_message, uninterpreted_in_enum, message_sets}
-use Rattle.pbx_record_rules.specs.OptionRules.{is_message_set}
-use Rattle.pbx_record_rules.specs.RangeRules.{bad_ranges, bad_ranges_of, bad_message_ranges, bad_enum_ranges, is_bad_range}
-use Rattle.pbx_scope_rules.specs.Rules.{unbound_names, has_bad_type_name, is_bad_type_name, places_by, has_bad_extendee, has_no_extendee}
-use Rattle.pbx_scope_rules.specs.Defaults.{bad_defaults, has_bad_default, is_default_of}
-use Rattle.pbx_scope_rules.specs.ExtensionNumbers.{bad_extension_numbers, is_unfit, has_taken_number, extended_again}
-use Rattle.pbx_scope_rules.specs.MapFields.{bad_map_fields, bad_map_fields_in, is_bad_map_field, is_held_in, same_text, full_name_of}
-use Rattle.pbx_scope_rules.specs.MapFields.{type_in, of_entry_types, fields_of_type, same_type}
-use Rattle.pbx_pool_rules.specs.Rules.{file_twice, missing_imports, names_twice}
-use Rattle.pbx_rules.specs.Breaches.{all_breaches, bad_maps, bad_numbers, keeps_rules}
+use Rattle.pbx_link_definitions.specs.Definitions.{Place, Part, Defined, at, part, parts, full_name, name_place, messages, top_messages, enums}
+use Rattle.pbx_link_definitions.specs.Definitions.{extensions, definitions, fields_in, values_in}
+use Rattle.pbx_link_definitions.specs.Names.{among, qualified, text_or_empty}
+use Rattle.pbx_link_definitions.specs.Places.{places_where, place_if, repeated}
+use Rattle.pbx_link_definitions.specs.Ranges.{Range, in_ranges}
+use Rattle.pbx_link_definitions.specs.Says.{is_proto3, is_set, is_number, is_optional, is_repeated, is_entry, option_bool, has_option, signed_or_zero}
+use Rattle.pbx_link_definitions.specs.Says.{are_equal, is_uninterpreted, has_record}
+use Rattle.pbx_link_scope.specs.declared.types.Bound.{Bound}
+use Rattle.pbx_link_scope.specs.Scope.{packages, visible}
+use Rattle.pbx_link_scope.specs.Pooled.{like_named, all_packages}
+use Rattle.pbx_link_rules_field.specs.Rules.{bad_field_numbers, bad_types, bad_oneofs, bad_labels, bad_types_among, bad_labels_among, bad_numbers_in}
+use Rattle.pbx_link_rules_field.specs.Rules.{is_field_number, like_numbered, is_below, has_oneof, bad_member, bad_oneofs_in, is_bad_extension}
+use Rattle.pbx_link_rules_record.specs.FileRules.{unknown_syntax, bad_names, is_bad_name, is_bad_package}
+use Rattle.pbx_link_rules_record.specs.EnumRules.{bad_enums, bad_enum}
+use Rattle.pbx_link_rules_record.specs.EntryRules.{is_empty, bad_entries, is_bad_entry, are_entry_fields}
+use Rattle.pbx_link_rules_record.specs.OptionRules.{uninterpreted_options, uninterpreted, uninterpreted_in_message, uninterpreted_in_enum, message_sets}
+use Rattle.pbx_link_rules_record.specs.OptionRules.{is_message_set}
+use Rattle.pbx_link_rules_record.specs.RangeRules.{bad_ranges, bad_ranges_of, bad_message_ranges, bad_enum_ranges, is_bad_range}
+use Rattle.pbx_link_rules_scope.specs.Rules.{unbound_names, has_bad_type_name, is_bad_type_name, places_by, has_bad_extendee, has_no_extendee}
+use Rattle.pbx_link_rules_scope.specs.Defaults.{bad_defaults, has_bad_default, is_default_of}
+use Rattle.pbx_link_rules_scope.specs.ExtensionNumbers.{bad_extension_numbers, is_unfit, has_taken_number, extended_again}
+use Rattle.pbx_link_rules_scope.specs.MapFields.{bad_map_fields, bad_map_fields_in, is_bad_map_field, is_held_in, same_text, full_name_of}
+use Rattle.pbx_link_rules_scope.specs.MapFields.{type_in, of_entry_types, fields_of_type, same_type}
+use Rattle.pbx_link_rules.specs.Rules.{file_twice, missing_imports, names_twice}
+use Rattle.pbx_link_rules.specs.Breaches.{all_breaches, bad_maps, bad_numbers, keeps_rules}
 use Rattle.pbx_wkt_files.specs.Records.{Top, File, top_record, file_record}
 use Rattle.pbx_wkt_laws.proofs.Opened.{Layer, shut, open_own, open_messages, messages_shut, told_of, all_fields_of, fields_are, all_enums_of}
 use Rattle.pbx_wkt_laws.proofs.Opened.{enums_are, no_extensions, defines, definitions_are, all_definitions_are}

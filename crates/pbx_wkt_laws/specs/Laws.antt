@@ -1,7 +1,7 @@
 -- What holds of the built-in files as files of a pool.
 use Rattle.std.specs.Prelude.{◌≡◌, ℕ, take, slice_get, Some}
 use Rattle.pbx_desc_records.specs.declared.file.FileDescriptorProto.{FileDescriptorProto}
-use Rattle.pbx_pool_laws.specs.Pool.{IsLinked}
+use Rattle.pbx_link_rules.specs.Pool.{IsLinked}
 use Rattle.pbx_wkt_files.specs.Files.{wkt_files}
 
 -- Each built-in file keeps all rules of linking among those before it, and linking leaves its record as it is.

@@ -5,25 +5,21 @@
 //! those of files, resolvers and errors together.
 #![tactic(auto)]
 
-pub mod file;
-
-pub use pbx_desc_decoding;
-pub use pbx_desc_encoding;
+pub use pbx_desc;
 pub use pbx_json;
 pub use pbx_link;
-pub use pbx_message_dynamic;
+pub use pbx_message;
 pub use pbx_parse;
-pub use pbx_reflection;
 pub use pbx_text;
 pub use pbx_types;
 pub use pbx_wire;
 pub use pbx_wkt;
 pub use protox_compile;
 pub use protox_compile::{Compiled, Compiler, compile};
-pub use protox_file_sources;
-pub use protox_file_sources::Error;
+pub use protox_file;
+pub use protox_file as file;
+pub use protox_file::Error;
 pub use protox_io;
-pub use protox_resolvers;
 pub use protox_run::{Ran, Refusal, done_is_determined, run};
 pub use protox_transcode::{
     Attempt, TopError, Transcoded, compile_and_transcode, transcoded_is_determined,

@@ -1,10 +1,10 @@
 -- The cause of an error of compiling.
 use Rattle.std.proofs.Common.{◌≡◌, [], ℕ, List, inr, sym, subst}
 use Rattle.protox_io.specs.Count.{Count}
-use Rattle.protox_error.specs.declared.error.ErrorKind.{ErrorKind}
+use Rattle.protox_file_error.specs.declared.error.ErrorKind.{ErrorKind}
 use Rattle.protox_file_sources.specs.Causes.{FaultCause}
 use Rattle.protox_file_sources.specs.Library.{Library}
-use Rattle.protox_walk.specs.Refusals.{HasOpeningsCause}
+use Rattle.protox_compile_walk.specs.Refusals.{HasOpeningsCause}
 use Rattle.protox_compile.specs.State.{State, fresh, most_files}
 use Rattle.protox_compile.specs.Compiling.{HasCompilingCause}
 

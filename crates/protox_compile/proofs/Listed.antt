@@ -6,13 +6,13 @@ use Rattle.std.specs.Option.{option_or}
 use Rattle.std.proofs.lemmas.List.{append_assoc}
 use Rattle.std.proofs.lemmas.List.Folds.{find-append}
 use Rattle.pbx_desc_records.specs.declared.file.FileDescriptorProto.{FileDescriptorProto}
-use Rattle.pbx_definitions.specs.Names.{text_or_empty}
-use Rattle.pbx_described.specs.Descriptors.{FileDescribed, all_files}
-use Rattle.protox_error.specs.declared.error.ErrorKind.{ErrorKind}
-use Rattle.protox_error.specs.declared.error.ErrorKind.TheVariants as kinds
+use Rattle.pbx_link_definitions.specs.Names.{text_or_empty}
+use Rattle.pbx_link_meaning.specs.Descriptors.{FileDescribed, all_files}
+use Rattle.protox_file_error.specs.declared.error.ErrorKind.{ErrorKind}
+use Rattle.protox_file_error.specs.declared.error.ErrorKind.TheVariants as kinds
 use Rattle.protox_file_sources.specs.Metadata.{Metadata}
-use Rattle.protox_walk.specs.Walk.{Done, records}
-use Rattle.protox_walk.specs.Compiled.{done_by, done_of, metadata_of}
+use Rattle.protox_compile_walk.specs.Walk.{Done, records}
+use Rattle.protox_compile_walk.specs.Compiled.{done_by, done_of, metadata_of}
 use Rattle.protox_compile.specs.Sets.{with_info, listed, next_done, is_undecodable, AreDecodable, IsUndecodable, IsUnencodable}
 
 -- the record of a file of a pool

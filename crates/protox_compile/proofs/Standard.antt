@@ -4,7 +4,7 @@ use Rattle.pbx_wkt_files.specs.Files.{wkt_files}
 use Rattle.protox_io.specs.Count.{Count}
 use Rattle.protox_io.specs.Disk.{Volume}
 use Rattle.protox_file_sources.specs.Library.{Library}
-use Rattle.protox_resolvers.specs.Standard.{Folders, standard}
+use Rattle.protox_file.specs.Standard.{Folders, standard}
 
 -- what is said of the resolver is said of the disk
 pub of_folders : {D : Type 0} (volume : D → Volume) (r : Folders D) (disk : D) (names : List (List ℕ)) (Q : Library → Type 0)

@@ -1,14 +1,14 @@
 -- What compiling paths at once comes to.
 use Rattle.std.specs.Prelude.{◌≡◌, ◌⊎◌, [], ℕ, List, Bool, true}
 use Rattle.pbx_desc_records.specs.declared.file.FileDescriptorSet.{FileDescriptorSet}
-use Rattle.protox_error.specs.declared.error.ErrorKind.{ErrorKind}
-use Rattle.protox_error.specs.declared.error.ErrorKind.TheVariants.{NoMemory}
+use Rattle.protox_file_error.specs.declared.error.ErrorKind.{ErrorKind}
+use Rattle.protox_file_error.specs.declared.error.ErrorKind.TheVariants.{NoMemory}
 use Rattle.protox_file_sources.specs.Library.{Library}
 use Rattle.protox_file_sources.specs.Told.{ByLookups}
-use Rattle.protox_walk.specs.Walk.{Done}
-use Rattle.protox_walk.specs.Opening.{Accepted, closure}
-use Rattle.protox_walk.specs.Closures.{StopsAt}
-use Rattle.protox_walk.specs.Refusals.{HasOpeningsCause}
+use Rattle.protox_compile_walk.specs.Walk.{Done}
+use Rattle.protox_compile_walk.specs.Opening.{Accepted, closure}
+use Rattle.protox_compile_walk.specs.Closures.{StopsAt}
+use Rattle.protox_compile_walk.specs.Refusals.{HasOpeningsCause}
 use Rattle.protox_compile.specs.State.{most_files}
 use Rattle.protox_compile.specs.Sets.{listed}
 

@@ -2,14 +2,14 @@
 use Rattle.std.specs.Prelude.{◌≡◌, ◌∷◌, [], ◌||◌, List, Bool, map, find, Option, Some, None, if◌then◌else◌}
 use Rattle.std.specs.List.{filter}
 use Rattle.pbx_desc_records.specs.declared.file.FileDescriptorProto.{FileDescriptorProto}
-pub use Rattle.pbx_decodable.specs.Sets.{is_undecodable, AreDecodable, IsSet}
-use Rattle.pbx_described.specs.Descriptors.{FileDescribed}
-use Rattle.pbx_definitions.specs.Names.{text_or_empty}
-use Rattle.protox_error.specs.declared.error.ErrorKind.{ErrorKind}
-use Rattle.protox_error.specs.declared.error.ErrorKind.TheVariants.{Undecodable, NoMemory}
+pub use Rattle.pbx_desc_decodable.specs.Sets.{is_undecodable, AreDecodable, IsSet}
+use Rattle.pbx_link_meaning.specs.Descriptors.{FileDescribed}
+use Rattle.pbx_link_definitions.specs.Names.{text_or_empty}
+use Rattle.protox_file_error.specs.declared.error.ErrorKind.{ErrorKind}
+use Rattle.protox_file_error.specs.declared.error.ErrorKind.TheVariants.{Undecodable, NoMemory}
 use Rattle.protox_file_sources.specs.Metadata.{Metadata}
-use Rattle.protox_walk.specs.Compiled.{done_by}
-use Rattle.protox_walk.specs.Walk.{Done, records}
+use Rattle.protox_compile_walk.specs.Compiled.{done_by}
+use Rattle.protox_compile_walk.specs.Walk.{Done, records}
 
 -- the record, without its source information unless that is kept (Protocol Buffers `descriptor.proto`: SourceCodeInfo may be left out)
 abbrev pub with_info : Bool → FileDescriptorProto → FileDescriptorProto

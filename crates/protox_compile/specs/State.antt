@@ -1,6 +1,6 @@
 -- The state of a compiler.
 use Rattle.std.specs.Prelude.{ℕ, List, [], Bool, false}
-use Rattle.protox_walk.specs.Walk.{Done}
+use Rattle.protox_compile_walk.specs.Walk.{Done}
 
 -- its resolver, the files that are finished, how many files there may be, and whether sets have the files that are only imported and
 -- source information

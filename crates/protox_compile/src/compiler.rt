@@ -4,14 +4,14 @@ ghost use Rattle.std.specs.Prelude.{◌≡◌, ◌≤◌, [], IfOk, IfErr, OnOk,
 ghost use Rattle.std.specs.Slice.Iter.{iter_rest};
 ghost use Rattle.protox_io.specs.Count.{Later};
 ghost use Rattle.protox_file_sources.specs.Causes.{FaultCause};
-ghost use Rattle.pbx_pool_laws.specs.Pool.{ArePooled};
+ghost use Rattle.pbx_link_rules.specs.Pool.{ArePooled};
 ghost use Rattle.protox_file_sources.specs.Told.{ByLookups};
-ghost use Rattle.protox_walk.specs.Walk.{is_done, records};
-ghost use Rattle.protox_walk.specs.Opening.{opening, closure, root_of, Accepted};
-ghost use Rattle.protox_walk.specs.Refusals.{RefusesOpening, HasOpeningCause, HasOpeningsCause, Grows};
-ghost use Rattle.protox_walk.specs.Opens.{Opens, OpensTimes, GrowsWithin, is_settled};
-ghost use Rattle.protox_walk.specs.Closures.{StopsAt};
-ghost use Rattle.protox_walk.specs.Compiled.{IsOrdered, metadata_of};
+ghost use Rattle.protox_compile_walk.specs.Walk.{is_done, records};
+ghost use Rattle.protox_compile_walk.specs.Opening.{opening, closure, root_of, Accepted};
+ghost use Rattle.protox_compile_walk.specs.Refusals.{RefusesOpening, HasOpeningCause, HasOpeningsCause, Grows};
+ghost use Rattle.protox_compile_walk.specs.Opens.{Opens, OpensTimes, GrowsWithin, is_settled};
+ghost use Rattle.protox_compile_walk.specs.Closures.{StopsAt};
+ghost use Rattle.protox_compile_walk.specs.Compiled.{IsOrdered, metadata_of};
 ghost use Rattle.protox_compile.specs.State.{fresh, most_files};
 ghost use Rattle.protox_compile.specs.Sets.{listed as listed_of, IsSet, AreDecodable, IsUnencodable};
 
@@ -19,9 +19,9 @@ use crate::sets::{encode_listed, listed};
 use pbx_desc_records::FileDescriptorSet;
 use pbx_link::DescriptorPool;
 use pbx_wire::{NoMemory, Recs, Texts};
+use protox_compile_walk::{FinishedFiles, open_path};
+use protox_file::StandardResolver;
 use protox_file_sources::{Disk, Error, FileMetadata, FileResolver, looked_up_once};
-use protox_resolvers::StandardResolver;
-use protox_walk::{FinishedFiles, open_path};
 use std::alloc::Global;
 use std::marker::Model;
 

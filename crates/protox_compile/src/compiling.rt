@@ -1,20 +1,20 @@
 //! Compiling the files at paths at once.
 
 ghost use Rattle.std.specs.Prelude.{◌≡◌, [], IsTrue, IfOk, IfErr, List};
-ghost use Rattle.pbx_pool_laws.specs.Pool.{ArePooled};
+ghost use Rattle.pbx_link_rules.specs.Pool.{ArePooled};
 ghost use Rattle.pbx_wkt_files.specs.Files.{wkt_files};
 ghost use Rattle.protox_io.specs.Count.{Later};
 ghost use Rattle.protox_file_sources.specs.Causes.{FaultCause};
-ghost use Rattle.protox_resolvers.specs.Standard.{standard};
-ghost use Rattle.protox_walk.specs.Walk.{Done, records};
-ghost use Rattle.protox_walk.specs.Compiled.{IsOrdered};
+ghost use Rattle.protox_file.specs.Standard.{standard};
+ghost use Rattle.protox_compile_walk.specs.Walk.{Done, records};
+ghost use Rattle.protox_compile_walk.specs.Compiled.{IsOrdered};
 ghost use Rattle.protox_compile.specs.Compiling.{Compiles, StopsCompiling, HasCompilingCause, whole_set};
 
 use crate::compiler::Compiler;
 use pbx_desc_records::FileDescriptorSet;
 use pbx_wire::{NoMemory, Texts};
+use protox_file::StandardResolver;
 use protox_file_sources::{Disk, Error, FileResolver};
-use protox_resolvers::StandardResolver;
 use std::alloc::Global;
 
 /// What compiling leaves: the disk, and the set of the files.

@@ -7,4 +7,4 @@ mod sets;
 
 pub use compiler::{Compiler, Files};
 pub use compiling::{Compiled, compile, open_all};
-pub use protox_walk::{opening_again_marks, opens_by_all, opens_once};
+pub use protox_compile_walk::{opening_again_marks, opens_by_all, opens_once};

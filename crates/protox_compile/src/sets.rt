@@ -2,14 +2,14 @@
 
 ghost use Rattle.std.specs.Prelude.{◌≡◌, ◌∷◌, ◌++◌, [], ◌⊎◌, List as ListOf, IfOk, IfErr, OnOk};
 ghost use Rattle.pbx_desc_records.specs.declared.file.FileDescriptorProto.{FileDescriptorProto as AFile};
-ghost use Rattle.pbx_definitions.specs.Names.{text_or_empty};
+ghost use Rattle.pbx_link_definitions.specs.Names.{text_or_empty};
 ghost use Rattle.pbx_desc_encoding.specs.Sets.{IsSetOf};
-ghost use Rattle.protox_error.specs.declared.error.ErrorKind.{ErrorKind as AKind};
-ghost use Rattle.protox_error.specs.declared.error.ErrorKind.TheVariants as kinds;
-ghost use Rattle.protox_walk.specs.Compiled.{done_by, done_of};
+ghost use Rattle.protox_file_error.specs.declared.error.ErrorKind.{ErrorKind as AKind};
+ghost use Rattle.protox_file_error.specs.declared.error.ErrorKind.TheVariants as kinds;
+ghost use Rattle.protox_compile_walk.specs.Compiled.{done_by, done_of};
 ghost use Rattle.protox_compile.specs.Sets.{with_info, listed as listed_of, next_done, IsSet, AreDecodable, IsUnencodable};
 
-use pbx_decodable::{encode_decodable, first_undecodable};
+use pbx_desc_decodable::{encode_decodable, first_undecodable};
 use pbx_desc_encoding::FileSet;
 use pbx_desc_records::FileDescriptorProto;
 use pbx_link::{DescriptorPool, FileDescriptor};

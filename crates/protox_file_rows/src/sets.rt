@@ -3,11 +3,11 @@
 use crate::step::{step_at, steps};
 use crate::told::Told;
 use hex::encode;
-use pbx_desc_decoding::DecodeMessage;
+use pbx_desc::DecodeMessage;
 use pbx_desc_records::FileDescriptorSet;
 use pbx_wire::{DecodeError, Rec};
+use protox_file::DescriptorSetFileResolver;
 use protox_file_sources::{File, FileResolver};
-use protox_resolvers::DescriptorSetFileResolver;
 use std::alloc::Global;
 use std::mem::drop;
 use test_rows::Row;

@@ -5,13 +5,13 @@ use Rattle.std.specs.Str.{IsUtf8, is_utf8}
 use Rattle.std.proofs.lemmas.Bool.Decides.{nat_tests}
 use Rattle.std.proofs.lemmas.Str.{is_utf8-from_IsUtf8, IsUtf8-from_is_utf8}
 use Rattle.protox_io.specs.Disk.{Stored}
-use Rattle.protox_error.specs.declared.error.ErrorKind.{ErrorKind}
-use Rattle.protox_error.specs.declared.error.ErrorKind.TheVariants.{FileInvalidUtf8}
+use Rattle.protox_file_error.specs.declared.error.ErrorKind.{ErrorKind}
+use Rattle.protox_file_error.specs.declared.error.ErrorKind.TheVariants.{FileInvalidUtf8}
 use Rattle.protox_file_sources.specs.Causes.{IsTold, IsToldRefusal}
-use Rattle.protox_error.specs.Errors.{UnlessMemory}
-use Rattle.protox_paths.specs.FileNames.{name_of}
+use Rattle.protox_file_error.specs.Errors.{UnlessMemory}
+use Rattle.protox_io.specs.FileNames.{name_of}
 use Rattle.protox_file_sources.specs.Told.{Entry, Told, Source, TooLarge, NotText, largest_source, told_bytes, told_held}
-use Rattle.protox_paths.proofs.Again.{name_again}
+use Rattle.protox_io.proofs.Again.{name_again}
 
 small : (bytes : List ℕ) → length bytes ≤ 2147483647 → nat_lt largest_source (length bytes) ≡ false
 small bytes few = grind (arith, nat_tests)

@@ -11,7 +11,7 @@ use Rattle.std.proofs.lemmas.Map.Text.{text_cmp, is_eq-slice_cmp}
 use Rattle.protox_file_sources.specs.declared.memory.Put.{Put}
 use Rattle.protox_file_sources.specs.Memory.{told_put, told_of, by_text, stored_as, named_by, AreNames}
 use Rattle.protox_file_sources.specs.Told.{Absent}
-use Rattle.protox_paths.specs.FileNames.{name_of}
+use Rattle.protox_io.specs.FileNames.{name_of}
 
 looked_up_in : {X Y : Type 0} (es : List (String Y × X)) (q : List ℕ)
     → lookup (bytes_eq q) (map (λ e. (string_bytes e.0, e.1)) es) ≡ lookup (is_at (text_cmp q)) es

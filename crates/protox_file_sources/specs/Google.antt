@@ -1,7 +1,7 @@
 -- What the files of a pool tell.
 use Rattle.std.specs.Prelude.{ℕ, List, Option, Some, None}
 use Rattle.pbx_desc_records.specs.declared.file.FileDescriptorProto.{FileDescriptorProto}
-use Rattle.pbx_described.specs.Descriptors.{FileDescribed, file_of_name}
+use Rattle.pbx_link_meaning.specs.Descriptors.{FileDescribed, file_of_name}
 use Rattle.protox_file_sources.specs.Told.{Told, Absent, Recorded}
 
 -- what a file of a pool tells, if there is one: its linked record alone

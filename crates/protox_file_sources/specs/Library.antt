@@ -3,9 +3,9 @@ use Rattle.std.specs.Prelude.{ℕ, List, [], ◌∷◌, Bool, true, false, Optio
 use Rattle.std.specs.Str.{bytes_eq}
 use Rattle.pbx_desc_records.specs.declared.file.FileDescriptorProto.{FileDescriptorProto}
 use Rattle.protox_io.specs.Disk.{Volume}
-use Rattle.protox_paths.specs.FileNames.{joined, resolved}
-use Rattle.protox_error.specs.declared.error.ErrorKind.{ErrorKind}
-use Rattle.protox_error.specs.declared.error.ErrorKind.TheVariants.{OpenFile}
+use Rattle.protox_io.specs.FileNames.{joined, resolved}
+use Rattle.protox_file_error.specs.declared.error.ErrorKind.{ErrorKind}
+use Rattle.protox_file_error.specs.declared.error.ErrorKind.TheVariants.{OpenFile}
 use Rattle.protox_file_sources.specs.Told.{Entry, Told, Absent, told_below}
 use Rattle.protox_file_sources.specs.Google.{pooled_as}
 

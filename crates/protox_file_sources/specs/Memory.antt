@@ -5,12 +5,12 @@ use Rattle.std.specs.BTreeMap.{BTreeMap}
 use Rattle.std.specs.List.{list_any}
 use Rattle.std.specs.Map.{lookup}
 use Rattle.std.specs.Str.{bytes_eq}
-use Rattle.protox_error.specs.declared.error.ErrorKind.{ErrorKind}
-use Rattle.protox_error.specs.declared.error.ErrorKind.TheVariants.{OpenFile, Custom, NoMemory}
+use Rattle.protox_file_error.specs.declared.error.ErrorKind.{ErrorKind}
+use Rattle.protox_file_error.specs.declared.error.ErrorKind.TheVariants.{OpenFile, Custom, NoMemory}
 use Rattle.protox_file_sources.specs.declared.memory.Put.{Put}
 use Rattle.protox_file_sources.specs.declared.memory.Put.TheVariants.{Source, File}
 use Rattle.protox_file_sources.specs.Library.{Library}
-use Rattle.protox_paths.specs.FileNames.{name_of}
+use Rattle.protox_io.specs.FileNames.{name_of}
 use Rattle.protox_file_sources.specs.Told.{Entry, Told, Absent, Recorded, told_source}
 
 -- what a source, or a file, tells that was put under a name

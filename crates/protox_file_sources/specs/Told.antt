@@ -5,7 +5,7 @@ use Rattle.pbx_desc_records.specs.declared.file.FileDescriptorProto.{FileDescrip
 use Rattle.pbx_parse.specs.Reads.{Reads}
 use Rattle.protox_io.specs.Disk.{Held, Missing, Oversized, Stored}
 use Rattle.protox_io.specs.Paths.{Component, disk_key}
-use Rattle.protox_paths.specs.FileNames.{joined}
+use Rattle.protox_io.specs.FileNames.{joined}
 
 -- a file: its record, and if they are known the path that it was read from, its source, and the bytes that it was decoded from
 pub record Entry : Type 0 where

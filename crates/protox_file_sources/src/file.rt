@@ -2,25 +2,25 @@
 
 ghost use Rattle.std.specs.Prelude.{◌≡◌, ◌≤◌, ℕ, List, [], Some, None, IfOk, IfErr, IsTrue, length, unwrap_or, option_map};
 ghost use Rattle.std.specs.Option.{option_copied};
-ghost use Rattle.pbx_meaning.specs.Faults.{IsFaultOf, IsToldFault};
-ghost use Rattle.pbx_meaning.specs.Meaning.{meaning_of};
-ghost use Rattle.pbx_desc_shape.specs.DescriptorShape.{descriptor_shape};
+ghost use Rattle.pbx_content.specs.Faults.{IsFaultOf, IsToldFault};
+ghost use Rattle.pbx_content.specs.Meaning.{meaning_of};
+ghost use Rattle.pbx_desc_shapes.specs.DescriptorShape.{descriptor_shape};
 ghost use Rattle.pbx_link.specs.Bytes.{DecodesFile};
 ghost use Rattle.protox_io.specs.Count.{Rose, Later};
 ghost use Rattle.protox_io.specs.Disk.{Stored};
 ghost use Rattle.protox_io.specs.Paths.{disk_key};
 ghost use Rattle.protox_file_sources.specs.Causes.{HasCause, IsTold};
-ghost use Rattle.protox_error.specs.Errors.{UnlessMemory};
+ghost use Rattle.protox_file_error.specs.Errors.{UnlessMemory};
 ghost use Rattle.protox_file_sources.specs.Encoded.{IsEncoded};
 ghost use Rattle.protox_file_sources.specs.Laws.{LookedUpOnce};
 ghost use Rattle.protox_file_sources.specs.Library.{never, may_fail_at, alone};
 ghost use Rattle.protox_file_sources.specs.Told.{Source, told_source, told_held};
 
-use pbx_desc_decoding::DecodeMessage;
+use pbx_desc::DecodeMessage;
 use pbx_desc_records::FileDescriptorProto;
 use pbx_parse::parse;
 use pbx_wire::{Blob, DecodeError, NoMemory, Text};
-use protox_error::{Error, ErrorKind};
+use protox_file_error::{Error, ErrorKind};
 use protox_io::{Disk, DiskAnswer, DiskError};
 use std::alloc::Global;
 use std::marker::Model;

@@ -8,7 +8,7 @@ use crate::file::File;
 use crate::resolver::FileResolver;
 use pbx_link::DescriptorPool;
 use pbx_wire::{NoMemory, Text};
-use protox_error::Error;
+use protox_file_error::Error;
 use std::alloc::Global;
 use std::marker::Model;
 

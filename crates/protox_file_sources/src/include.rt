@@ -4,9 +4,8 @@ ghost use Rattle.protox_file_sources.specs.Library.{below};
 use crate::file::File;
 use crate::resolver::FileResolver;
 use pbx_wire::{NoMemory, Text};
-use protox_error::Error;
-use protox_io::Disk;
-use protox_paths::{join_path, path_to_file_name, strip_prefix};
+use protox_file_error::Error;
+use protox_io::{Disk, join_path, path_to_file_name, strip_prefix};
 use std::alloc::Global;
 use std::marker::Model;
 

@@ -13,10 +13,9 @@ pub use google::GoogleFileResolver;
 pub use include::IncludeFileResolver;
 pub use memory::MemoryResolver;
 pub use metadata::FileMetadata;
-pub use protox_error::{Error, ErrorKind};
-pub use protox_io::{Disk, DiskAnswer, DiskError, MemoryDisk, RealDisk};
-pub use protox_paths::{
-    join_path, names_name_themselves, path_eq, path_to_file_name, resolved_stand_below,
-    strip_prefix,
+pub use protox_file_error::{Error, ErrorKind};
+pub use protox_io::{
+    Disk, DiskAnswer, DiskError, MemoryDisk, RealDisk, join_path, names_name_themselves, path_eq,
+    path_to_file_name, resolved_stand_below, strip_prefix,
 };
 pub use resolver::FileResolver;

@@ -7,13 +7,13 @@ ghost use Rattle.protox_io.specs.Count.{Rose, Later, raised, counted};
 ghost use Rattle.protox_file_sources.specs.Library.{never};
 ghost use Rattle.protox_file_sources.specs.Causes.{HasCause, IsTold};
 ghost use Rattle.protox_file_sources.specs.Memory.{library, by_text, told_put, stored_as, named_by, is_listed, IsFault, NoFault};
-ghost use Rattle.protox_paths.specs.FileNames.{name_of};
+ghost use Rattle.protox_io.specs.FileNames.{name_of};
 ghost use Rattle.protox_file_sources.specs.Told.{Absent, Recorded, told_source};
 
 use crate::file::File;
 use crate::resolver::FileResolver;
 use pbx_wire::{NoMemory, Text};
-use protox_error::Error;
+use protox_file_error::Error;
 use std::alloc::Global;
 use std::collections::BTreeMap;
 use std::marker::Model;

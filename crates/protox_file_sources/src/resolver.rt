@@ -2,11 +2,11 @@ ghost use Rattle.std.specs.Prelude.{◌≡◌, ℕ, List, Some, IsTrue, IfOk, If
 ghost use Rattle.protox_io.specs.Count.{Count, Rose, Later};
 ghost use Rattle.protox_file_sources.specs.Causes.{HasCause, IsTold};
 ghost use Rattle.protox_file_sources.specs.Library.{Library};
-ghost use Rattle.protox_paths.specs.FileNames.{name_of};
+ghost use Rattle.protox_io.specs.FileNames.{name_of};
 
 use crate::file::File;
 use pbx_wire::{NoMemory, Text};
-use protox_error::Error;
+use protox_file_error::Error;
 use std::alloc::Global;
 
 /// Files by the names that they are imported by, and the names of paths.

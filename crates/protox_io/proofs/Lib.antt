@@ -6,3 +6,8 @@ pub mod Under
 pub mod Examples
 pub mod Showing
 pub mod Plain
+pub mod Split
+pub mod Bodies
+pub mod Names
+pub mod Again
+pub mod Below

@@ -6,3 +6,6 @@ pub mod Memory
 pub mod Sink
 pub mod Read
 pub mod Shown
+pub mod FileNames
+pub mod Left
+pub mod Laws

@@ -5,9 +5,9 @@ use Rattle.serde_json.specs.Written.{compact_text}
 use Rattle.pbx_desc_records.specs.declared.file.FileDescriptorProto.{FileDescriptorProto}
 use Rattle.protox_io.specs.Disk.{Volume}
 use Rattle.protox_file_sources.specs.Library.{Library}
-use Rattle.protox_walk.specs.Walk.{Done}
-use Rattle.protox_walk.specs.Opening.{closure}
-use Rattle.protox_walk.specs.Laws.{ClosesOnce}
+use Rattle.protox_compile_walk.specs.Walk.{Done}
+use Rattle.protox_compile_walk.specs.Opening.{closure}
+use Rattle.protox_compile_walk.specs.Laws.{ClosesOnce}
 use Rattle.protox_compile.specs.State.{most_files}
 use Rattle.protox_compile.specs.Sets.{IsUndecodable, AreDecodable}
 use Rattle.protox_compile.specs.Compiling.{Compiles}
@@ -16,9 +16,9 @@ use Rattle.protox_transcode.proofs.Determined.{accepted_decided, accepted_alone,
 use Rattle.protox_transcode.specs.Top.{is_refusal}
 use Rattle.protox_transcode.specs.declared.error.TopError.{TopError}
 use Rattle.protox_transcode.specs.declared.error.TopError.TheVariants as top
-use Rattle.protox_generated.specs.Sources.{file_name, type_name, tree_text}
-use Rattle.protox_generated.specs.Files.{generated}
-use Rattle.protox_generated.specs.Summary.{ForTreeOf, RefusesNumber, summary}
+use Rattle.protox_generate.specs.Sources.{file_name, type_name, tree_text}
+use Rattle.protox_generate.specs.Files.{generated}
+use Rattle.protox_generate.specs.Summary.{ForTreeOf, RefusesNumber, summary}
 use Rattle.serde_json.specs.Read.{read as read_text}
 use Rattle.protox_words.specs.Words.{Args}
 use Rattle.protox_run.specs.Class.{limit, json_of, library_of, Write, write_to, Ready, Refusing, Transcoding, Compiling, WritesSet, set_of, Generated, Generating, Task, Generate, Transcode, Compile, task, ComesTo, Judges}

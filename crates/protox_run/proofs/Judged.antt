@@ -7,19 +7,19 @@ use Rattle.serde_json.specs.Written.{has_float, compact_text}
 use Rattle.pbx_desc_records.specs.declared.file.FileDescriptorProto.{FileDescriptorProto}
 use Rattle.pbx_json_meaning.specs.Laws.{CanonicalIsPlain}
 use Rattle.pbx_json_meaning.specs.Options.{default_writing}
-use Rattle.pbx_described.specs.Shapes.{shape_of, place_of}
+use Rattle.pbx_link_meaning.specs.Shapes.{shape_of, place_of}
 use Rattle.pbx_wkt_files.specs.Files.{wkt_files}
 use Rattle.protox_io.specs.Count.{Count, Rose}
 use Rattle.protox_io.specs.Disk.{Volume, untold}
-use Rattle.protox_error.specs.declared.error.ErrorKind.{ErrorKind}
-use Rattle.protox_error.specs.declared.error.ErrorKind.TheVariants as kinds
+use Rattle.protox_file_error.specs.declared.error.ErrorKind.{ErrorKind}
+use Rattle.protox_file_error.specs.declared.error.ErrorKind.TheVariants as kinds
 use Rattle.protox_file_sources.specs.Causes.{IsNamedFault, FaultCause}
 use Rattle.protox_file_sources.specs.Library.{Library, below, pooled, may_fail_at}
-use Rattle.protox_paths.specs.FileNames.{joined}
+use Rattle.protox_io.specs.FileNames.{joined}
 use Rattle.protox_file_sources.specs.Told.{ByLookups}
-use Rattle.protox_resolvers.specs.Standard.{Folders, standard}
-use Rattle.protox_walk.specs.Walk.{Done, records}
-use Rattle.protox_walk.specs.Opening.{Accepted, closure}
+use Rattle.protox_file.specs.Standard.{Folders, standard}
+use Rattle.protox_compile_walk.specs.Walk.{Done, records}
+use Rattle.protox_compile_walk.specs.Opening.{Accepted, closure}
 use Rattle.protox_compile.specs.State.{most_files}
 use Rattle.protox_compile.specs.Sets.{IsUndecodable, IsUnencodable}
 use Rattle.protox_compile.specs.Compiling.{StopsWalk, StopsCompiling, HasCompilingCause}
@@ -29,7 +29,7 @@ use Rattle.protox_transcode.specs.declared.error.TopError.TheVariants as top
 use Rattle.protox_compile.proofs.Standard.{of_counts}
 use Rattle.protox_transcode.proofs.Determined.{no_fault}
 use Rattle.protox_transcode.proofs.Judged.{walk_caused}
-use Rattle.protox_generated.specs.Summary.{RefusesNumber}
+use Rattle.protox_generate.specs.Summary.{RefusesNumber}
 use Rattle.protox_words.specs.Words.{Args, folders}
 use Rattle.protox_run.specs.Class.{limit, json_of, library_of, Write, Refusing, write_to, Ending, Transcoded, RefusesSet, set_of, Task, Generate, Transcode, Compile, task, ComesTo, Judges, is_transcode, reads_input}
 use Rattle.protox_run.specs.Stops.{Input, Reading, Writing, Printing}

@@ -8,16 +8,16 @@ use Rattle.serde_json.specs.Written.{compact_text}
 use Rattle.pbx_desc_records.specs.declared.file.FileDescriptorProto.{FileDescriptorProto}
 use Rattle.pbx_wkt_files.specs.Files.{wkt_files}
 use Rattle.protox_io.specs.Disk.{Volume}
-use Rattle.protox_error.specs.Lines.{long_line_of}
-use Rattle.protox_error.specs.declared.error.ErrorKind.{ErrorKind}
+use Rattle.protox_file_error.specs.Lines.{long_line_of}
+use Rattle.protox_file_error.specs.declared.error.ErrorKind.{ErrorKind}
 use Rattle.protox_file_sources.specs.Library.{Library}
-use Rattle.protox_resolvers.specs.Standard.{standard}
-use Rattle.protox_walk.specs.Walk.{Done}
+use Rattle.protox_file.specs.Standard.{standard}
+use Rattle.protox_compile_walk.specs.Walk.{Done}
 use Rattle.protox_compile.specs.Sets.{listed, IsSet, AreDecodable, IsUndecodable}
 use Rattle.protox_compile.specs.Compiling.{Compiles, StopsWalk}
 use Rattle.protox_transcode.specs.Top.{ForFiles, IsTranscoded, Refuses, is_fault, is_refusal, top_line}
 use Rattle.protox_transcode.specs.declared.error.TopError.{TopError}
-use Rattle.protox_generated.specs.Summary.{Summarizes, RefusesNumber}
+use Rattle.protox_generate.specs.Summary.{Summarizes, RefusesNumber}
 use Rattle.protox_words.specs.Words.{Args, folders}
 use Rattle.protox_run.specs.declared.stop.Refusal.{Refusal}
 use Rattle.protox_run.specs.declared.stop.Refusal.TheVariants.{TooLong, NotJson, Top}

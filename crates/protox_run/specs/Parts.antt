@@ -3,7 +3,7 @@ use Rattle.std.specs.Prelude.{◌≡◌, ◌⊎◌, ◌≤◌, ◌<◌, ℕ, Lis
 use Rattle.std.specs.List.{concat}
 use Rattle.serde_json.specs.Data.{Data}
 use Rattle.protox_io.specs.Disk.{Volume}
-use Rattle.protox_error.specs.Lines.{long_line_of}
+use Rattle.protox_file_error.specs.Lines.{long_line_of}
 use Rattle.protox_file_sources.specs.Library.{Library}
 use Rattle.protox_transcode.specs.Top.{is_fault, is_refusal, top_line}
 use Rattle.protox_transcode.specs.declared.error.TopError.{TopError}

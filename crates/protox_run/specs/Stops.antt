@@ -4,8 +4,8 @@ use Rattle.std.specs.List.{concat}
 use Rattle.protox_io.specs.Disk.{Volume, SameBut, IsOpen, untold}
 use Rattle.protox_io.specs.Paths.{disk_key}
 use Rattle.protox_io.specs.Sink.{Begins}
-use Rattle.protox_error.specs.Lines.{long_line_of}
-use Rattle.protox_error.specs.declared.error.ErrorKind.{ErrorKind}
+use Rattle.protox_file_error.specs.Lines.{long_line_of}
+use Rattle.protox_file_error.specs.declared.error.ErrorKind.{ErrorKind}
 use Rattle.protox_file_sources.specs.Causes.{IsNamedFault}
 use Rattle.protox_compile.specs.Compiling.{StopsWalk}
 use Rattle.protox_words.specs.Words.{Args, WordFault}

@@ -1,27 +1,27 @@
 -- What an input is transcoded to is determined, and it is refused for no reason.
 use Rattle.std.proofs.Common.{◌≡◌, ◌≤◌, ◌∙◌, ◌++◌, ◌∷◌, [], inl, inr, ℕ, List, length, true, false, Bool, if◌then◌else◌, Option, Some, None, ap, sym, subst, refl, arith}
 use Rattle.serde_json.specs.Data.{Data}
-use Rattle.pbx_meaning.specs.Encoding.{encoded}
-use Rattle.pbx_meaning.specs.declared.shape.Shape.{Shape}
+use Rattle.pbx_content.specs.Encoding.{encoded}
+use Rattle.pbx_content.specs.declared.shape.Shape.{Shape}
 use Rattle.pbx_desc_records.specs.declared.file.FileDescriptorProto.{FileDescriptorProto}
 use Rattle.pbx_desc_records.specs.declared.message.DescriptorProto.{DescriptorProto}
-use Rattle.pbx_described.specs.Descriptors.{Described, message_of_name}
+use Rattle.pbx_link_meaning.specs.Descriptors.{Described, message_of_name}
 use Rattle.pbx_json_meaning.specs.Canonical.{canonical}
 use Rattle.pbx_json_meaning.specs.Clash.{name_fault}
 use Rattle.pbx_json_meaning.specs.Options.{default_writing}
 use Rattle.pbx_json_meaning.specs.declared.names_fault.NameFault.{NameFault}
 use Rattle.pbx_json_meaning.specs.declared.names_fault.NameFault.TheVariants as names
 use Rattle.pbx_json_meaning.specs.Fits.{fits}
-use Rattle.pbx_described.specs.Shapes.{shape_of, place_of}
+use Rattle.pbx_link_meaning.specs.Shapes.{shape_of, place_of}
 use Rattle.pbx_parse.specs.declared.error.ParseError.TheVariants as parse
 use Rattle.protox_file_sources.specs.Told.{Told, Lookup, ByLookups}
-use Rattle.protox_error.specs.declared.error.ErrorKind.{ErrorKind}
-use Rattle.protox_error.specs.declared.error.ErrorKind.TheVariants as kinds
-use Rattle.protox_walk.specs.Walk.{Done, NotRead, records}
-use Rattle.protox_walk.specs.Opening.{Opened, Accepted, NotIncluded, Refused, IsDecided, opening, closure, after_opening, grown, root_of}
-use Rattle.protox_walk.specs.Refusals.{RefusesWith}
-use Rattle.protox_walk.specs.Closures.{StopsAt}
-use Rattle.protox_walk.specs.Laws.{ClosesOnce}
+use Rattle.protox_file_error.specs.declared.error.ErrorKind.{ErrorKind}
+use Rattle.protox_file_error.specs.declared.error.ErrorKind.TheVariants as kinds
+use Rattle.protox_compile_walk.specs.Walk.{Done, NotRead, records}
+use Rattle.protox_compile_walk.specs.Opening.{Opened, Accepted, NotIncluded, Refused, IsDecided, opening, closure, after_opening, grown, root_of}
+use Rattle.protox_compile_walk.specs.Refusals.{RefusesWith}
+use Rattle.protox_compile_walk.specs.Closures.{StopsAt}
+use Rattle.protox_compile_walk.specs.Laws.{ClosesOnce}
 use Rattle.protox_compile.specs.Sets.{AreDecodable, IsUndecodable}
 use Rattle.protox_compile.specs.State.{most_files}
 use Rattle.protox_transcode.specs.Top.{ForFiles, ForType, HaveClearNames, IsRefused, IsTooDeep, IsTranscoded, IsUnread, Refuses, Transcodes, is_fault, is_refusal}

@@ -2,18 +2,18 @@
 use Rattle.std.proofs.Common.{◌≡◌, ◌∷◌, [], ◌≤◌, Bool, true, false, inl, inr, if◌then◌else◌, IsTrue, Result, Ok, Err, IfOk, IfErr, MatchOption, ℕ, List, length, Option, Some, ap, ◌∙◌, sym, subst}
 use Rattle.serde_json.specs.Data.{Data}
 use Rattle.pbx_desc_records.specs.declared.file.FileDescriptorProto.{FileDescriptorProto}
-use Rattle.pbx_pool_laws.specs.Pool.{ArePooled}
+use Rattle.pbx_link_rules.specs.Pool.{ArePooled}
 use Rattle.protox_io.specs.Count.{Count}
 use Rattle.protox_file_sources.specs.Causes.{FaultCause}
 use Rattle.protox_file_sources.specs.Library.{Library}
 use Rattle.protox_file_sources.specs.Told.{Told, ByLookups}
-use Rattle.protox_error.specs.declared.error.ErrorKind.{ErrorKind}
-use Rattle.protox_error.specs.declared.error.ErrorKind.TheVariants as kinds
-use Rattle.protox_walk.specs.Walk.{Done, records}
-use Rattle.protox_walk.specs.Opening.{Accepted, closure}
-use Rattle.protox_walk.specs.Closures.{StopsAt}
-use Rattle.protox_walk.specs.Compiled.{IsOrdered}
-use Rattle.protox_walk.specs.Refusals.{HasOpeningCause, HasOpeningsCause}
+use Rattle.protox_file_error.specs.declared.error.ErrorKind.{ErrorKind}
+use Rattle.protox_file_error.specs.declared.error.ErrorKind.TheVariants as kinds
+use Rattle.protox_compile_walk.specs.Walk.{Done, records}
+use Rattle.protox_compile_walk.specs.Opening.{Accepted, closure}
+use Rattle.protox_compile_walk.specs.Closures.{StopsAt}
+use Rattle.protox_compile_walk.specs.Compiled.{IsOrdered}
+use Rattle.protox_compile_walk.specs.Refusals.{HasOpeningCause, HasOpeningsCause}
 use Rattle.protox_compile.specs.State.{State, fresh, most_files}
 use Rattle.protox_compile.specs.Sets.{IsUndecodable}
 use Rattle.protox_transcode.specs.Top.{ForFiles, IsCaused, IsJudged, IsRefused, IsStopped, IsTranscoded, Refuses, is_memory, of_error}

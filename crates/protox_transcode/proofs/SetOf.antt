@@ -1,13 +1,13 @@
 -- The first file of a pool that cannot be read again.
 use Rattle.std.proofs.Common.{◌≡◌, ◌∙◌, ◌⊎◌, inl, inr, List, Option, Some, option_map, find, refl, ap, sym, subst}
 use Rattle.pbx_desc_records.specs.declared.file.FileDescriptorProto.{FileDescriptorProto}
-use Rattle.pbx_definitions.specs.Names.{text_or_empty}
-use Rattle.pbx_described.specs.Descriptors.{FileDescribed}
+use Rattle.pbx_link_definitions.specs.Names.{text_or_empty}
+use Rattle.pbx_link_meaning.specs.Descriptors.{FileDescribed}
 use Rattle.protox_transcode.specs.Parts.{IsNoSet}
 use Rattle.protox_compile.specs.Sets.{is_undecodable}
 use Rattle.protox_transcode.specs.declared.error.TopError.{TopError}
 use Rattle.protox_transcode.specs.declared.error.TopError.TheVariants as top
-use Rattle.protox_error.specs.declared.error.ErrorKind.TheVariants as kinds
+use Rattle.protox_file_error.specs.declared.error.ErrorKind.TheVariants as kinds
 
 abbrev pub file : FileDescribed → FileDescriptorProto
 file d = d.file

@@ -2,18 +2,18 @@
 use Rattle.std.proofs.Common.{◌≡◌, ◌≤◌, ◌<◌, ◌^◌, ◌∙◌, ◌⊎◌, inl, inr, ℕ, List, length, [], Bool, true, false, ◌&&◌, nat_le, Result, Ok, Err, IfOk, IfErr, Some, None, refl, sym, subst, leb-true}
 use Rattle.std.specs.Str.{bytes_eq}
 use Rattle.serde_json.specs.Data.{Data}
-use Rattle.pbx_meaning.specs.Content.{Content}
-use Rattle.pbx_meaning.specs.Encoding.{encoded}
-use Rattle.pbx_meaning.specs.Laws.{EncodingDecodes}
-use Rattle.pbx_meaning.specs.Same.{Decodes}
-use Rattle.pbx_meaning.specs.Sound.{IsSound, depth}
-use Rattle.pbx_meaning.specs.declared.shape.Shape.{Shape}
+use Rattle.pbx_content.specs.Content.{Content}
+use Rattle.pbx_content.specs.Encoding.{encoded}
+use Rattle.pbx_content.specs.Laws.{EncodingDecodes}
+use Rattle.pbx_content.specs.Same.{Decodes}
+use Rattle.pbx_content.specs.Sound.{IsSound, depth}
+use Rattle.pbx_content.specs.declared.shape.Shape.{Shape}
 use Rattle.pbx_desc_records.specs.declared.file.FileDescriptorProto.{FileDescriptorProto}
 use Rattle.pbx_desc_records.specs.declared.message.DescriptorProto.{DescriptorProto}
-use Rattle.pbx_definitions.specs.Definitions.{message_name}
-use Rattle.pbx_described.specs.Descriptors.{Described, all_messages, message_of_name}
-use Rattle.pbx_described.specs.Shapes.{shape_of, place_of}
-use Rattle.pbx_pool_laws.specs.Pool.{ArePooled}
+use Rattle.pbx_link_definitions.specs.Definitions.{message_name}
+use Rattle.pbx_link_meaning.specs.Descriptors.{Described, all_messages, message_of_name}
+use Rattle.pbx_link_meaning.specs.Shapes.{shape_of, place_of}
+use Rattle.pbx_link_rules.specs.Pool.{ArePooled}
 use Rattle.pbx_message_laws.specs.Types.{PlaceHasType}
 use Rattle.pbx_json_meaning.specs.Canonical.{canonical}
 use Rattle.pbx_json_meaning.specs.Laws.{CanonicalStands, FittingIsWritten}
@@ -27,7 +27,7 @@ use Rattle.pbx_json_meaning.specs.declared.place.Step.{Step}
 use Rattle.pbx_json_meaning.specs.Fits.{fits, payloads_fit}
 use Rattle.pbx_message_dynamic.specs.Trees as read_specs
 use Rattle.protox_transcode.specs.Parts.{IsClear, IsNamed, IsNoSet, IsNotClear, IsNotNamed, IsNotTold, IsNotWritten, IsWritten}
-use Rattle.pbx_decodable.proofs.Found.{has_place, found_at}
+use Rattle.pbx_desc_decodable.proofs.Found.{has_place, found_at}
 use Rattle.protox_compile.specs.Sets.{AreDecodable}
 use Rattle.protox_transcode.specs.Top.{ForType, HaveClearNames, IsRefused, IsTooDeep, IsUnread, Transcodes, of_json}
 use Rattle.protox_transcode.specs.declared.error.TopError.{TopError}

@@ -1,14 +1,14 @@
 -- What files, a type's name and a tree come to: the transcoding, or the first refusal.
 use Rattle.std.specs.Prelude.{◌≡◌, ◌∷◌, [], ℕ, List, Bool, true, false, Option, Some, None, ◌⊎◌, codes, if◌then◌else◌}
 use Rattle.serde_json.specs.Data.{Data}
-use Rattle.pbx_meaning.specs.Content.{Content}
-use Rattle.pbx_meaning.specs.Encoding.{encoded}
-use Rattle.pbx_meaning.specs.Same.{Decodes}
-use Rattle.pbx_meaning.specs.declared.shape.Shape.{Shape}
+use Rattle.pbx_content.specs.Content.{Content}
+use Rattle.pbx_content.specs.Encoding.{encoded}
+use Rattle.pbx_content.specs.Same.{Decodes}
+use Rattle.pbx_content.specs.declared.shape.Shape.{Shape}
 use Rattle.pbx_desc_records.specs.declared.file.FileDescriptorProto.{FileDescriptorProto}
 use Rattle.pbx_desc_records.specs.declared.message.DescriptorProto.{DescriptorProto}
-use Rattle.pbx_described.specs.Descriptors.{Described, message_of_name}
-use Rattle.pbx_described.specs.Shapes.{shape_of, place_of}
+use Rattle.pbx_link_meaning.specs.Descriptors.{Described, message_of_name}
+use Rattle.pbx_link_meaning.specs.Shapes.{shape_of, place_of}
 use Rattle.pbx_json_meaning.specs.Canonical.{canonical}
 use Rattle.pbx_json_meaning.specs.Clash.{name_fault}
 use Rattle.pbx_json_meaning.specs.Faults.{FirstJsonFault}
@@ -20,16 +20,16 @@ use Rattle.pbx_json_meaning.specs.declared.kind.JsonKind.TheVariants as json
 use Rattle.pbx_json_meaning.specs.declared.names_fault.NameFault.{NameFault}
 use Rattle.pbx_json_meaning.specs.declared.names_fault.NameFault.TheVariants as names
 use Rattle.pbx_json_meaning.specs.Fits.{fits}
-use Rattle.pbx_pool_laws.specs.Pool.{ArePooled}
-use Rattle.protox_error.specs.Lines.{long_line_of}
+use Rattle.pbx_link_rules.specs.Pool.{ArePooled}
+use Rattle.protox_file_error.specs.Lines.{long_line_of}
 use Rattle.protox_file_sources.specs.Told.{Told, ByLookups}
-use Rattle.protox_error.specs.declared.error.ErrorKind.{ErrorKind}
-use Rattle.protox_error.specs.declared.error.ErrorKind.TheVariants as kinds
-use Rattle.protox_walk.specs.Walk.{Done, records}
-use Rattle.protox_walk.specs.Opening.{Accepted, closure}
-use Rattle.protox_walk.specs.Closures.{StopsAt}
-use Rattle.protox_walk.specs.Compiled.{IsOrdered}
-use Rattle.protox_walk.specs.Refusals.{HasOpeningsCause}
+use Rattle.protox_file_error.specs.declared.error.ErrorKind.{ErrorKind}
+use Rattle.protox_file_error.specs.declared.error.ErrorKind.TheVariants as kinds
+use Rattle.protox_compile_walk.specs.Walk.{Done, records}
+use Rattle.protox_compile_walk.specs.Opening.{Accepted, closure}
+use Rattle.protox_compile_walk.specs.Closures.{StopsAt}
+use Rattle.protox_compile_walk.specs.Compiled.{IsOrdered}
+use Rattle.protox_compile_walk.specs.Refusals.{HasOpeningsCause}
 use Rattle.protox_compile.specs.Sets.{IsSet, AreDecodable, IsUndecodable}
 use Rattle.protox_compile.specs.State.{most_files}
 use Rattle.protox_transcode.specs.Json.{json_line}

@@ -1,13 +1,13 @@
 //! The set of the files of a pool.
 
 ghost use Rattle.std.specs.Prelude.{◌≡◌, ◌⊎◌, option_map, find, IfOk, IfErr, OnOk};
-ghost use Rattle.pbx_definitions.specs.Names.{text_or_empty};
-ghost use Rattle.pbx_described.specs.Descriptors.{FileDescribed};
+ghost use Rattle.pbx_link_definitions.specs.Names.{text_or_empty};
+ghost use Rattle.pbx_link_meaning.specs.Descriptors.{FileDescribed};
 ghost use Rattle.protox_transcode.specs.Parts.{IsNoSet};
 ghost use Rattle.protox_compile.specs.Sets.{is_undecodable, AreDecodable, IsSet};
 
 use crate::error::TopError;
-use pbx_decodable::{encode_decodable, is_decodable};
+use pbx_desc_decodable::{encode_decodable, is_decodable};
 use pbx_link::{DescriptorPool, FileDescriptor, file_set};
 use pbx_wire::{Blob, NoMemory, Text};
 use protox_file_sources::{Error, ErrorKind};

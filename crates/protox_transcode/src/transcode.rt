@@ -5,14 +5,14 @@ ghost use Rattle.serde_json.specs.View.{view};
 ghost use Rattle.pbx_json_meaning.specs.Canonical.{canonical};
 ghost use Rattle.pbx_json_meaning.specs.Options.{default_reading, default_writing};
 ghost use Rattle.pbx_json_meaning.specs.Trees.{HasTexts};
-ghost use Rattle.pbx_pool_laws.specs.Pool.{ArePooled};
-ghost use Rattle.pbx_described.specs.Descriptors.{message_of_name};
-ghost use Rattle.pbx_described.specs.Shapes.{shape_of, place_of};
+ghost use Rattle.pbx_link_rules.specs.Pool.{ArePooled};
+ghost use Rattle.pbx_link_meaning.specs.Descriptors.{message_of_name};
+ghost use Rattle.pbx_link_meaning.specs.Shapes.{shape_of, place_of};
 ghost use Rattle.pbx_message_dynamic.specs.Trees.{IsRead};
 ghost use Rattle.protox_io.specs.Count.{Later};
 ghost use Rattle.protox_file_sources.specs.Causes.{FaultCause};
-ghost use Rattle.protox_walk.specs.Walk.{Done, records};
-ghost use Rattle.protox_walk.specs.Compiled.{IsOrdered};
+ghost use Rattle.protox_compile_walk.specs.Walk.{Done, records};
+ghost use Rattle.protox_compile_walk.specs.Compiled.{IsOrdered};
 ghost use Rattle.protox_transcode.specs.Input.{data_of};
 ghost use Rattle.protox_transcode.specs.Parts.{IsClear, IsNotClear, IsNotTold, IsNamed, IsNotNamed, IsNotWritten, IsWire, IsWritten};
 ghost use Rattle.protox_transcode.specs.Top.{ForFiles, HaveClearNames, IsTranscoded, IsRefused, Refuses, IsCaused, IsJudged, Transcodes};
@@ -20,12 +20,13 @@ ghost use Rattle.protox_transcode.specs.Top.{ForFiles, HaveClearNames, IsTransco
 use crate::error::{TopError, file_error, json_error, names_error};
 use crate::input_tree::InputTree;
 use crate::set::set_of;
+use pbx_content::encoding_decodes;
 use pbx_desc_encoding::Message;
 use pbx_json::{JsonMessage, check_names, fits_levels};
-use pbx_json_laws::{canonical_stands, fitting_is_written, values_have_texts};
-use pbx_json_shape_laws::shapes_are_well_named;
+use pbx_json_laws::{
+    canonical_stands, fitting_is_written, shapes_are_well_named, values_have_texts,
+};
 use pbx_link::{DescriptorPool, MessageDescriptor};
-use pbx_meaning::encoding_decodes;
 use pbx_message_dynamic::DynamicMessage;
 use pbx_message_laws::kinds_have_types;
 use pbx_wire::{Blob, NoMemory, Text, Texts};

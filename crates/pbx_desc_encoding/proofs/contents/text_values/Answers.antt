@@ -1,8 +1,8 @@
 use Rattle.std.proofs.Common.{ap, ◌∙◌}
-use Rattle.pbx_meaning.specs.declared.shape.Kind.TheVariants as kind
-use Rattle.pbx_codec.specs.declared.contents.Held as held
-use Rattle.pbx_meaning.specs.Content.{text}
-use Rattle.pbx_desc_shape.specs.DescriptorShape.{descriptor_shape}
+use Rattle.pbx_content.specs.declared.shape.Kind.TheVariants as kind
+use Rattle.pbx_content_codec.specs.declared.contents.Held as held
+use Rattle.pbx_content.specs.Content.{text}
+use Rattle.pbx_desc_shapes.specs.DescriptorShape.{descriptor_shape}
 use Rattle.pbx_desc_encoding.proofs.Told.{val_of-Text, values_more, are_more, same_utf8}
 use Rattle.pbx_desc_encoding.proofs.contents.text_values.Goals as goal
 

@@ -1,9 +1,9 @@
 use Rattle.std.proofs.Common.{◌≡◌, List, length, subst, sym, ap, ◌^◌, ◌<◌, ℕ, arith, rules}
-use Rattle.pbx_meaning.specs.Encoding.{encoded}
-use Rattle.pbx_meaning.specs.Same.{Decodes, DecodesParts}
-use Rattle.pbx_codec.specs.View.{content_of}
-use Rattle.pbx_desc_shape.specs.DescriptorShape.{descriptor_shape}
-use Rattle.pbx_desc_shape.proofs.DescriptorsProper.{descriptor_shape_proper}
+use Rattle.pbx_content.specs.Encoding.{encoded}
+use Rattle.pbx_content.specs.Same.{Decodes, DecodesParts}
+use Rattle.pbx_content_codec.specs.View.{content_of}
+use Rattle.pbx_desc_shapes.specs.DescriptorShape.{descriptor_shape}
+use Rattle.pbx_desc_shapes.proofs.DescriptorsProper.{descriptor_shape_proper}
 use Rattle.pbx_desc_encoding.proofs.encoding.to_bytes.Goals as goal
 
 pub returns-clause-decodes : goal.returns-clause-decodes

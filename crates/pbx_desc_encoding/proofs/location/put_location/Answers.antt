@@ -1,5 +1,5 @@
 use Rattle.std.proofs.Common.{refl}
-use Rattle.pbx_desc_shape.specs.DescriptorShape.{location_fields}
+use Rattle.pbx_desc_shapes.specs.DescriptorShape.{location_fields}
 use Rattle.pbx_desc_encoding.specs.Content.{location_values}
 use Rattle.pbx_desc_encoding.proofs.Behind.{begin_alone, written, written_packed, finished}
 use Rattle.pbx_desc_encoding.proofs.Places.{on_ok}

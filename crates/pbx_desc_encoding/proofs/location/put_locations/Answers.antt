@@ -1,10 +1,10 @@
 use Rattle.std.proofs.Common.{◌++◌, ℕ, List, ap, ◌∙◌}
 use Rattle.pbx_wire.specs.Text.{text as text_of_rec}
 use Rattle.pbx_wire.specs.declared.rec.Rec.TheVariants as rec
-use Rattle.pbx_meaning.specs.declared.shape.Kind.TheVariants as kind
-use Rattle.pbx_meaning.specs.Content.{message}
-use Rattle.pbx_meaning.specs.Encoding.{payload, content_recs}
-use Rattle.pbx_desc_shape.specs.DescriptorShape.{descriptor_shape}
+use Rattle.pbx_content.specs.declared.shape.Kind.TheVariants as kind
+use Rattle.pbx_content.specs.Content.{message}
+use Rattle.pbx_content.specs.Encoding.{payload, content_recs}
+use Rattle.pbx_desc_shapes.specs.DescriptorShape.{descriptor_shape}
 use Rattle.pbx_desc_records.specs.declared.source.Location.{Location}
 use Rattle.pbx_desc_encoding.specs.Content.{location_content}
 use Rattle.pbx_desc_encoding.proofs.Behind.{sent_next, all_sent, written_is}

@@ -4,10 +4,10 @@ use Rattle.std.specs.Int.{w32}
 use Rattle.std.specs.Int.RustNames.{FitsSigned}
 use Rattle.std.proofs.lemmas.List.{get_or_default}
 use Rattle.pbx_wire.specs.Varint.{varint}
-use Rattle.pbx_meaning.specs.declared.shape.Kind.TheVariants as kind
-use Rattle.pbx_meaning.specs.Content.{number}
-use Rattle.pbx_meaning.specs.Encoding.{numeral}
-use Rattle.pbx_desc_shape.specs.DescriptorShape.{descriptor_shape}
+use Rattle.pbx_content.specs.declared.shape.Kind.TheVariants as kind
+use Rattle.pbx_content.specs.Content.{number}
+use Rattle.pbx_content.specs.Encoding.{numeral}
+use Rattle.pbx_desc_shapes.specs.DescriptorShape.{descriptor_shape}
 use Rattle.pbx_desc_encoding.proofs.Places.{packed_next}
 use Rattle.pbx_desc_encoding.proofs.Told.{are_more}
 use Rattle.pbx_desc_encoding.proofs.location.put_numbers.Goals as goal

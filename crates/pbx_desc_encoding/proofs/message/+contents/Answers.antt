@@ -1,9 +1,9 @@
 use Rattle.std.proofs.Common.{subst, refl, sym, ap, ◌∙◌}
 use Rattle.std.specs.Prelude.{IfOk}
-use Rattle.pbx_codec.specs.declared.contents.Held as held
-use Rattle.pbx_meaning.specs.declared.shape.Kind.TheVariants as kind
-use Rattle.pbx_meaning.specs.Content.{Content, message}
-use Rattle.pbx_desc_shape.specs.DescriptorShape.{descriptor_shape, message_fields}
+use Rattle.pbx_content_codec.specs.declared.contents.Held as held
+use Rattle.pbx_content.specs.declared.shape.Kind.TheVariants as kind
+use Rattle.pbx_content.specs.Content.{Content, message}
+use Rattle.pbx_desc_shapes.specs.DescriptorShape.{descriptor_shape, message_fields}
 use Rattle.pbx_desc_records.specs.declared.message.DescriptorProto.{out-DescriptorProto}
 use Rattle.pbx_desc_encoding.specs.Building.{Holds}
 use Rattle.pbx_desc_encoding.specs.Content.{message_values, message_content}

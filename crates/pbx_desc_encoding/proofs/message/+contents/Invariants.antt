@@ -1,8 +1,8 @@
 use Rattle.std.proofs.Common.{◌≡◌, map, take}
-use Rattle.pbx_meaning.specs.declared.shape.Kind.TheVariants as kind
-use Rattle.pbx_meaning.specs.Content.{message}
-use Rattle.pbx_codec.specs.View.{val_of}
-use Rattle.pbx_desc_shape.specs.DescriptorShape.{descriptor_shape}
+use Rattle.pbx_content.specs.declared.shape.Kind.TheVariants as kind
+use Rattle.pbx_content.specs.Content.{message}
+use Rattle.pbx_content_codec.specs.View.{val_of}
+use Rattle.pbx_desc_shapes.specs.DescriptorShape.{descriptor_shape}
 use Rattle.pbx_desc_encoding.specs.Content.{message_content}
 use Rattle.pbx_desc_encoding.specs.Sound.{AreOf}
 use Rattle.pbx_desc_encoding.proofs.message.+contents.Given as goal

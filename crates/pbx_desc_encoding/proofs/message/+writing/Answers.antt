@@ -2,10 +2,10 @@ use Rattle.std.proofs.Common.{◌++◌, ℕ, List, subst, refl, sym, ap, ◌∙�
 use Rattle.std.specs.Prelude.{OnOk}
 use Rattle.pbx_wire.specs.Text.{text as text_of_rec}
 use Rattle.pbx_wire.specs.declared.rec.Rec.TheVariants as rec
-use Rattle.pbx_meaning.specs.declared.shape.Kind.TheVariants as kind
-use Rattle.pbx_meaning.specs.Content.{Content, message}
-use Rattle.pbx_meaning.specs.Encoding.{payload, content_recs}
-use Rattle.pbx_desc_shape.specs.DescriptorShape.{descriptor_shape, message_fields}
+use Rattle.pbx_content.specs.declared.shape.Kind.TheVariants as kind
+use Rattle.pbx_content.specs.Content.{Content, message}
+use Rattle.pbx_content.specs.Encoding.{payload, content_recs}
+use Rattle.pbx_desc_shapes.specs.DescriptorShape.{descriptor_shape, message_fields}
 use Rattle.pbx_desc_records.specs.declared.message.DescriptorProto.{out-DescriptorProto}
 use Rattle.pbx_desc_encoding.specs.Building.{IsWritten}
 use Rattle.pbx_desc_encoding.specs.Content.{message_values, message_content}

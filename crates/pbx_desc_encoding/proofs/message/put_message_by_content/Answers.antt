@@ -1,5 +1,5 @@
 use Rattle.std.proofs.Common.{refl}
-use Rattle.pbx_codec.specs.View.{content_of}
+use Rattle.pbx_content_codec.specs.View.{content_of}
 use Rattle.pbx_desc_encoding.specs.Content.{message_content}
 use Rattle.pbx_desc_encoding.proofs.Places.{on_ok, content_written}
 use Rattle.pbx_desc_encoding.proofs.message.put_message_by_content.Goals as goal

@@ -1,4 +1,4 @@
-use Rattle.pbx_codec.specs.View.{content_of}
+use Rattle.pbx_content_codec.specs.View.{content_of}
 use Rattle.pbx_desc_encoding.proofs.Places.{on_ok, content_written}
 use Rattle.pbx_desc_encoding.proofs.parts.put_by_content.Goals as goal
 

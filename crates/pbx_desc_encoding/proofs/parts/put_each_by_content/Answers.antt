@@ -1,8 +1,8 @@
-use Rattle.pbx_meaning.specs.declared.shape.Kind.TheVariants as kind
-use Rattle.pbx_meaning.specs.Content.{message}
-use Rattle.pbx_meaning.specs.Encoding.{payload, content_recs}
-use Rattle.pbx_codec.specs.View.{content_of}
-use Rattle.pbx_desc_shape.specs.DescriptorShape.{descriptor_shape}
+use Rattle.pbx_content.specs.declared.shape.Kind.TheVariants as kind
+use Rattle.pbx_content.specs.Content.{message}
+use Rattle.pbx_content.specs.Encoding.{payload, content_recs}
+use Rattle.pbx_content_codec.specs.View.{content_of}
+use Rattle.pbx_desc_shapes.specs.DescriptorShape.{descriptor_shape}
 use Rattle.pbx_desc_encoding.proofs.Behind.{sent_next, sent_here, all_sent}
 use Rattle.pbx_desc_encoding.proofs.Told.{are_more}
 use Rattle.pbx_desc_encoding.proofs.parts.put_each_by_content.Goals as goal

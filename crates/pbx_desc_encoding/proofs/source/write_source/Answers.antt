@@ -1,5 +1,5 @@
 use Rattle.std.proofs.Common.{refl}
-use Rattle.pbx_desc_shape.specs.DescriptorShape.{source_code_info_fields}
+use Rattle.pbx_desc_shapes.specs.DescriptorShape.{source_code_info_fields}
 use Rattle.pbx_desc_encoding.specs.Content.{source_code_info_values}
 use Rattle.pbx_desc_encoding.proofs.Behind.{begin, anew, written, closed}
 use Rattle.pbx_desc_encoding.proofs.Told.{on_both}

@@ -2,9 +2,9 @@ use Rattle.std.proofs.Common.{◌≡◌, ap, ◌∙◌, subst, of_z, to_z, rules
 use Rattle.std.specs.Prelude.{ℤ}
 use Rattle.std.specs.Int.{w32}
 use Rattle.std.specs.Int.RustNames.{FitsSigned}
-use Rattle.pbx_meaning.specs.declared.shape.Kind.TheVariants as kind
-use Rattle.pbx_meaning.specs.Content.{number}
-use Rattle.pbx_meaning.specs.Encoding.{numeral}
+use Rattle.pbx_content.specs.declared.shape.Kind.TheVariants as kind
+use Rattle.pbx_content.specs.Content.{number}
+use Rattle.pbx_content.specs.Encoding.{numeral}
 use Rattle.pbx_desc_encoding.proofs.Places.{on_ok, number_written, no_number}
 use Rattle.pbx_desc_encoding.proofs.values.put_number.Goals as goal
 

@@ -1,5 +1,5 @@
 use Rattle.std.proofs.Common.{[], refl}
-use Rattle.pbx_codec.specs.View.{content_of}
+use Rattle.pbx_content_codec.specs.View.{content_of}
 use Rattle.pbx_desc_encoding.specs.Content.{options_content}
 use Rattle.pbx_desc_encoding.proofs.Behind.{sent_here}
 use Rattle.pbx_desc_encoding.proofs.Built.{start, made}

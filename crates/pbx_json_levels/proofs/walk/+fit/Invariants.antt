@@ -1,10 +1,10 @@
 use Rattle.std.proofs.Common.{◌≡◌, ◌+◌, ◌*◌, map, drop}
 use Rattle.std.specs.List.{list_all}
-use Rattle.pbx_meaning.specs.Content.{vals_of, pairs_of}
-use Rattle.pbx_meaning.specs.Shape.{fields_of}
-use Rattle.pbx_codec.specs.View.{val_of, pair_of, entry_of, fields_in}
+use Rattle.pbx_content.specs.Content.{vals_of, pairs_of}
+use Rattle.pbx_content.specs.Shape.{fields_of}
+use Rattle.pbx_content_codec.specs.View.{val_of, pair_of, entry_of, fields_in}
 use Rattle.pbx_json_meaning.specs.Fits.{payload_fits, fields_payloads, vals_payloads, pairs_payloads}
-use Rattle.pbx_field_names.specs.Index.{AreTypesIn}
+use Rattle.pbx_json_schema.specs.Index.{AreTypesIn}
 use Rattle.pbx_json_levels.proofs.walk.+fit.Given as goal
 
 -- The room is the measure: what is called at the same room stands below its caller in this order.

@@ -1,7 +1,7 @@
 use Rattle.std.proofs.Common.{List, sym, ◌∙◌, ap}
-use Rattle.pbx_meaning.specs.declared.shape.MessageShape.{MessageShape}
-use Rattle.pbx_meaning.specs.declared.shape.Shape.{Shape}
-use Rattle.pbx_well_known.specs.Types.{message_name_at}
+use Rattle.pbx_content.specs.declared.shape.MessageShape.{MessageShape}
+use Rattle.pbx_content.specs.declared.shape.Shape.{Shape}
+use Rattle.pbx_wkt_types.specs.Types.{message_name_at}
 use Rattle.pbx_json_reading.proofs.Names.{message_here, message_past}
 use Rattle.pbx_json_reading.proofs.opened.message_name.Goals as goal
 

@@ -1,18 +1,18 @@
 use Rattle.std.proofs.Common.{◌≡◌, ◌∙◌, ap, sym, None, option_map, Ok, Err, rules, ◌∷◌}
 use Rattle.serde_json.specs.View.{view, members_view}
-use Rattle.pbx_meaning.specs.Shape.{declared_of}
-use Rattle.pbx_meaning.specs.declared.shape.Kind.TheVariants.{Message}
-use Rattle.pbx_codec.specs.View.{content_of, val_of}
+use Rattle.pbx_content.specs.Shape.{declared_of}
+use Rattle.pbx_content.specs.declared.shape.Kind.TheVariants.{Message}
+use Rattle.pbx_content_codec.specs.View.{content_of, val_of}
 use Rattle.pbx_json_walk.specs.Walk.{walk, start, parts, answer_map, content_found, walk_entries, no_entries, map_value, answers, and_then}
 use Rattle.pbx_json_walk.specs.Walk.{Part, walk_payload, payload_found, elements_in, parts_in}
-use Rattle.pbx_json_reading_objects.specs.States.{state_of, entries_of}
+use Rattle.pbx_json_reading.specs.States.{state_of, entries_of}
 use Rattle.pbx_json_reading.specs.Objects.{parts_read}
 use Rattle.std.proofs.Common.{Some, true}
-use Rattle.pbx_meaning.specs.Meaning.{shown}
+use Rattle.pbx_content.specs.Meaning.{shown}
 use Rattle.pbx_json_meaning.specs.Asked.{field, one, target_by, has_presence}
 use Rattle.pbx_json_meaning.specs.Names.{field_named}
 use Rattle.pbx_json_meaning.specs.declared.place.Step.TheVariants.{Key as to_key}
-use Rattle.pbx_meaning.specs.declared.shape.Kind.TheVariants.{String as a_text}
+use Rattle.pbx_content.specs.declared.shape.Kind.TheVariants.{String as a_text}
 use Rattle.pbx_json_walk.specs.Walk.{at_step, or_here, value_turn, target_answer, list_answer, map_answer, message_answer, message_found, key_judged, payload_turn, entry_turn}
 use Rattle.pbx_json_reading.specs.Objects.{fields_object, member_turn, payload_object}
 use Rattle.pbx_json_reading.proofs.Members.{member_read, payload_value, payload_other, fields_walk, fields_first, map_walk, payload_walk, fault_from}

@@ -1,12 +1,12 @@
 use Rattle.std.proofs.Common.{◌≡◌, ◌+◌, ◌*◌, [], None, option_map, map, drop}
 use Rattle.serde_json.specs.View.{items_view, members_view}
-use Rattle.pbx_meaning.specs.Shape.{declared_of}
-use Rattle.pbx_meaning.specs.declared.shape.Kind.TheVariants.{Message}
-use Rattle.pbx_codec.specs.View.{val_of, content_of}
-use Rattle.pbx_field_names.specs.Index.{AreNamesIn}
+use Rattle.pbx_content.specs.Shape.{declared_of}
+use Rattle.pbx_content.specs.declared.shape.Kind.TheVariants.{Message}
+use Rattle.pbx_content_codec.specs.View.{val_of, content_of}
+use Rattle.pbx_json_schema.specs.Index.{AreNamesIn}
 use Rattle.pbx_json_walk.specs.Walk.{walk, start, parts, walk_items, items_answers, walk_entries, no_entries, walk_payload}
 use Rattle.pbx_json_reading.specs.Objects.{parts_read}
-use Rattle.pbx_json_reading_objects.specs.States.{state_of, entries_of}
+use Rattle.pbx_json_reading.specs.States.{state_of, entries_of}
 use Rattle.pbx_json_reading.proofs.read.+tree.Given as goal
 
 abbrev pub decreases-read_message : goal.decreases-read_message

@@ -1,10 +1,10 @@
 use Rattle.std.proofs.Common.{◌≡◌, Some, sym, ap, subst, ◌∙◌}
-use Rattle.pbx_meaning.specs.Content.{get, fields}
-use Rattle.pbx_meaning.specs.Meaning.{meaning_of}
-use Rattle.pbx_codec.specs.View.{content_of}
+use Rattle.pbx_content.specs.Content.{get, fields}
+use Rattle.pbx_content.specs.Meaning.{meaning_of}
+use Rattle.pbx_content_codec.specs.View.{content_of}
 use Rattle.pbx_json_meaning.specs.Forms.{text_at}
 use Rattle.pbx_json_meaning.specs.Urls.{type_of_url}
-use Rattle.pbx_json_writing_scalars.specs.Refusals.{IsPayloadRefused}
+use Rattle.pbx_json_writing.specs.Refusals.{IsPayloadRefused}
 use Rattle.pbx_json_writing.proofs.OfAny.{payload_refused}
 use Rattle.pbx_json_writing.proofs.any.payload_of.Goals as goal
 

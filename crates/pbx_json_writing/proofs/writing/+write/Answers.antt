@@ -3,24 +3,24 @@ use Rattle.serde_json.specs.Data.{array, object}
 use Rattle.serde_json.specs.View.{view, members_view}
 use Rattle.serde_json.specs.declared.value.Value.{Null, Array, Object, the_lemmas}
 use Rattle.pbx_json_meaning.specs.Canonical.{items_of}
-use Rattle.pbx_meaning.specs.Content.{content, message}
-use Rattle.pbx_meaning.specs.Encoding.{type_of}
-use Rattle.pbx_meaning.specs.Shape.{declared_of, field_of}
-use Rattle.pbx_codec.specs.View.{content_of, entry_of, fields_in}
-use Rattle.pbx_codec.specs.declared.contents.Contents.{out-Contents}
-use Rattle.pbx_codec.specs.declared.contents.Held.{Held}
+use Rattle.pbx_content.specs.Content.{content, message}
+use Rattle.pbx_content.specs.Encoding.{type_of}
+use Rattle.pbx_content.specs.Shape.{declared_of, field_of}
+use Rattle.pbx_content_codec.specs.View.{content_of, entry_of, fields_in}
+use Rattle.pbx_content_codec.specs.declared.contents.Contents.{out-Contents}
+use Rattle.pbx_content_codec.specs.declared.contents.Held.{Held}
 use Rattle.pbx_json_meaning.specs.Asked.{one}
 use Rattle.pbx_json_meaning.specs.Canonical.{tells}
 use Rattle.pbx_json_meaning.specs.declared.kind.JsonKind.TheVariants as fault
 use Rattle.pbx_json_meaning.specs.Canonical.{writing}
-use Rattle.pbx_json_writing_scalars.specs.Refusals.{Refused}
+use Rattle.pbx_json_writing.specs.Refusals.{Refused}
 use Rattle.pbx_json_writing.proofs.OfAny.{any_told, any_refused}
-use Rattle.pbx_json_writing_forms.proofs.Arrays.{list_value, array_refused, array_more, array_done}
-use Rattle.pbx_json_writing_forms.proofs.Entries.{map_value, entry_refused, entry_step, entries_done}
-use Rattle.pbx_json_writing_forms.proofs.OfFields.{field_unknown, field_refused, field_step, fields_done}
-use Rattle.pbx_json_writing_forms.proofs.OfValues.{struct_told, struct_refused, list_told, list_refused, is_value, held_value_told, held_value_refused}
-use Rattle.pbx_json_writing_scalars.proofs.Refusing.{refused_here}
-use Rattle.pbx_json_writing_forms.proofs.Views.{content_is, val_of-Pairs, array_view, object_view}
+use Rattle.pbx_json_writing.proofs.Arrays.{list_value, array_refused, array_more, array_done}
+use Rattle.pbx_json_writing.proofs.Entries.{map_value, entry_refused, entry_step, entries_done}
+use Rattle.pbx_json_writing.proofs.OfFields.{field_unknown, field_refused, field_step, fields_done}
+use Rattle.pbx_json_writing.proofs.OfValues.{struct_told, struct_refused, list_told, list_refused, is_value, held_value_told, held_value_refused}
+use Rattle.pbx_json_writing.proofs.Refusing.{refused_here}
+use Rattle.pbx_json_writing.proofs.Views.{content_is, val_of-Pairs, array_view, object_view}
 use Rattle.pbx_json_writing.proofs.writing.+write.Goals as goal
 
 pub held_tree-returns-in-Pairs-clause-refused : goal.held_tree-returns-in-Pairs-clause-refused

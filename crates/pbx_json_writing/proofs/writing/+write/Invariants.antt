@@ -1,14 +1,14 @@
 use Rattle.std.proofs.Common.{◌≡◌, ◌+◌, ◌*◌, Some, map, take}
 use Rattle.serde_json.specs.View.{view, members_view}
-use Rattle.pbx_meaning.specs.Encoding.{type_of}
-use Rattle.pbx_meaning.specs.Shape.{declared_of}
+use Rattle.pbx_content.specs.Encoding.{type_of}
+use Rattle.pbx_content.specs.Shape.{declared_of}
 use Rattle.pbx_json_meaning.specs.Stands.{all_read}
 use Rattle.pbx_json_meaning.specs.Canonical.{writing}
-use Rattle.pbx_json_writing_scalars.specs.Indexes.{AreIndexes}
-use Rattle.pbx_json_writing_forms.specs.Lines.{collected}
-use Rattle.pbx_json_writing_forms.proofs.Arrays.{told}
-use Rattle.pbx_json_writing_forms.proofs.Entries.{entry}
-use Rattle.pbx_json_writing_forms.proofs.OfFields.{line}
+use Rattle.pbx_json_writing.specs.Indexes.{AreIndexes}
+use Rattle.pbx_json_writing.specs.Lines.{collected}
+use Rattle.pbx_json_writing.proofs.Arrays.{told}
+use Rattle.pbx_json_writing.proofs.Entries.{entry}
+use Rattle.pbx_json_writing.proofs.OfFields.{line}
 use Rattle.pbx_json_writing.proofs.writing.+write.Given as goal
 
 -- The room is the measure: what is called at the same room stands below its caller in this order.

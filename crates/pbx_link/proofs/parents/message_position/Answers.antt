@@ -1,5 +1,5 @@
 use Rattle.std.proofs.Common.{◌<◌, length, true, false, arith}
-use Rattle.pbx_definitions.specs.Definitions.{messages}
+use Rattle.pbx_link_definitions.specs.Definitions.{messages}
 use Rattle.pbx_link.proofs.FirstNamed.{by_name, none_named}
 use Rattle.pbx_link.proofs.parents.message_position.Goals as goal
 

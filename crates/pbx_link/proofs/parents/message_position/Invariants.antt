@@ -1,5 +1,5 @@
 use Rattle.std.proofs.Common.{◌-◌, length}
-use Rattle.pbx_definitions.specs.Definitions.{messages}
+use Rattle.pbx_link_definitions.specs.Definitions.{messages}
 use Rattle.pbx_link.proofs.FirstNamed.{IsLeft}
 use Rattle.pbx_link.proofs.parents.message_position.Given as goal
 

@@ -1,6 +1,6 @@
 use Rattle.std.proofs.Common.{◌≡◌, ◌∙◌, ℕ, ◌+◌, ◌-◌, length, ap, sym, arith}
 use Rattle.pbx_desc_records.specs.declared.file.FileDescriptorProto.{FileDescriptorProto}
-use Rattle.pbx_definitions.specs.Definitions.{messages}
+use Rattle.pbx_link_definitions.specs.Definitions.{messages}
 use Rattle.pbx_link.specs.Tables.{no_message, messages_from}
 use Rattle.pbx_link.proofs.Walk.{file_passed}
 use Rattle.pbx_link.proofs.pool_messages.standing_from.Goals as goal

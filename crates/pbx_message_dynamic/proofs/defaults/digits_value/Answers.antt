@@ -1,7 +1,7 @@
 use Rattle.std.proofs.Common.{refl, get_or}
-use Rattle.pbx_scope_rules.specs.Defaults.{digits_value}
-use Rattle.pbx_scope_rules.specs.Digits.{small}
-use Rattle.pbx_scope_rules.proofs.Spelled.{spelled_next, spelled_none, spelled_done, digit_fits}
+use Rattle.pbx_link_rules_scope.specs.Defaults.{digits_value}
+use Rattle.pbx_link_rules_scope.specs.Digits.{small}
+use Rattle.pbx_link_rules_scope.proofs.Spelled.{spelled_next, spelled_none, spelled_done, digit_fits}
 use Rattle.pbx_message_dynamic.proofs.defaults.digits_value.Goals as goal
 
 pub returns-in-None : goal.returns-in-None

@@ -1,7 +1,7 @@
 use Rattle.std.proofs.Common.{◌≡◌, ◌<◌, ◌^◌, drop}
-use Rattle.pbx_scope_rules.specs.Defaults.{digits_value}
-use Rattle.pbx_scope_rules.specs.Digits.{small}
-use Rattle.pbx_scope_rules.proofs.Spelled.{spelled}
+use Rattle.pbx_link_rules_scope.specs.Defaults.{digits_value}
+use Rattle.pbx_link_rules_scope.specs.Digits.{small}
+use Rattle.pbx_link_rules_scope.proofs.Spelled.{spelled}
 use Rattle.pbx_message_dynamic.proofs.defaults.digits_value.Given as goal
 
 abbrev pub invariant-loop-digit : goal.invariant-loop-digit

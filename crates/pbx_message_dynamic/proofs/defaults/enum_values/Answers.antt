@@ -1,7 +1,7 @@
 use Rattle.std.proofs.Common.{List, ap, ◌∙◌}
-use Rattle.pbx_meaning.specs.declared.shape.EnumShape.{EnumShape}
-use Rattle.pbx_meaning.specs.declared.shape.Shape.{Shape}
-use Rattle.pbx_meaning.specs.Shape.{enum_values_at}
+use Rattle.pbx_content.specs.declared.shape.EnumShape.{EnumShape}
+use Rattle.pbx_content.specs.declared.shape.Shape.{Shape}
+use Rattle.pbx_content.specs.Shape.{enum_values_at}
 use Rattle.pbx_message_dynamic.proofs.EnumValues.{no_values, values_here}
 use Rattle.pbx_message_dynamic.proofs.defaults.enum_values.Goals as goal
 

@@ -1,4 +1,4 @@
-use Rattle.pbx_described.specs.Shapes.{shape_of}
+use Rattle.pbx_link_meaning.specs.Shapes.{shape_of}
 use Rattle.pbx_message_dynamic.proofs.GivenMaps.{list_sound, map_sound, map_field_given}
 use Rattle.pbx_message_dynamic.proofs.giving.field_value.Goals as goal
 

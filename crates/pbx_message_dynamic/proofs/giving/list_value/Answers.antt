@@ -1,4 +1,4 @@
-use Rattle.pbx_described.specs.Shapes.{shape_of}
+use Rattle.pbx_link_meaning.specs.Shapes.{shape_of}
 use Rattle.pbx_message_dynamic.specs.Given.{HoldsSound}
 use Rattle.pbx_message_dynamic.proofs.GivenValues.{one_sound, given_more, all_given}
 use Rattle.pbx_message_dynamic.proofs.giving.list_value.Goals as goal

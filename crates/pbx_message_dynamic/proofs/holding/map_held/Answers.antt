@@ -1,6 +1,6 @@
 use Rattle.std.proofs.Common.{◌≡◌, ◌++◌, ◌∷◌, [], List, sym, ap, ◌∙◌, rules, subst, append-nil, append_assoc, arith}
-use Rattle.pbx_codec.specs.declared.key.MapKey.{MapKey}
-use Rattle.pbx_key_map.specs.Keys.{IsInKeyOrder}
+use Rattle.pbx_content_codec.specs.declared.key.MapKey.{MapKey}
+use Rattle.pbx_message_dynamic.specs.Keys.{IsInKeyOrder}
 use Rattle.pbx_message_dynamic.specs.declared.value.Value.{Value}
 use Rattle.pbx_message_dynamic.specs.Values.{AreEntriesOfKinds}
 use Rattle.pbx_message_dynamic.proofs.Items.{none_left, no_pairs_held, pairs_held_more, map_of_held, one_pair}

@@ -1,8 +1,8 @@
 use Rattle.std.proofs.Common.{◌≡◌, rules}
-use Rattle.pbx_meaning.specs.Content.{message}
-use Rattle.pbx_codec.specs.View.{content_of, val_of}
-use Rattle.pbx_codec.specs.declared.contents.Held as held
-use Rattle.pbx_codec.specs.declared.contents.Contents.{the_lemmas}
+use Rattle.pbx_content.specs.Content.{message}
+use Rattle.pbx_content_codec.specs.View.{content_of, val_of}
+use Rattle.pbx_content_codec.specs.declared.contents.Held as held
+use Rattle.pbx_content_codec.specs.declared.contents.Contents.{the_lemmas}
 use Rattle.pbx_message_laws.specs.Pools.{IsPooled}
 use Rattle.pbx_message_dynamic.specs.Message.{dynamic}
 use Rattle.pbx_message_dynamic.proofs.Messages.{IsTaken, message_taken}

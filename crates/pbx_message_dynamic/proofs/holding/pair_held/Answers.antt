@@ -1,4 +1,4 @@
-use Rattle.pbx_codec.proofs.Tree.{pair_made}
+use Rattle.pbx_content_codec.proofs.Tree.{pair_made}
 use Rattle.pbx_message_dynamic.proofs.Items.{pair_is_held}
 use Rattle.pbx_message_dynamic.proofs.holding.pair_held.Goals as goal
 

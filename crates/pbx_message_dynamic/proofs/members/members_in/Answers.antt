@@ -1,4 +1,4 @@
-use Rattle.pbx_meaning.specs.Shape.{fields_of}
+use Rattle.pbx_content.specs.Shape.{fields_of}
 use Rattle.pbx_message_dynamic.proofs.Noting.{member_noted, none_noted}
 use Rattle.pbx_message_dynamic.proofs.members.members_in.Goals as goal
 use Rattle.pbx_message_dynamic.proofs.members.members_in.Goals.{in-Some+in_ok-put, in_default}

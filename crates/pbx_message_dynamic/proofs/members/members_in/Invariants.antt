@@ -1,6 +1,6 @@
 use Rattle.std.proofs.Common.{map, take}
-use Rattle.pbx_meaning.specs.Shape.{fields_of}
-use Rattle.pbx_codec.specs.View.{fields_in, entry_of}
+use Rattle.pbx_content.specs.Shape.{fields_of}
+use Rattle.pbx_content_codec.specs.View.{fields_in, entry_of}
 use Rattle.pbx_message_dynamic.specs.Members.{AreMembers}
 use Rattle.pbx_message_dynamic.proofs.members.members_in.Given as goal
 

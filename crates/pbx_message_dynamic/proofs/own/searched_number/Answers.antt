@@ -1,6 +1,6 @@
 use Rattle.std.proofs.Common.{◌≡◌, ◌++◌, ◌∷◌, [], List, ap, sym, ◌∙◌, append-nil, append_assoc}
 use Rattle.pbx_desc_records.specs.declared.field.FieldDescriptorProto.{FieldDescriptorProto}
-use Rattle.pbx_described.specs.Descriptors.{Described}
+use Rattle.pbx_link_meaning.specs.Descriptors.{Described}
 use Rattle.pbx_message_laws.specs.Pools.{IsPooled}
 use Rattle.pbx_message_dynamic.proofs.Named.{other_more, named_found, named_none}
 use Rattle.pbx_message_dynamic.proofs.own.searched_number.Goals as goal

@@ -1,5 +1,5 @@
 use Rattle.std.proofs.Common.{◌≡◌, ◌++◌}
-use Rattle.pbx_described.specs.Descriptors.{fields_of_message}
+use Rattle.pbx_link_meaning.specs.Descriptors.{fields_of_message}
 use Rattle.pbx_message_dynamic.proofs.Named.{AreOther}
 use Rattle.pbx_message_dynamic.proofs.own.searched_number.Given as goal
 

@@ -1,10 +1,10 @@
 use Rattle.std.proofs.lemmas.Int.{to_z-of_z}
 use Rattle.std.specs.Int.{w32}
 use Rattle.std.proofs.Common.{List, ap, ◌∙◌}
-use Rattle.pbx_meaning.specs.declared.shape.EnumShape.{EnumShape}
-use Rattle.pbx_meaning.specs.declared.shape.Shape.{Shape}
-use Rattle.pbx_meaning.specs.Shape.{first_of, enum_values_at}
-use Rattle.pbx_codec.proofs.Tree.{values_here, no_values}
+use Rattle.pbx_content.specs.declared.shape.EnumShape.{EnumShape}
+use Rattle.pbx_content.specs.declared.shape.Shape.{Shape}
+use Rattle.pbx_content.specs.Shape.{first_of, enum_values_at}
+use Rattle.pbx_content_codec.proofs.Tree.{values_here, no_values}
 use Rattle.pbx_message_dynamic.proofs.putting.first_value.Goals as goal
 
 pub returns-then-enum_at-enums : goal.returns-then-enum_at-enums

@@ -1,6 +1,6 @@
-use Rattle.pbx_meaning.specs.Content.{IsAscending, fields}
-use Rattle.pbx_meaning.specs.Shape.{fields_of}
-use Rattle.pbx_codec.specs.View.{content_of, val_of}
+use Rattle.pbx_content.specs.Content.{IsAscending, fields}
+use Rattle.pbx_content.specs.Shape.{fields_of}
+use Rattle.pbx_content_codec.specs.View.{content_of, val_of}
 use Rattle.pbx_message_laws.proofs.Changed.{sound_ascends}
 use Rattle.pbx_message_laws.proofs.Listed.{type_ascends}
 use Rattle.pbx_message_dynamic.proofs.KnownMembers.{member_put, member_known, alone_put, alone_known_on}

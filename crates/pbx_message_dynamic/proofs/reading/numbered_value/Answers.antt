@@ -1,12 +1,12 @@
 use Rattle.std.proofs.Common.{◌≡◌, Some, false, sym, ◌∙◌, subst}
 use Rattle.std.specs.Prelude.{Option, IfSome, option_map}
-use Rattle.pbx_meaning.specs.declared.shape.Shape.{Shape}
-use Rattle.pbx_meaning.specs.Content.{Val}
-use Rattle.pbx_meaning.specs.Shape.{field_of, fields_of, is_float}
-use Rattle.pbx_codec.specs.View.{content_of, val_of}
+use Rattle.pbx_content.specs.declared.shape.Shape.{Shape}
+use Rattle.pbx_content.specs.Content.{Val}
+use Rattle.pbx_content.specs.Shape.{field_of, fields_of, is_float}
+use Rattle.pbx_content_codec.specs.View.{content_of, val_of}
 use Rattle.pbx_desc_records.specs.declared.message.DescriptorProto.{DescriptorProto}
-use Rattle.pbx_described.specs.Descriptors.{Described}
-use Rattle.pbx_described.specs.Shapes.{shape_of, place_of}
+use Rattle.pbx_link_meaning.specs.Descriptors.{Described}
+use Rattle.pbx_link_meaning.specs.Shapes.{shape_of, place_of}
 use Rattle.pbx_message_laws.specs.Defaults.{value_or_default}
 use Rattle.pbx_message_laws.specs.Settable.{IsSettable}
 use Rattle.pbx_message_dynamic.specs.Given.{IsFieldGiven}

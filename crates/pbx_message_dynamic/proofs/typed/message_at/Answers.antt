@@ -1,8 +1,8 @@
 use Rattle.std.proofs.Common.{◌≡◌, List, map, get_or, ap, ◌∙◌}
-use Rattle.pbx_meaning.specs.declared.shape.MessageShape.{MessageShape}
-use Rattle.pbx_meaning.specs.declared.shape.Shape.{Shape}
-use Rattle.pbx_described.specs.Descriptors.{all_messages, message_of_name}
-use Rattle.pbx_described.specs.Shapes.{message_shape}
+use Rattle.pbx_content.specs.declared.shape.MessageShape.{MessageShape}
+use Rattle.pbx_content.specs.declared.shape.Shape.{Shape}
+use Rattle.pbx_link_meaning.specs.Descriptors.{all_messages, message_of_name}
+use Rattle.pbx_link_meaning.specs.Shapes.{message_shape}
 use Rattle.pbx_message_dynamic.proofs.Found.{found_by_name}
 use Rattle.pbx_message_dynamic.proofs.typed.message_at.Goals as goal
 

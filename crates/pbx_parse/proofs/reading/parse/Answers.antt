@@ -1,12 +1,12 @@
 use Rattle.std.proofs.Common.{◌≡◌, ◌∙◌, ℕ, List, ap, sym}
-use Rattle.pbx_token.specs.View.{tokens_of, FailsNot as lexed}
-use Rattle.pbx_tree.specs.View.{file_of}
-use Rattle.pbx_reader.specs.View.{FailsNot as spelled}
-use Rattle.pbx_tree.specs.Tree.{File}
+use Rattle.pbx_parse_token.specs.View.{tokens_of, FailsNot as lexed}
+use Rattle.pbx_parse_tree.specs.View.{file_of}
+use Rattle.pbx_parse_reader.specs.View.{FailsNot as spelled}
+use Rattle.pbx_parse_tree.specs.Tree.{File}
 use Rattle.pbx_desc_records.specs.declared.file.FileDescriptorProto.{FileDescriptorProto}
-use Rattle.pbx_locations.specs.declared.file.Extent.{Extent}
-use Rattle.pbx_locations.specs.Locations.{extent_of, locations_in}
-use Rattle.pbx_translation.specs.Translation.{translate_of}
+use Rattle.pbx_parse_locations.specs.declared.file.Extent.{Extent}
+use Rattle.pbx_parse_locations.specs.Locations.{extent_of, locations_in}
+use Rattle.pbx_parse_translation.specs.Translation.{translate_of}
 use Rattle.pbx_parse.specs.Reads.{record_of}
 use Rattle.pbx_parse.proofs.Refusals.{refuses_for, only_memory}
 use Rattle.pbx_parse.proofs.reading.parse.Goals as goal

@@ -1,5 +1,5 @@
 use Rattle.std.proofs.Common.{subst, sym}
-use Rattle.pbx_token.specs.View.{BeginIn}
+use Rattle.pbx_parse_token.specs.View.{BeginIn}
 use Rattle.pbx_parse.proofs.refusal.stop.Goals as goal
 
 pub returns-in-Some : goal.returns-in-Some

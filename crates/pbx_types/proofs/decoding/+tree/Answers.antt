@@ -1,10 +1,10 @@
 use Rattle.std.proofs.Common.{ap, refl, option_map, sym, ◌∙◌}
-use Rattle.pbx_meaning.specs.declared.shape.Kind.TheVariants as kind
-use Rattle.pbx_meaning.specs.Content.{message}
-use Rattle.pbx_codec.specs.View.{content_of}
-use Rattle.pbx_types_contents.proofs.Lists.{message_is, value_more}
-use Rattle.pbx_types_contents.proofs.Types.{struct_type, list_type}
-use Rattle.pbx_types_contents.proofs.Walk.{list_whole, map_whole}
+use Rattle.pbx_content.specs.declared.shape.Kind.TheVariants as kind
+use Rattle.pbx_content.specs.Content.{message}
+use Rattle.pbx_content_codec.specs.View.{content_of}
+use Rattle.pbx_types.proofs.Lists.{message_is, value_more}
+use Rattle.pbx_types.proofs.Types.{struct_type, list_type}
+use Rattle.pbx_types.proofs.Walk.{list_whole, map_whole}
 use Rattle.pbx_types.specs.Content.{struct_content, list_content, value_content}
 use Rattle.pbx_types.specs.Layers.{value_message, value_pair, held_pair}
 use Rattle.pbx_types.proofs.Reading.{field_more, field_lost, took_record, struct_made, list_made, value_rolled, members_read}

@@ -1,6 +1,6 @@
 use Rattle.std.proofs.Common.{◌+◌, ◌*◌}
-use Rattle.pbx_meaning.specs.declared.shape.Kind.TheVariants as kind
-use Rattle.pbx_types_contents.proofs.Lists.{AreValues}
+use Rattle.pbx_content.specs.declared.shape.Kind.TheVariants as kind
+use Rattle.pbx_types.proofs.Lists.{AreValues}
 use Rattle.pbx_types.specs.Layers.{value_message}
 use Rattle.pbx_types.proofs.Reading.{AreFields}
 use Rattle.pbx_types.proofs.decoding.+tree.Given as goal

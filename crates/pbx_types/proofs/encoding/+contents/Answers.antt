@@ -1,17 +1,17 @@
 use Rattle.std.proofs.Common.{◌≡◌, ℕ, List, map, option_map, None, refl, sym, ap, ◌∙◌, subst}
 use Rattle.std.proofs.lemmas.List.{take_all}
-use Rattle.pbx_meaning.specs.declared.shape.Kind.TheVariants as kind
-use Rattle.pbx_meaning.specs.Content.{Content, Key, Val, number, truth, text, text_key, message, vals_of, pairs_of}
-use Rattle.pbx_meaning.specs.Sound.{AreElements, ArePairs}
-use Rattle.pbx_codec.specs.declared.contents.Held as held
-use Rattle.pbx_codec.specs.View.{content_of, val_of, pair_of}
-use Rattle.pbx_codec.proofs.Tree.{val_of_message}
-use Rattle.pbx_text_map.specs.Texts.{IsInOrder}
-use Rattle.pbx_types_shape.specs.TypesShape.{types_shape}
-use Rattle.pbx_types_contents.specs.Building.{Holds}
-use Rattle.pbx_types_contents.proofs.Built.{one_made, puts_some, puts_pairs}
-use Rattle.pbx_types_contents.proofs.Told.{values_more, are_more}
-use Rattle.pbx_types_contents.proofs.Types.{struct_type, list_type}
+use Rattle.pbx_content.specs.declared.shape.Kind.TheVariants as kind
+use Rattle.pbx_content.specs.Content.{Content, Key, Val, number, truth, text, text_key, message, vals_of, pairs_of}
+use Rattle.pbx_content.specs.Sound.{AreElements, ArePairs}
+use Rattle.pbx_content_codec.specs.declared.contents.Held as held
+use Rattle.pbx_content_codec.specs.View.{content_of, val_of, pair_of}
+use Rattle.pbx_content_codec.proofs.Tree.{val_of_message}
+use Rattle.pbx_types.specs.Texts.{IsInOrder}
+use Rattle.pbx_desc_shapes.specs.TypesShape.{types_shape}
+use Rattle.pbx_types.specs.Building.{Holds}
+use Rattle.pbx_types.proofs.Built.{one_made, puts_some, puts_pairs}
+use Rattle.pbx_types.proofs.Told.{values_more, are_more}
+use Rattle.pbx_types.proofs.Types.{struct_type, list_type}
 use Rattle.pbx_types.specs.declared.tree.ListValue.{out-ListValue}
 use Rattle.pbx_types.specs.declared.tree.Struct.{out-Struct}
 use Rattle.pbx_types.specs.declared.tree.Value.{Value, out-Value}

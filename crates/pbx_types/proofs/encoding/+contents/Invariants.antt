@@ -1,9 +1,9 @@
 use Rattle.std.proofs.Common.{◌≡◌, map, take}
-use Rattle.pbx_meaning.specs.declared.shape.Kind.TheVariants as kind
-use Rattle.pbx_meaning.specs.Content.{vals_of}
-use Rattle.pbx_meaning.specs.Sound.{AreElements}
-use Rattle.pbx_codec.specs.View.{val_of, pair_of}
-use Rattle.pbx_types_shape.specs.TypesShape.{types_shape}
+use Rattle.pbx_content.specs.declared.shape.Kind.TheVariants as kind
+use Rattle.pbx_content.specs.Content.{vals_of}
+use Rattle.pbx_content.specs.Sound.{AreElements}
+use Rattle.pbx_content_codec.specs.View.{val_of, pair_of}
+use Rattle.pbx_desc_shapes.specs.TypesShape.{types_shape}
 use Rattle.pbx_types.specs.Layers.{value_message, value_pair}
 use Rattle.pbx_types.proofs.Pairs.{AreGood}
 use Rattle.pbx_types.proofs.encoding.+contents.Given as goal

@@ -1,6 +1,6 @@
 use Rattle.std.proofs.Common.{refl, ap, ◌∙◌}
-use Rattle.pbx_meaning.specs.Content.{text_key}
-use Rattle.pbx_types_contents.proofs.Told.{same_utf8}
+use Rattle.pbx_content.specs.Content.{text_key}
+use Rattle.pbx_types.proofs.Told.{same_utf8}
 use Rattle.pbx_types.proofs.encoding.named.Goals as goal
 
 pub returns : goal.returns

@@ -1,10 +1,10 @@
 use Rattle.std.proofs.Common.{◌≡◌, true, option_map, ap, ◌∙◌}
 use Rattle.std.specs.Str.{is_utf8}
-use Rattle.pbx_meaning.specs.Content.{number, text}
-use Rattle.pbx_codec.specs.declared.contents.Held as held
-use Rattle.pbx_codec.specs.View.{content_of, val_of}
-use Rattle.pbx_codec.proofs.Tree.{val_of-Text}
-use Rattle.pbx_types_contents.proofs.Told.{same_utf8, on_ok}
+use Rattle.pbx_content.specs.Content.{number, text}
+use Rattle.pbx_content_codec.specs.declared.contents.Held as held
+use Rattle.pbx_content_codec.specs.View.{content_of, val_of}
+use Rattle.pbx_content_codec.proofs.Tree.{val_of-Text}
+use Rattle.pbx_types.proofs.Told.{same_utf8, on_ok}
 use Rattle.pbx_types.specs.declared.tree.Value.{out-Value}
 use Rattle.pbx_types.proofs.Putting.{text_put}
 use Rattle.pbx_types.proofs.encoding.put_scalar.Goals as goal

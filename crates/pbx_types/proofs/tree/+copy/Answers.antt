@@ -1,6 +1,6 @@
 use Rattle.std.proofs.Common.{◌≡◌}
-use Rattle.pbx_text_map.specs.Texts.{IsInOrder}
-use Rattle.pbx_text_map.proofs.TextPlaces.{with_next}
+use Rattle.pbx_types.specs.Texts.{IsInOrder}
+use Rattle.pbx_types.proofs.TextPlaces.{with_next}
 use Rattle.pbx_types.proofs.tree.+copy.Goals as goal
 
 pub copy_fields-loop-field-preserved : goal.copy_fields-loop-field-preserved

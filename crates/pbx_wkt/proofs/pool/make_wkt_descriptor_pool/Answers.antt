@@ -1,6 +1,6 @@
 use Rattle.std.proofs.Common.{◌∙◌, ap}
-use Rattle.pbx_rules.specs.Breaches.{keeps_rules}
-use Rattle.pbx_pool_laws.specs.Pool.{with_file}
+use Rattle.pbx_link_rules.specs.Breaches.{keeps_rules}
+use Rattle.pbx_link_rules.specs.Pool.{with_file}
 use Rattle.pbx_wkt.proofs.Grown.{next_keeps, next_added}
 use Rattle.pbx_wkt.proofs.pool.make_wkt_descriptor_pool.Goals as goal
 

@@ -1,5 +1,5 @@
 use Rattle.std.proofs.Common.{◌≡◌, ◌++◌}
-use Rattle.protox_walk.specs.Compiled.{done_of}
+use Rattle.protox_compile_walk.specs.Compiled.{done_of}
 use Rattle.protox_compile.specs.Sets.{listed as listed_of}
 use Rattle.protox_compile.proofs.Listed.{left}
 use Rattle.protox_compile.proofs.sets.listed.Given as goal

@@ -1,7 +1,7 @@
 use Rattle.std.proofs.Common.{◌≡◌, ◌++◌, List}
 use Rattle.pbx_desc_records.specs.declared.file.FileDescriptorProto.{FileDescriptorProto}
 use Rattle.pbx_desc_encoding.specs.Sets.{IsSetOf}
-use Rattle.protox_walk.specs.Compiled.{done_of}
+use Rattle.protox_compile_walk.specs.Compiled.{done_of}
 use Rattle.protox_compile.specs.Sets.{listed as listed_of}
 use Rattle.protox_compile.proofs.Listed.{left}
 use Rattle.protox_compile.proofs.sets.listed_set.Given as goal

@@ -1,6 +1,6 @@
 use Rattle.std.proofs.Common.{◌≡◌, ◌∙◌, sym, true, false}
 use Rattle.serde_json.specs.View.{view}
-use Rattle.pbx_described.specs.Shapes.{shape_of, place_of}
+use Rattle.pbx_link_meaning.specs.Shapes.{shape_of, place_of}
 use Rattle.pbx_json_meaning.specs.Fits.{fits}
 use Rattle.protox_transcode.specs.Input.{data_of}
 use Rattle.protox_transcode.proofs.Transcoding.{ok_then, err_then, transcoded_as, not_told_as, too_deep_as}

@@ -1,6 +1,6 @@
 use Rattle.std.proofs.Common.{◌≡◌, ◌∙◌, sym, Some}
 use Rattle.serde_json.specs.View.{view}
-use Rattle.pbx_described.specs.Descriptors.{message_of_name}
+use Rattle.pbx_link_meaning.specs.Descriptors.{message_of_name}
 use Rattle.protox_transcode.specs.Input.{data_of}
 use Rattle.protox_transcode.proofs.Transcoding.{ok_then, err_then, clear_there, named, not_named}
 use Rattle.protox_transcode.proofs.transcode.transcode_named.Goals as goal

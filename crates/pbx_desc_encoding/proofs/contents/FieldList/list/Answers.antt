@@ -1,6 +1,6 @@
 use Rattle.std.proofs.Common.{[], map, refl}
-use Rattle.pbx_meaning.specs.declared.shape.Cardinality.TheVariants.{Repeated}
-use Rattle.pbx_codec.specs.View.{val_of}
+use Rattle.pbx_content.specs.declared.shape.Cardinality.TheVariants.{Repeated}
+use Rattle.pbx_content_codec.specs.View.{val_of}
 use Rattle.pbx_desc_encoding.proofs.Built.{put_list, put_nothing}
 use Rattle.pbx_desc_encoding.proofs.contents.FieldList.list.Goals as goal
 

@@ -1,9 +1,9 @@
 use Rattle.std.proofs.Common.{◌≡◌, ap, ◌∙◌, to_z, of_z, rules, subst}
 use Rattle.std.specs.Int.{w32}
 use Rattle.std.specs.Int.RustNames.{FitsSigned}
-use Rattle.pbx_meaning.specs.declared.shape.Cardinality.TheVariants.{Singular}
-use Rattle.pbx_meaning.specs.declared.shape.Kind.TheVariants as kind
-use Rattle.pbx_meaning.specs.Content.{number}
+use Rattle.pbx_content.specs.declared.shape.Cardinality.TheVariants.{Singular}
+use Rattle.pbx_content.specs.declared.shape.Kind.TheVariants as kind
+use Rattle.pbx_content.specs.Content.{number}
 use Rattle.pbx_desc_encoding.proofs.Built.{put_value, put_nothing}
 use Rattle.pbx_desc_encoding.proofs.contents.FieldList.number.Goals as goal
 

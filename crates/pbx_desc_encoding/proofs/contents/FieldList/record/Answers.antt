@@ -1,8 +1,8 @@
-use Rattle.pbx_meaning.specs.declared.shape.Cardinality.TheVariants.{Singular}
-use Rattle.pbx_meaning.specs.declared.shape.Kind.TheVariants as kind
-use Rattle.pbx_codec.specs.declared.contents.Held as held
+use Rattle.pbx_content.specs.declared.shape.Cardinality.TheVariants.{Singular}
+use Rattle.pbx_content.specs.declared.shape.Kind.TheVariants as kind
+use Rattle.pbx_content_codec.specs.declared.contents.Held as held
 use Rattle.std.proofs.Common.{ap, ◌∙◌}
-use Rattle.pbx_meaning.specs.Content.{message}
+use Rattle.pbx_content.specs.Content.{message}
 use Rattle.pbx_desc_encoding.proofs.Built.{put_value, put_nothing}
 use Rattle.pbx_desc_encoding.proofs.Told.{val_of-Message}
 use Rattle.pbx_desc_encoding.proofs.contents.FieldList.record.Goals as goal

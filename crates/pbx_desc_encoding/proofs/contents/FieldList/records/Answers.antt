@@ -1,6 +1,6 @@
 use Rattle.std.proofs.Common.{map}
-use Rattle.pbx_meaning.specs.declared.shape.Kind.TheVariants as kind
-use Rattle.pbx_meaning.specs.Content.{message}
+use Rattle.pbx_content.specs.declared.shape.Kind.TheVariants as kind
+use Rattle.pbx_content.specs.Content.{message}
 use Rattle.pbx_desc_encoding.proofs.Built.{puts_listed}
 use Rattle.pbx_desc_encoding.proofs.contents.FieldList.records.Goals as goal
 

@@ -1,6 +1,6 @@
 use Rattle.std.proofs.Common.{List, ap, ◌∙◌}
 use Rattle.pbx_wire.specs.declared.rec.Rec.{Rec}
-use Rattle.pbx_meaning.specs.Content.{content}
+use Rattle.pbx_content.specs.Content.{content}
 use Rattle.pbx_desc_encoding.specs.Building.{entries}
 use Rattle.pbx_desc_encoding.proofs.Built.{list_made}
 use Rattle.pbx_desc_encoding.proofs.contents.FieldList.with_unknown.Goals as goal

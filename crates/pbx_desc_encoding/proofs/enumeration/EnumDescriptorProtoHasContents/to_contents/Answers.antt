@@ -1,5 +1,5 @@
 use Rattle.std.proofs.Common.{refl}
-use Rattle.pbx_desc_shape.specs.DescriptorShape.{enum_fields}
+use Rattle.pbx_desc_shapes.specs.DescriptorShape.{enum_fields}
 use Rattle.pbx_desc_encoding.specs.Content.{enum_values}
 use Rattle.pbx_desc_encoding.proofs.Built.{start, next, whole}
 use Rattle.pbx_desc_encoding.proofs.Types.{enum_type, enum_options_type}

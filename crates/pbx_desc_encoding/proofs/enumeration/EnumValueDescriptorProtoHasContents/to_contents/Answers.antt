@@ -1,5 +1,5 @@
 use Rattle.std.proofs.Common.{refl}
-use Rattle.pbx_desc_shape.specs.DescriptorShape.{enum_value_fields}
+use Rattle.pbx_desc_shapes.specs.DescriptorShape.{enum_value_fields}
 use Rattle.pbx_desc_encoding.specs.Content.{enum_value_values}
 use Rattle.pbx_desc_encoding.proofs.Built.{start, next, whole}
 use Rattle.pbx_desc_encoding.proofs.Types.{enum_value_type, enum_value_options_type}

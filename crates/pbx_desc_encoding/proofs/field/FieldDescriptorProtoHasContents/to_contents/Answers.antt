@@ -1,5 +1,5 @@
 use Rattle.std.proofs.Common.{refl}
-use Rattle.pbx_desc_shape.specs.DescriptorShape.{field_fields}
+use Rattle.pbx_desc_shapes.specs.DescriptorShape.{field_fields}
 use Rattle.pbx_desc_encoding.specs.Content.{field_values}
 use Rattle.pbx_desc_encoding.proofs.Built.{start, next, whole}
 use Rattle.pbx_desc_encoding.proofs.Types.{field_type, field_options_type}

@@ -1,5 +1,5 @@
 use Rattle.std.proofs.Common.{refl}
-use Rattle.pbx_desc_shape.specs.DescriptorShape.{file_fields}
+use Rattle.pbx_desc_shapes.specs.DescriptorShape.{file_fields}
 use Rattle.pbx_desc_encoding.specs.Content.{file_values}
 use Rattle.pbx_desc_encoding.proofs.Built.{start, next, whole}
 use Rattle.pbx_desc_encoding.proofs.Types.{file_type, file_options_type}

@@ -1,7 +1,7 @@
 use Rattle.std.proofs.Common.{rules}
-use Rattle.pbx_meaning.specs.declared.shape.Kind.TheVariants as kind
-use Rattle.pbx_wrappers.proofs.Held.{of_u64}
-use Rattle.pbx_wrappers.proofs.Wrappers.{uint64_type}
+use Rattle.pbx_content.specs.declared.shape.Kind.TheVariants as kind
+use Rattle.pbx_desc_wrappers.proofs.Held.{of_u64}
+use Rattle.pbx_desc_wrappers.proofs.Wrappers.{uint64_type}
 use Rattle.pbx_desc_encoding.proofs.integers.U64Message.encode_to_vec.Goals as goal
 
 pub wrapper_bytes-requires : goal.wrapper_bytes-requires

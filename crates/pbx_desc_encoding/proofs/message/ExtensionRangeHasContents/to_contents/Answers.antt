@@ -1,5 +1,5 @@
 use Rattle.std.proofs.Common.{refl}
-use Rattle.pbx_desc_shape.specs.DescriptorShape.{extension_range_fields}
+use Rattle.pbx_desc_shapes.specs.DescriptorShape.{extension_range_fields}
 use Rattle.pbx_desc_encoding.specs.Content.{extension_range_values}
 use Rattle.pbx_desc_encoding.proofs.Built.{start, next, whole}
 use Rattle.pbx_desc_encoding.proofs.Types.{extension_range_type, extension_range_options_type}

@@ -1,7 +1,7 @@
-use Rattle.pbx_meaning.specs.Content.{empty}
-use Rattle.pbx_codec.specs.View.{content_of}
-use Rattle.pbx_wrappers.proofs.Wrappers.{empty_type}
-use Rattle.pbx_wrappers.proofs.Sound.{nothing_sound, decodes_as, decodes_parts_as}
+use Rattle.pbx_content.specs.Content.{empty}
+use Rattle.pbx_content_codec.specs.View.{content_of}
+use Rattle.pbx_desc_wrappers.proofs.Wrappers.{empty_type}
+use Rattle.pbx_desc_wrappers.proofs.Sound.{nothing_sound, decodes_as, decodes_parts_as}
 use Rattle.pbx_desc_encoding.proofs.scalars.UnitMessage.encode_to_vec.Goals as goal
 
 pub returns-clause-decodes : goal.returns-clause-decodes

@@ -1,5 +1,5 @@
 use Rattle.std.proofs.Common.{refl}
-use Rattle.pbx_desc_shape.specs.DescriptorShape.{method_fields}
+use Rattle.pbx_desc_shapes.specs.DescriptorShape.{method_fields}
 use Rattle.pbx_desc_encoding.specs.Content.{method_values}
 use Rattle.pbx_desc_encoding.proofs.Built.{start, next, whole}
 use Rattle.pbx_desc_encoding.proofs.Types.{method_type, method_options_type}

@@ -1,5 +1,5 @@
 use Rattle.std.proofs.Common.{refl}
-use Rattle.pbx_desc_shape.specs.DescriptorShape.{service_fields}
+use Rattle.pbx_desc_shapes.specs.DescriptorShape.{service_fields}
 use Rattle.pbx_desc_encoding.specs.Content.{service_values}
 use Rattle.pbx_desc_encoding.proofs.Built.{start, next, whole}
 use Rattle.pbx_desc_encoding.proofs.Types.{service_type, service_options_type}

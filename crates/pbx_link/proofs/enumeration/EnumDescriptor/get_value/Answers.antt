@@ -1,7 +1,7 @@
 use Rattle.std.proofs.Common.{◌≡◌, ◌∙◌, ℤ, Some, ap, to_z, of_z, w32, rules}
 use Rattle.std.specs.Prelude.{position}
 use Rattle.pbx_desc_records.specs.declared.enumeration.EnumValueDescriptorProto.{EnumValueDescriptorProto}
-use Rattle.pbx_definitions.specs.Says.{are_equal}
+use Rattle.pbx_link_definitions.specs.Says.{are_equal}
 use Rattle.pbx_link.specs.Tables.{no_value}
 use Rattle.pbx_link.proofs.Parts.{found_within, found_part, missed_part}
 use Rattle.pbx_link.proofs.enumeration.EnumDescriptor.get_value.Goals as goal

@@ -1,6 +1,6 @@
 use Rattle.std.proofs.Common.{◌∙◌, Some, ap}
 use Rattle.pbx_desc_records.specs.declared.enumeration.EnumValueDescriptorProto.{EnumValueDescriptorProto}
-use Rattle.pbx_definitions.specs.Names.{is_named}
+use Rattle.pbx_link_definitions.specs.Names.{is_named}
 use Rattle.pbx_link.specs.Tables.{no_value}
 use Rattle.pbx_link.proofs.Parts.{found_within, found_part, missed_part}
 use Rattle.pbx_link.proofs.enumeration.EnumDescriptor.get_value_by_name.Goals as goal

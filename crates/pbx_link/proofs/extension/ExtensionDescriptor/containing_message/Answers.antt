@@ -1,7 +1,7 @@
 use Rattle.std.proofs.Common.{◌∙◌, ap, sym, refl}
 use Rattle.pbx_desc_records.specs.declared.field.FieldDescriptorProto.{FieldDescriptorProto}
-use Rattle.pbx_definitions.specs.Definitions.{extensions}
-use Rattle.pbx_described.specs.Descriptors.{Described, message_referred}
+use Rattle.pbx_link_definitions.specs.Definitions.{extensions}
+use Rattle.pbx_link_meaning.specs.Descriptors.{Described, message_referred}
 use Rattle.pbx_link.specs.Tables.{no_field}
 use Rattle.pbx_link.proofs.Parts.{contains_described}
 use Rattle.pbx_link.proofs.References.{found_there, has_extendee}

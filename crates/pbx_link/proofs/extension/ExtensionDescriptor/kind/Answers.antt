@@ -1,6 +1,6 @@
 use Rattle.std.proofs.Common.{◌∙◌, ap, sym, refl}
 use Rattle.pbx_desc_records.specs.declared.field.FieldDescriptorProto.{FieldDescriptorProto}
-use Rattle.pbx_described.specs.Descriptors.{Described}
+use Rattle.pbx_link_meaning.specs.Descriptors.{Described}
 use Rattle.pbx_link.proofs.Types.{found_kind, extension_kind}
 use Rattle.pbx_link.proofs.extension.ExtensionDescriptor.kind.Goals as goal
 

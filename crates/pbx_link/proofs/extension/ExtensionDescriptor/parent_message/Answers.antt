@@ -2,8 +2,8 @@ use Rattle.std.proofs.Common.{◌∙◌, ap}
 use Rattle.std.specs.Prelude.{slice_get}
 use Rattle.pbx_desc_records.specs.declared.field.FieldDescriptorProto.{FieldDescriptorProto}
 use Rattle.pbx_desc_records.specs.declared.file.FileDescriptorProto.{FileDescriptorProto}
-use Rattle.pbx_definitions.specs.Definitions.{Part, extensions}
-use Rattle.pbx_described.specs.Descriptors.{Described, parent_of}
+use Rattle.pbx_link_definitions.specs.Definitions.{Part, extensions}
+use Rattle.pbx_link_meaning.specs.Descriptors.{Described, parent_of}
 use Rattle.pbx_link.specs.Tables.{part_at, no_field}
 use Rattle.pbx_link.proofs.Parts.{part_is}
 use Rattle.pbx_link.proofs.FirstNamed.{parent_is, no_parent}

@@ -1,9 +1,9 @@
 use Rattle.std.proofs.Common.{◌∙◌, ℕ, Option, ap, sym}
 use Rattle.std.specs.Prelude.{option_map, option_and_then, slice_get}
 use Rattle.pbx_desc_records.specs.declared.field.FieldDescriptorProto.{FieldDescriptorProto}
-use Rattle.pbx_definitions.specs.Definitions.{message_name, fields_in, oneofs_in}
-use Rattle.pbx_definitions.specs.Says.{own_fields}
-use Rattle.pbx_described.specs.Descriptors.{Described, described, oneof_of_field}
+use Rattle.pbx_link_definitions.specs.Definitions.{message_name, fields_in, oneofs_in}
+use Rattle.pbx_link_definitions.specs.Says.{own_fields}
+use Rattle.pbx_link_meaning.specs.Descriptors.{Described, described, oneof_of_field}
 use Rattle.pbx_link.specs.Tables.{part_at, no_field, index_of}
 use Rattle.pbx_link.proofs.Only.{oneof_is, part_scope}
 use Rattle.pbx_link.proofs.field.FieldDescriptor.containing_oneof.Goals as goal

@@ -1,6 +1,6 @@
 use Rattle.std.proofs.Common.{◌∙◌, ap, sym}
 use Rattle.pbx_desc_records.specs.declared.field.FieldDescriptorProto.{FieldDescriptorProto}
-use Rattle.pbx_described.specs.Descriptors.{Described}
+use Rattle.pbx_link_meaning.specs.Descriptors.{Described}
 use Rattle.pbx_link.proofs.Types.{found_kind, field_kind}
 use Rattle.pbx_link.proofs.field.FieldDescriptor.kind.Goals as goal
 

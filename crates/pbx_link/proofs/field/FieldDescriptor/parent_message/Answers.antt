@@ -2,9 +2,9 @@ use Rattle.std.proofs.Common.{◌∙◌, Some, ap, sym, subst}
 use Rattle.std.specs.Prelude.{Contains}
 use Rattle.pbx_desc_records.specs.declared.message.DescriptorProto.{DescriptorProto}
 use Rattle.pbx_desc_records.specs.declared.field.FieldDescriptorProto.{FieldDescriptorProto}
-use Rattle.pbx_definitions.specs.Definitions.{message_name, fields_in}
-use Rattle.pbx_definitions.specs.Says.{own_fields}
-use Rattle.pbx_described.specs.Descriptors.{Described, fields_of_message, parent_of}
+use Rattle.pbx_link_definitions.specs.Definitions.{message_name, fields_in}
+use Rattle.pbx_link_definitions.specs.Says.{own_fields}
+use Rattle.pbx_link_meaning.specs.Descriptors.{Described, fields_of_message, parent_of}
 use Rattle.pbx_link.specs.Tables.{part_at, no_field}
 use Rattle.pbx_link.proofs.Parts.{contains_part}
 use Rattle.pbx_link.proofs.Only.{parent_is_it, part_scope}

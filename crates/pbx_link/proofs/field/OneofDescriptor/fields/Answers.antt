@@ -1,7 +1,7 @@
 use Rattle.std.proofs.Common.{◌∙◌, ap}
 use Rattle.pbx_desc_records.specs.declared.field.OneofDescriptorProto.{OneofDescriptorProto}
-use Rattle.pbx_definitions.specs.Definitions.{message_name, oneofs_in}
-use Rattle.pbx_described.specs.Descriptors.{Described, fields_of_oneof}
+use Rattle.pbx_link_definitions.specs.Definitions.{message_name, oneofs_in}
+use Rattle.pbx_link_meaning.specs.Descriptors.{Described, fields_of_oneof}
 use Rattle.pbx_link.specs.Tables.{part_at, no_oneof, own_oneofs}
 use Rattle.pbx_link.proofs.Only.{members_are, part_scope, part_index}
 use Rattle.pbx_link.proofs.field.OneofDescriptor.fields.Goals as goal

@@ -1,11 +1,11 @@
 use Rattle.std.proofs.Common.{◌≤◌, ◌∙◌, ap, subst}
 use Rattle.std.specs.Prelude.{IfOk}
-use Rattle.pbx_meaning.specs.Same.{Decodes}
-use Rattle.pbx_meaning.specs.Sound.{depth}
+use Rattle.pbx_content.specs.Same.{Decodes}
+use Rattle.pbx_content.specs.Sound.{depth}
 use Rattle.pbx_desc_records.specs.declared.file.FileDescriptorProto.{FileDescriptorProto}
-use Rattle.pbx_desc_shape.specs.DescriptorShape.{descriptor_shape}
+use Rattle.pbx_desc_shapes.specs.DescriptorShape.{descriptor_shape}
 use Rattle.pbx_desc_encoding.specs.Content.{file_content}
-use Rattle.pbx_described.specs.Descriptors.{FileDescribed}
+use Rattle.pbx_link_meaning.specs.Descriptors.{FileDescribed}
 use Rattle.pbx_link.proofs.file.FileDescriptor.encode_to_vec.Goals as goal
 
 pub returns-clause-decodes : goal.returns-clause-decodes

@@ -1,6 +1,6 @@
 use Rattle.std.proofs.Common.{◌∙◌, ℕ, List, true, false, ap, sym}
 use Rattle.pbx_desc_records.specs.declared.field.FieldDescriptorProto.{FieldDescriptorProto}
-use Rattle.pbx_definitions.specs.Names.{is_named, dotted}
+use Rattle.pbx_link_definitions.specs.Names.{is_named, dotted}
 use Rattle.pbx_link.proofs.ExtensionsOnce.{named_none, named_one}
 use Rattle.pbx_link.proofs.message.MessageDescriptor.extension_named.Goals as goal
 

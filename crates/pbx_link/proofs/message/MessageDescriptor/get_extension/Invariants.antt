@@ -1,5 +1,5 @@
 use Rattle.std.proofs.Common.{◌≡◌}
-use Rattle.pbx_described.specs.Descriptors.{extensions_of_message, with_number}
+use Rattle.pbx_link_meaning.specs.Descriptors.{extensions_of_message, with_number}
 use Rattle.pbx_link.proofs.message.MessageDescriptor.get_extension.Given as goal
 
 abbrev pub invariant-loop-extension : goal.invariant-loop-extension

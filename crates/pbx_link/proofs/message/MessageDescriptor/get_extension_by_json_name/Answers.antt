@@ -1,5 +1,5 @@
 use Rattle.std.proofs.Common.{◌∙◌}
-use Rattle.pbx_described.specs.Descriptors.{extensions_of_message}
+use Rattle.pbx_link_meaning.specs.Descriptors.{extensions_of_message}
 use Rattle.pbx_link.proofs.Extended.{bracketed_named, none_bracketed}
 use Rattle.pbx_link.proofs.message.MessageDescriptor.get_extension_by_json_name.Goals as goal
 

@@ -1,7 +1,7 @@
 use Rattle.std.proofs.Common.{◌∙◌, Some, ap}
 use Rattle.pbx_desc_records.specs.declared.field.FieldDescriptorProto.{FieldDescriptorProto}
-use Rattle.pbx_definitions.specs.Definitions.{message_name}
-use Rattle.pbx_definitions.specs.Says.{own_fields, is_number}
+use Rattle.pbx_link_definitions.specs.Definitions.{message_name}
+use Rattle.pbx_link_definitions.specs.Says.{own_fields, is_number}
 use Rattle.pbx_link.specs.Tables.{no_field}
 use Rattle.pbx_link.proofs.Parts.{found_within, found_part, missed_part}
 use Rattle.pbx_link.proofs.message.MessageDescriptor.get_field.Goals as goal

@@ -1,8 +1,8 @@
 use Rattle.std.proofs.Common.{◌∙◌, Some, ap}
 use Rattle.pbx_desc_records.specs.declared.field.FieldDescriptorProto.{FieldDescriptorProto}
-use Rattle.pbx_definitions.specs.Definitions.{message_name}
-use Rattle.pbx_definitions.specs.Says.{own_fields}
-use Rattle.pbx_definitions.specs.Names.{is_named}
+use Rattle.pbx_link_definitions.specs.Definitions.{message_name}
+use Rattle.pbx_link_definitions.specs.Says.{own_fields}
+use Rattle.pbx_link_definitions.specs.Names.{is_named}
 use Rattle.pbx_link.specs.Tables.{no_field}
 use Rattle.pbx_link.proofs.Parts.{found_within, found_part, missed_part}
 use Rattle.pbx_link.proofs.message.MessageDescriptor.get_field_by_json_name.Goals as goal

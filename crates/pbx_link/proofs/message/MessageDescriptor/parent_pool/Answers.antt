@@ -1,8 +1,8 @@
 use Rattle.std.proofs.Common.{sym, subst}
 use Rattle.std.specs.Prelude.{List, Contains}
 use Rattle.pbx_desc_records.specs.declared.file.FileDescriptorProto.{FileDescriptorProto}
-use Rattle.pbx_definitions.specs.Definitions.{messages}
-use Rattle.pbx_described.specs.Descriptors.{all_messages}
+use Rattle.pbx_link_definitions.specs.Definitions.{messages}
+use Rattle.pbx_link_meaning.specs.Descriptors.{all_messages}
 use Rattle.pbx_link.specs.Tables.{no_message}
 use Rattle.pbx_link.proofs.Parts.{contains_described}
 use Rattle.pbx_link.proofs.message.MessageDescriptor.parent_pool.Goals as goal

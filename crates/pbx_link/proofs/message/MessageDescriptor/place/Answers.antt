@@ -1,8 +1,8 @@
 use Rattle.std.proofs.Common.{◌∙◌, ap, sym}
 use Rattle.std.specs.Prelude.{ℕ, Option, slice_get, unwrap_or}
-use Rattle.pbx_definitions.specs.Definitions.{message_name}
-use Rattle.pbx_described.specs.Descriptors.{all_messages}
-use Rattle.pbx_described.specs.Shapes.{message_place, shape_of}
+use Rattle.pbx_link_definitions.specs.Definitions.{message_name}
+use Rattle.pbx_link_meaning.specs.Descriptors.{all_messages}
+use Rattle.pbx_link_meaning.specs.Shapes.{message_place, shape_of}
 use Rattle.pbx_link.proofs.Placed.{message_within, stands}
 use Rattle.pbx_link.proofs.message.MessageDescriptor.place.Goals as goal
 

@@ -1,8 +1,8 @@
 use Rattle.std.proofs.Common.{subst}
 use Rattle.std.specs.Prelude.{Contains}
 use Rattle.pbx_desc_records.specs.declared.message.DescriptorProto.{DescriptorProto}
-use Rattle.pbx_definitions.specs.Definitions.{messages}
-use Rattle.pbx_described.specs.Descriptors.{Described}
+use Rattle.pbx_link_definitions.specs.Definitions.{messages}
+use Rattle.pbx_link_meaning.specs.Descriptors.{Described}
 use Rattle.pbx_link.specs.Tables.{no_message}
 use Rattle.pbx_link.proofs.References.{part_within}
 use Rattle.pbx_link.proofs.message.MessageDescriptor.pool.Goals as goal

@@ -1,7 +1,7 @@
 use Rattle.std.proofs.Common.{◌∙◌, List, Option, sym, subst}
 use Rattle.std.specs.Iterator.{YieldsFirst}
 use Rattle.pbx_desc_records.specs.declared.field.FieldDescriptorProto.{FieldDescriptorProto}
-use Rattle.pbx_described.specs.Descriptors.{Described}
+use Rattle.pbx_link_meaning.specs.Descriptors.{Described}
 use Rattle.pbx_link.proofs.Members.{no_member_left, member_within, next_member}
 use Rattle.pbx_link.proofs.Walk.{goes_on}
 use Rattle.pbx_link.proofs.oneof.OneofFieldsIterator.next.Goals as goal

@@ -1,5 +1,5 @@
 use Rattle.std.proofs.Common.{◌∙◌}
-use Rattle.pbx_definitions.specs.Definitions.{extensions, field_name}
+use Rattle.pbx_link_definitions.specs.Definitions.{extensions, field_name}
 use Rattle.pbx_link.specs.Tables.{no_field}
 use Rattle.pbx_link.proofs.Named.{no_part_named, file_within, named_held, named_is}
 use Rattle.pbx_link.proofs.pool.DescriptorPool.get_extension_by_name.Goals as goal

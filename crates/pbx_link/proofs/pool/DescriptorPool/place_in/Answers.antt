@@ -1,5 +1,5 @@
 use Rattle.std.proofs.Common.{◌∙◌, ap}
-use Rattle.pbx_described.specs.Shapes.{message_named}
+use Rattle.pbx_link_meaning.specs.Shapes.{message_named}
 use Rattle.pbx_link.proofs.Placed.{placed_alike}
 use Rattle.pbx_link.proofs.pool.DescriptorPool.place_in.Goals as goal
 

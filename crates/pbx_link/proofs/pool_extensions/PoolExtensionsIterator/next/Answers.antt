@@ -1,5 +1,5 @@
 use Rattle.std.proofs.Common.{◌∙◌, sym}
-use Rattle.pbx_definitions.specs.Definitions.{extensions}
+use Rattle.pbx_link_definitions.specs.Definitions.{extensions}
 use Rattle.pbx_link.specs.Tables.{no_field}
 use Rattle.pbx_link.proofs.Walk.{next_standing, goes_on}
 use Rattle.pbx_link.proofs.pool_extensions.PoolExtensionsIterator.next.Goals as goal

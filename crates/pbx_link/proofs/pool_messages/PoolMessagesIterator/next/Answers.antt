@@ -1,5 +1,5 @@
 use Rattle.std.proofs.Common.{◌∙◌, sym}
-use Rattle.pbx_definitions.specs.Definitions.{messages}
+use Rattle.pbx_link_definitions.specs.Definitions.{messages}
 use Rattle.pbx_link.specs.Tables.{no_message}
 use Rattle.pbx_link.proofs.Walk.{next_standing, goes_on}
 use Rattle.pbx_link.proofs.pool_messages.PoolMessagesIterator.next.Goals as goal

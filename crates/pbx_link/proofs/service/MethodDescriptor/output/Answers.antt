@@ -1,6 +1,6 @@
 use Rattle.std.proofs.Common.{◌∙◌, ap, sym}
 use Rattle.pbx_desc_records.specs.declared.service.MethodDescriptorProto.{MethodDescriptorProto}
-use Rattle.pbx_described.specs.Descriptors.{Described}
+use Rattle.pbx_link_meaning.specs.Descriptors.{Described}
 use Rattle.pbx_link.proofs.References.{found_there, has_output}
 use Rattle.pbx_link.proofs.service.MethodDescriptor.output.Goals as goal
 

@@ -1,8 +1,8 @@
 use Rattle.std.proofs.Common.{sym, subst}
-use Rattle.pbx_meaning.specs.Content.{Content, fields}
-use Rattle.pbx_meaning.specs.Sound.{IsSound}
-use Rattle.pbx_codec.specs.View.{content_of}
-use Rattle.pbx_described.specs.Shapes.{shape_of, place_of}
+use Rattle.pbx_content.specs.Content.{Content, fields}
+use Rattle.pbx_content.specs.Sound.{IsSound}
+use Rattle.pbx_content_codec.specs.View.{content_of}
+use Rattle.pbx_link_meaning.specs.Shapes.{shape_of, place_of}
 use Rattle.pbx_message_laws.proofs.Changed.{sound_ascends}
 use Rattle.pbx_message_dynamic.specs.Members.{AreMembersIf}
 use Rattle.pbx_message_dynamic.specs.Message.{type_fields}

@@ -1,9 +1,9 @@
 use Rattle.std.proofs.Common.{◌≡◌, ◌∙◌, [], List, not, subst}
 use Rattle.serde_json.specs.View.{view}
 use Rattle.pbx_desc_records.specs.declared.file.FileDescriptorProto.{FileDescriptorProto}
-use Rattle.pbx_codec.specs.View.{content_of}
-use Rattle.pbx_described.specs.Shapes.{shape_of, place_of}
-use Rattle.pbx_pool_laws.specs.Pool.{ArePooled}
+use Rattle.pbx_content_codec.specs.View.{content_of}
+use Rattle.pbx_link_meaning.specs.Shapes.{shape_of, place_of}
+use Rattle.pbx_link_rules.specs.Pool.{ArePooled}
 use Rattle.pbx_message_dynamic.proofs.Unread.{unread}
 use Rattle.pbx_message_dynamic.proofs.message.DynamicMessage.from_tree.Goals as goal
 

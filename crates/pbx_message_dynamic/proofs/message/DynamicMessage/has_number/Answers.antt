@@ -1,5 +1,5 @@
-use Rattle.pbx_codec.specs.View.{content_of, val_of}
-use Rattle.pbx_described.specs.Shapes.{shape_of, place_of}
+use Rattle.pbx_content_codec.specs.View.{content_of, val_of}
+use Rattle.pbx_link_meaning.specs.Shapes.{shape_of, place_of}
 use Rattle.pbx_message_dynamic.proofs.Targets.{has_by}
 use Rattle.pbx_message_dynamic.proofs.message.DynamicMessage.has_number.Goals as goal
 

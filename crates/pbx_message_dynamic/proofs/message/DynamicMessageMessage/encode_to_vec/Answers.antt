@@ -1,8 +1,8 @@
 use Rattle.std.proofs.Common.{◌≡◌, List, length, subst, sym, ap, ◌∙◌, ◌^◌, ◌<◌, ℕ, arith}
-use Rattle.pbx_meaning.specs.Encoding.{encoded}
-use Rattle.pbx_meaning.specs.Same.{Decodes, DecodesParts}
-use Rattle.pbx_codec.specs.View.{content_of}
-use Rattle.pbx_described.specs.Shapes.{shape_of, place_of}
+use Rattle.pbx_content.specs.Encoding.{encoded}
+use Rattle.pbx_content.specs.Same.{Decodes, DecodesParts}
+use Rattle.pbx_content_codec.specs.View.{content_of}
+use Rattle.pbx_link_meaning.specs.Shapes.{shape_of, place_of}
 use Rattle.pbx_message_dynamic.proofs.message.DynamicMessageMessage.encode_to_vec.Goals as goal
 
 pub returns-clause-decodes : goal.returns-clause-decodes

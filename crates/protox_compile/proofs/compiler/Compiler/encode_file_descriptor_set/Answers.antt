@@ -1,5 +1,5 @@
 use Rattle.std.proofs.Common.{List, IfOk, IfErr, OnOk, subst}
-use Rattle.protox_walk.specs.Walk.{Done}
+use Rattle.protox_compile_walk.specs.Walk.{Done}
 use Rattle.protox_compile.specs.State.{State}
 use Rattle.protox_compile.specs.Sets.{listed, IsSet, AreDecodable, IsUnencodable}
 use Rattle.protox_compile.proofs.Listed.{listed_again}

@@ -1,6 +1,6 @@
 use Rattle.std.proofs.Common.{◌≡◌, ap, IsTrue, true}
-use Rattle.protox_walk.specs.Opening.{root_of}
-use Rattle.protox_walk.specs.Opens.{is_settled}
+use Rattle.protox_compile_walk.specs.Opening.{root_of}
+use Rattle.protox_compile_walk.specs.Opens.{is_settled}
 use Rattle.protox_compile.proofs.compiler.Compiler.open_file.Goals as goal
 
 pub returns-clause-ok : goal.returns-clause-ok

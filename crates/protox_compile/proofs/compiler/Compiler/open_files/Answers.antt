@@ -1,10 +1,10 @@
 use Rattle.std.proofs.Common.{◌≡◌, ◌∙◌, IsTrue, refl, ap, rules}
 use Rattle.protox_io.proofs.Counts.{later_same, later_again}
 use Rattle.protox_file_sources.specs.Told.{ByLookups}
-use Rattle.protox_walk.specs.Closures.{StopsAt}
-use Rattle.protox_walk.proofs.Closures.{accepts_next, stops_next, opens_next}
-use Rattle.protox_walk.proofs.Right.{nothing, right_nothing}
-use Rattle.protox_walk.proofs.Openings.{cause_later, fault_since}
+use Rattle.protox_compile_walk.specs.Closures.{StopsAt}
+use Rattle.protox_compile_walk.proofs.Closures.{accepts_next, stops_next, opens_next}
+use Rattle.protox_compile_walk.proofs.Right.{nothing, right_nothing}
+use Rattle.protox_compile_walk.proofs.Openings.{cause_later, fault_since}
 use Rattle.protox_compile.specs.State.{State}
 use Rattle.protox_compile.proofs.compiler.Compiler.open_files.Goals as goal
 

@@ -1,8 +1,8 @@
 use Rattle.std.proofs.Common.{◌≡◌, IsTrue, take}
 use Rattle.protox_io.specs.Count.{Later}
 use Rattle.protox_file_sources.specs.Told.{ByLookups}
-use Rattle.protox_walk.specs.Opening.{closure, Accepted}
-use Rattle.protox_walk.specs.Opens.{OpensTimes}
+use Rattle.protox_compile_walk.specs.Opening.{closure, Accepted}
+use Rattle.protox_compile_walk.specs.Opens.{OpensTimes}
 use Rattle.protox_compile.proofs.compiler.Compiler.open_files.Given as goal
 
 abbrev pub invariant-loop-path : goal.invariant-loop-path

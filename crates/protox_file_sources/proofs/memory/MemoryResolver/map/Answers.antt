@@ -1,5 +1,5 @@
 use Rattle.std.proofs.Common.{◌≡◌, Some}
-use Rattle.protox_paths.specs.FileNames.{name_of}
+use Rattle.protox_io.specs.FileNames.{name_of}
 use Rattle.protox_file_sources.proofs.Texts.{name_put, names_kept, still_names}
 use Rattle.protox_file_sources.proofs.memory.MemoryResolver.map.Goals as goal
 

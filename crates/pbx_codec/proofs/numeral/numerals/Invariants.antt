@@ -1,8 +1,0 @@
-use Rattle.std.proofs.Common.{◌≡◌, map, take}
-use Rattle.pbx_codec.specs.declared.contents.Held.{Held}
-use Rattle.pbx_meaning.specs.Encoding.{numeral}
-use Rattle.pbx_codec.specs.View.{val_of}
-use Rattle.pbx_codec.proofs.numeral.numerals.Given as goal
-
-abbrev pub invariant-loop-held : goal.invariant-loop-held
-invariant-loop-held l = l.values ≡ map (λ (h : Held). numeral l.kind (val_of h)) (take l.held-index l.many)

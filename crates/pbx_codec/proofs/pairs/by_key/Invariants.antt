@@ -1,7 +1,0 @@
-use Rattle.std.proofs.Common.{◌≡◌, map}
-use Rattle.pbx_meaning.specs.Content.{pairs_of, by_key}
-use Rattle.pbx_codec.specs.View.{pair_of}
-use Rattle.pbx_codec.proofs.pairs.by_key.Given as goal
-
-abbrev pub invariant-loop-pair : goal.invariant-loop-pair
-invariant-loop-pair l = pairs_of (map pair_of l.sorted) ≡ by_key (map pair_of l.yielded)

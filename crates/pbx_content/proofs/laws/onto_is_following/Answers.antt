@@ -1,0 +1,16 @@
+use Rattle.pbx_content.proofs.OntoLaw.{onto_empty, judges_new}
+use Rattle.pbx_content.proofs.OntoAppends.{onto_following}
+use Rattle.pbx_content.proofs.SoundLaw.{merged_sound}
+use Rattle.pbx_content.proofs.laws.onto_is_following.Goals as goal
+
+pub returns-clause-empty : goal.returns-clause-empty
+returns-clause-empty c = onto_empty
+
+pub returns-clause-following : goal.returns-clause-following
+returns-clause-following c = onto_following
+
+pub returns-clause-judges : goal.returns-clause-judges
+returns-clause-judges c = judges_new
+
+pub returns-clause-sound : goal.returns-clause-sound
+returns-clause-sound c = merged_sound

@@ -1,0 +1,11 @@
+use Rattle.std.proofs.Common.{length, map}
+use Rattle.std.specs.Int.{w32}
+use Rattle.pbx_content_codec.specs.View.{val_of}
+use Rattle.pbx_content_codec.proofs.Packs.{Packs}
+use Rattle.pbx_content_codec.proofs.values.push_fours.Given as goal
+
+abbrev pub invariant-loop-rest : goal.invariant-loop-rest
+invariant-loop-rest l = Packs l.kind w32 4 (map val_of l.initial.many) l.bytes (map val_of l.many) l.rest
+
+abbrev pub decreases-loop-rest : goal.decreases-loop-rest
+decreases-loop-rest l = length l.rest

@@ -1,0 +1,22 @@
+use Rattle.std.proofs.Common.{◌≡◌, ◌++◌, map, drop}
+use Rattle.pbx_wire.specs.Text.{text_of}
+use Rattle.pbx_content.specs.Content.{vals_of, pairs_of}
+use Rattle.pbx_content.specs.Shape.{fields_of}
+use Rattle.pbx_content.specs.Encoding.{fields_recs, vals_recs, pairs_recs, keys_of}
+use Rattle.pbx_content_codec.specs.View.{val_of, pair_of, entry_of, fields_in}
+use Rattle.pbx_content_codec.proofs.writing.+write.Given as goal
+
+abbrev pub invariant-put_fields-loop-field : goal.invariant-put_fields-loop-field
+invariant-put_fields-loop-field l =
+    l.initial.out ++ text_of (fields_recs l.schema (fields_of l.schema l.type_at) (fields_in (map entry_of l.field-items)))
+    ≡ l.out ++ text_of (fields_recs l.schema (fields_of l.schema l.type_at) (fields_in (map entry_of (drop l.field-index l.field-items))))
+
+abbrev pub invariant-put_many-loop-held : goal.invariant-put_many-loop-held
+invariant-put_many-loop-held l =
+    l.initial.out ++ text_of (vals_recs l.schema l.field.number l.field.kind (vals_of (map val_of l.held-items)))
+    ≡ l.out ++ text_of (vals_recs l.schema l.field.number l.field.kind (vals_of (map val_of (drop l.held-index l.held-items))))
+
+abbrev pub invariant-put_pairs-loop-pair : goal.invariant-put_pairs-loop-pair
+invariant-put_pairs-loop-pair l =
+    l.initial.out ++ text_of (pairs_recs l.schema l.field.number (keys_of l.field.cardinality) l.field.kind (pairs_of (map pair_of l.pair-items)))
+    ≡ l.out ++ text_of (pairs_recs l.schema l.field.number (keys_of l.field.cardinality) l.field.kind (pairs_of (map pair_of (drop l.pair-index l.pair-items))))

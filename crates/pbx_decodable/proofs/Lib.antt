@@ -1,4 +1,0 @@
-pub mod Found
-pub mod Told
-pub mod Alike
-pub mod Source

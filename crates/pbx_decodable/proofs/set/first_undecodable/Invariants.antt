@@ -1,6 +1,0 @@
-use Rattle.std.proofs.Common.{◌≡◌, drop, find}
-use Rattle.pbx_decodable.specs.Sets.{is_undecodable}
-use Rattle.pbx_decodable.proofs.set.first_undecodable.Given as goal
-
-abbrev pub invariant-loop-file : goal.invariant-loop-file
-invariant-loop-file l = find is_undecodable l.files ≡ find is_undecodable (drop l.file-index l.files)

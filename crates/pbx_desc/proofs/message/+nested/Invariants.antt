@@ -1,0 +1,15 @@
+use Rattle.std.proofs.Common.{◌+◌, ◌*◌}
+use Rattle.pbx_content.specs.declared.shape.Kind.TheVariants as kind
+use Rattle.pbx_content.specs.Content.{message}
+use Rattle.pbx_desc_encoding.specs.Content.{message_content}
+use Rattle.pbx_desc.proofs.Lists.{AreValues}
+use Rattle.pbx_desc.proofs.message.+nested.Given as goal
+
+abbrev pub decreases-message_from : goal.decreases-message_from
+decreases-message_from l = 2 * l.room
+
+abbrev pub decreases-messages_from : goal.decreases-messages_from
+decreases-messages_from l = 2 * l.room + 1
+
+abbrev pub invariant-messages_from-loop-value : goal.invariant-messages_from-loop-value
+invariant-messages_from-loop-value l = AreValues (kind.Message 2) (λ m. message (message_content m)) l.yielded l.messages

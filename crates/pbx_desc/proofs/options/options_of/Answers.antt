@@ -1,0 +1,7 @@
+use Rattle.std.proofs.Common.{[], refl}
+use Rattle.pbx_content_codec.specs.View.{content_of}
+use Rattle.pbx_desc.proofs.Walk.{whole}
+use Rattle.pbx_desc.proofs.options.options_of.Goals as goal
+
+pub returns : goal.returns
+returns c t type sound = whole t [] [] c.kept_records.result (content_of c.args.contents) type refl tt c.kept_records.ensures sound

@@ -1,0 +1,7 @@
+use Rattle.pbx_content.specs.declared.shape.Kind.TheVariants as kind
+use Rattle.pbx_desc_wrappers.proofs.Wrappers.{bool_type}
+use Rattle.pbx_desc_wrappers.proofs.Sound.{value_read}
+use Rattle.pbx_desc.proofs.scalars.BoolDecodeMessage.decode.Goals as goal
+
+pub returns-clause-found : goal.returns-clause-found
+returns-clause-found c = value_read (c.in_ok-wrapped_value.ensures.found kind.Bool bool_type) c.truth_in.ensures

@@ -1,0 +1,11 @@
+pub mod Reading
+pub mod Packed
+pub mod Found
+pub mod Told
+pub mod Alike
+pub mod Source
+pub mod Shaped
+pub mod Opened
+pub mod Proper
+pub mod Parts
+pub mod Options

@@ -1,0 +1,5 @@
+pub mod Fields
+pub mod Reading
+pub mod Sets
+pub mod Schema
+pub mod Rows

@@ -1,7 +1,0 @@
-use Rattle.pbx_meaning.specs.declared.shape.Kind.TheVariants as kind
-use Rattle.pbx_meaning.specs.Content.{message}
-use Rattle.pbx_desc_decoding.proofs.Lists.{AreValues}
-use Rattle.pbx_desc_decoding.proofs.elements.record_list.Given as goal
-
-abbrev pub invariant-loop-value : goal.invariant-loop-value
-invariant-loop-value g l = AreValues (kind.Message g.R.FromContents.TYPE_AT) (λ r. message (g.R.FromContents.content r)) l.yielded l.records

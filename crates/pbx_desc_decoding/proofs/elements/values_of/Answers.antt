@@ -1,5 +1,0 @@
-use Rattle.pbx_desc_decoding.proofs.Lists.{values_many}
-use Rattle.pbx_desc_decoding.proofs.elements.values_of.Goals as goal
-
-pub returns-in-Many : goal.returns-in-Many
-returns-in-Many c k = values_many k c.args.held c.in-Many.values c.in-Many.is

@@ -1,9 +1,0 @@
-use Rattle.std.proofs.Common.{subst}
-use Rattle.pbx_meaning.specs.declared.shape.Shape.{Shape}
-use Rattle.pbx_meaning.specs.Meaning.{parts_meaning_of}
-use Rattle.pbx_meaning.specs.Faults.{IsFaultOfParts, IsToldFault}
-use Rattle.pbx_desc_decoding.proofs.file.FileDescriptorSetDecodeMessage.decode.Goals as goal
-
-pub returns-clause-fault : goal.returns-clause-fault
-returns-clause-fault c =
-    subst (λ (s : Shape). IsToldFault (parts_meaning_of s 0 c.args.bytes.now) (IsFaultOfParts s 0 c.args.bytes.now) c.in-Err.fault) c.in_ok-schema.ensures c.in-Err.ensures.fault

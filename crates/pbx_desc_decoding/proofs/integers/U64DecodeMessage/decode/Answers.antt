@@ -1,7 +1,0 @@
-use Rattle.pbx_meaning.specs.declared.shape.Kind.TheVariants as kind
-use Rattle.pbx_wrappers.proofs.Wrappers.{uint64_type}
-use Rattle.pbx_wrappers.proofs.Sound.{value_read}
-use Rattle.pbx_desc_decoding.proofs.integers.U64DecodeMessage.decode.Goals as goal
-
-pub returns-clause-found : goal.returns-clause-found
-returns-clause-found c = value_read (c.in_ok-wrapped_value.ensures.found kind.Uint64 uint64_type) c.u64_in.ensures

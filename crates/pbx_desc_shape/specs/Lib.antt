@@ -1,2 +1,0 @@
-pub mod DescriptorShape
-pub mod DescriptorRows

@@ -1,0 +1,2 @@
+pub mod DescriptorsProper
+pub mod WellKnownProper

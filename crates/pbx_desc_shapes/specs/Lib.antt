@@ -1,0 +1,4 @@
+pub mod DescriptorShape
+pub mod DescriptorRows
+pub mod TypesRows
+pub mod TypesShape

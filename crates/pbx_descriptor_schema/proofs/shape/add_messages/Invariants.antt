@@ -1,6 +1,0 @@
-use Rattle.std.proofs.Common.{◌≡◌, ◌++◌, map, take}
-use Rattle.pbx_descriptor_schema.specs.Rows.{row_type}
-use Rattle.pbx_descriptor_schema.proofs.shape.add_messages.Given as goal
-
-abbrev pub invariant-loop-row : goal.invariant-loop-row
-invariant-loop-row l = l.messages ≡ l.initial.messages ++ map row_type (take l.row-index l.rows)

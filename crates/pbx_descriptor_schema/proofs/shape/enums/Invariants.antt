@@ -1,6 +1,0 @@
-use Rattle.std.proofs.Common.{◌≡◌, map, take}
-use Rattle.pbx_descriptor_schema.specs.Rows.{row_enum}
-use Rattle.pbx_descriptor_schema.proofs.shape.enums.Given as goal
-
-abbrev pub invariant-loop-row : goal.invariant-loop-row
-invariant-loop-row l = l.enums ≡ map row_enum (take l.row-index l.rows)

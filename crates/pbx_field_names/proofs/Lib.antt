@@ -1,4 +1,0 @@
-pub mod Adding
-pub mod Places
-pub mod Urls
-pub mod Positions

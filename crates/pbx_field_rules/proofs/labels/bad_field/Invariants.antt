@@ -1,8 +1,0 @@
-use Rattle.std.proofs.Common.{◌≡◌, drop}
-use Rattle.std.specs.List.{flat_map}
-use Rattle.pbx_field_rules.specs.Rules.{bad_labels_in}
-use Rattle.pbx_field_rules.proofs.labels.bad_field.Given as goal
-
-abbrev pub invariant-loop-message : goal.invariant-loop-message
-invariant-loop-message l = flat_map (bad_labels_in l.no_required) l.messages
-    ≡ flat_map (bad_labels_in l.no_required) (drop l.message-index l.messages)

@@ -1,7 +1,0 @@
-use Rattle.std.proofs.Common.{◌≡◌, drop}
-use Rattle.std.specs.List.{flat_map}
-use Rattle.pbx_field_rules.specs.Rules.{bad_oneofs_in}
-use Rattle.pbx_field_rules.proofs.oneofs.bad_message.Given as goal
-
-abbrev pub invariant-loop-message : goal.invariant-loop-message
-invariant-loop-message l = flat_map (bad_oneofs_in l.file) l.messages ≡ flat_map (bad_oneofs_in l.file) (drop l.message-index l.messages)

@@ -1,4 +1,0 @@
-pub mod Found
-pub mod Keys
-pub mod Moved
-pub mod Pairs

@@ -1,3 +1,0 @@
-pub mod OfEnums
-pub mod OfScalars
-pub mod Refusing

@@ -1,4 +1,0 @@
-pub mod Indexes
-pub mod Kinds
-pub mod Refusals
-pub mod Writings

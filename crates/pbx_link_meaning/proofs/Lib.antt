@@ -1,0 +1,14 @@
+pub mod DescribedLists
+pub mod PoolParts
+pub mod ValidNumbers
+pub mod Lists
+pub mod Types
+pub mod Entries
+pub mod Keyed
+pub mod Numbers
+pub mod OwnNumbers
+pub mod Extending
+pub mod ExtendedOnce
+pub mod Ranged
+pub mod DistinctNumbers
+pub mod Proper

@@ -1,0 +1,13 @@
+use Rattle.std.specs.BTreeMap.{get_by_text}
+use Rattle.std.proofs.Common.{None}
+use Rattle.std.proofs.lemmas.Map.Text.{btree_map_updates_text}
+use Rattle.pbx_link_names.specs.Names.{under}
+use Rattle.pbx_link_names.proofs.Values.{forgotten_more}
+use Rattle.pbx_link_names.proofs.name_map.NameMap.forget.Goals as goal
+
+pub loop-name-preserved : goal.loop-name-preserved
+unfolding under
+loop-name-preserved g c = λ q.
+    let sets = btree_map_updates_text c.as_str.result.now c.loop-name.self.values c.remove.new.self None c.remove.ensures.updates q in
+    forgotten_more q c.args.items.now c.loop-name.name-index c.loop-name-item.result (get_by_text c.args.self.now.values q) (get_by_text c.loop-name.self.values q)
+    (get_by_text c.remove.new.self q) c.loop-name-test.true c.loop-name-item.is (c.loop-name.invariant q) (rw c.as_str.ensures at sets)

@@ -1,0 +1,9 @@
+use Rattle.std.proofs.Common.{◌≡◌, ℕ, ℤ, List, take, ◌&&◌, ◌||◌, not}
+use Rattle.pbx_link_names.specs.Numbers.{is_there, is_noted, is_among}
+use Rattle.pbx_link_names.proofs.numbered_names.NumberedNames.add_all.Given as goal
+
+abbrev pub invariant-loop-item : goal.invariant-loop-item
+invariant-loop-item l = record {
+  put : (q : List ℕ) (z : ℤ) → is_there q z l.self ≡ (is_there q z l.initial.self || is_among q z (take l.item-index l.items));
+  undone : (q : List ℕ) (z : ℤ) → (is_there q z l.self && not (is_noted q z l.added.items)) ≡ is_there q z l.initial.self;
+}

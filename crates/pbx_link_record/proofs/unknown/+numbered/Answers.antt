@@ -1,0 +1,10 @@
+use Rattle.std.proofs.Common.{◌≡◌, true, sym, ◌∙◌, rules}
+use Rattle.pbx_wire.specs.Text.{is_numbered}
+use Rattle.pbx_link_record.proofs.Kept.{all_rest}
+use Rattle.pbx_link_record.proofs.unknown.+numbered.Goals as goal
+
+pub are_numbered-loop-rec-preserved : goal.are_numbered-loop-rec-preserved
+are_numbered-loop-rec-preserved t c =
+    let yes : c.is_numbered.result ≡ true = search rules in
+    let is : is_numbered c.rec-item.result ≡ true = sym c.is_numbered.ensures ∙ yes in
+    c.loop-rec.invariant ∙ all_rest is_numbered c.as_slice-rec-items.result.now c.loop-rec.rec-index c.rec-item.result c.loop-rec-test.true c.rec-item.is is

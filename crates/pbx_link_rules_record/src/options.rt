@@ -1,0 +1,104 @@
+// What options and unknown records say.
+ghost use Rattle.std.specs.Prelude.{◌≡◌, ◌==◌, ◌&&◌, IfOk};
+ghost use Rattle.pbx_wire.specs.Text.{is_record_number as is_record_number_of, is_numbered as is_numbered_of, are_numbered as are_numbered_of};
+ghost use Rattle.pbx_content.specs.Records.{number_of};
+ghost use Rattle.pbx_link_definitions.specs.Says.{has_record as has_record_of, has_option as has_option_of, is_uninterpreted as is_uninterpreted_of};
+ghost use Rattle.pbx_link_definitions.specs.Places.{IsAmong};
+ghost use Rattle.pbx_link_rules_record.specs.OptionRules.{message_sets as message_sets_of};
+
+use pbx_desc_records::Options;
+use pbx_link_definitions::FileParts;
+use pbx_wire::{List, NoMemory, Rec, Recs};
+use std::alloc::Global;
+
+fn is_record_number(number: u32) -> bool
+    ensures { result ≡ is_record_number_of number }
+{
+    0 < number && number < 536870912
+}
+
+/// Whether the numbers of the record, and of those in its groups, may be written.
+#[cycle(numbered)]
+fn is_numbered(rec: &Rec) -> bool
+    ensures { result ≡ is_numbered_of rec.now }
+{
+    match rec {
+        Rec::Varint(number, _)
+        | Rec::Fixed64(number, _)
+        | Rec::Bytes(number, _)
+        | Rec::Fixed32(number, _) => is_record_number(*number),
+        Rec::Group(number, recs) => is_record_number(*number) && are_numbered(recs),
+    }
+}
+
+#[cycle(numbered)]
+fn are_numbered(recs: &Recs) -> bool
+    ensures { result ≡ are_numbered_of recs.now }
+{
+    for rec in recs.as_slice() {
+        if !is_numbered(rec) {
+            return false;
+        }
+    }
+    true
+}
+
+fn record_number(rec: &Rec) -> u32
+    ensures { result ≡ number_of rec.now }
+{
+    match rec {
+        Rec::Varint(number, _)
+        | Rec::Fixed64(number, _)
+        | Rec::Bytes(number, _)
+        | Rec::Group(number, _)
+        | Rec::Fixed32(number, _) => *number,
+    }
+}
+
+/// Whether the record may be written, and has the number.
+fn is_record(rec: &Rec, number: u32) -> bool
+    ensures { result ≡ (is_numbered_of rec.now && number_of rec.now == number) }
+{
+    record_number(rec) == number && is_numbered(rec)
+}
+
+/// Whether one of the records, which may be written, has the number.
+pub(crate) fn has_record(recs: &Recs, number: u32) -> bool
+    ensures { result ≡ has_record_of number recs.now }
+{
+    recs.as_slice().iter().any(|rec| is_record(rec, number))
+}
+
+/// Whether the option of this number is set.
+pub(crate) fn has_option(options: &Option<Options>, number: u32) -> bool
+    ensures { result ≡ has_option_of number options.now }
+{
+    match options {
+        Some(options) => options.bool_of(number).unwrap_or(false),
+        None => false,
+    }
+}
+
+/// Whether an option is left uninterpreted.
+pub(crate) fn is_uninterpreted(options: &Option<Options>) -> bool
+    ensures { result ≡ is_uninterpreted_of options.now }
+{
+    match options {
+        Some(options) => has_record(&options.recs, 999),
+        None => false,
+    }
+}
+
+/// The options of a message that is a message set, rule 15 (`descriptor.proto`: MessageOptions.message_set_wire_format). The only error is
+/// want of memory.
+#[tactic(auto, using(crate::proofs::Walked::where_here, crate::proofs::Walked::where_next))]
+pub fn message_sets(alloc: Global, parts: &FileParts<'_>) -> Result<Option<List<i32>>, NoMemory>
+    ensures { IfOk result (IsAmong (message_sets_of parts.now)) }
+{
+    for part in parts.messages() {
+        if has_option(&part.item().options, 1) {
+            return Ok(Some(part.at(alloc, 7)?));
+        }
+    }
+    Ok(None)
+}

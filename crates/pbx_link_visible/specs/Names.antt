@@ -1,0 +1,44 @@
+-- Look-ups of full names among the files that a file sees.
+use Rattle.std.specs.Prelude.{◌≡◌, ℕ, ◌+◌, ◌==◌, List, [], ◌∷◌, Bool, false, ◌&&◌, ◌||◌, if◌then◌else◌, Option, Some, None, slice_get}
+use Rattle.std.specs.List.{list_any}
+use Rattle.std.specs.Cmp.Lexicographic.{slice_cmp}
+use Rattle.std.specs.Ordering.{nat_cmp}
+use Rattle.std.specs.BTreeSet.{BTreeSet, contains_by}
+use Rattle.pbx_desc_records.specs.declared.file.FileDescriptorProto.{FileDescriptorProto}
+use Rattle.pbx_link_scope.specs.Scope.{packages}
+
+-- the set has a key of this text
+abbrev pub has_text : {K : Type 0} → (K → List ℕ) → BTreeSet K → List ℕ → Bool
+has_text text s name = contains_by (λ k. slice_cmp nat_cmp name (text k)) s
+
+-- the set has what it had, and the names that pass the test
+abbrev pub HasAddedNames : {K : Type 0} → (K → List ℕ) → (List ℕ → Bool) → BTreeSet K → BTreeSet K → Type 0
+HasAddedNames text test old new = (name : List ℕ) → has_text text new name ≡ (test name || has_text text old name)
+
+-- the index of the first item that passes the test, counted from this number
+abbrev pub first_index : {X : Type 0} → (X → Bool) → ℕ → List X → Option ℕ
+first_index test k [] = None
+first_index test k (x ∷ xs) = if test x then Some k else first_index test (k + 1) xs
+
+-- the packages of a file, if there is a file
+abbrev pub packages_of : Option FileDescriptorProto → List (List ℕ)
+packages_of None = []
+packages_of (Some f) = packages f
+
+-- the packages of the file at the index
+abbrev pub packages_at : List FileDescriptorProto → ℕ → List (List ℕ)
+packages_at files i = packages_of (slice_get files i)
+
+-- the index is one of these
+abbrev pub is_among : List ℕ → ℕ → Bool
+is_among indexes i = list_any (λ j. i == j) indexes
+
+-- what was found in a file of a pool, where this file is seen
+abbrev pub if_seen : {X : Type 0} → (ℕ → Bool) → Option (ℕ × X) → Option X
+if_seen seen None = None
+if_seen seen (Some found) = if seen found.0 then Some found.1 else None
+
+-- the answer that was found in a file of a pool is yes, and this file is seen
+abbrev pub is_seen : (ℕ → Bool) → Option (ℕ × Bool) → Bool
+is_seen seen None = false
+is_seen seen (Some found) = seen found.0 && found.1

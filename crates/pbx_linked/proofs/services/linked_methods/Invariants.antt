@@ -1,7 +1,0 @@
-use Rattle.std.proofs.Common.{◌≡◌, map, take}
-use Rattle.pbx_linked.specs.Settled.{settled_method}
-use Rattle.pbx_linked.specs.Linked.{linked_method}
-use Rattle.pbx_linked.proofs.services.linked_methods.Given as goal
-
-abbrev pub invariant-loop-method : goal.invariant-loop-method
-invariant-loop-method g l = l.linked ≡ map settled_method (map (linked_method (g.V.Visible.files l.seen) l.scope) (take l.method-index l.method-items))

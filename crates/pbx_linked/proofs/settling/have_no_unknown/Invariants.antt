@@ -1,6 +1,0 @@
-use Rattle.std.proofs.Common.{◌≡◌, map, take}
-use Rattle.pbx_linked.specs.Settled.{settled_location}
-use Rattle.pbx_linked.proofs.settling.have_no_unknown.Given as goal
-
-abbrev pub invariant-loop-location : goal.invariant-loop-location
-invariant-loop-location l = map settled_location (take l.location-index l.location-items) ≡ take l.location-index l.location-items

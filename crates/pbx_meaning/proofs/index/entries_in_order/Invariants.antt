@@ -1,6 +1,0 @@
-use Rattle.std.proofs.Common.{◌≡◌, take}
-use Rattle.pbx_meaning.specs.Index.{numbered}
-use Rattle.pbx_meaning.proofs.index.entries_in_order.Given as goal
-
-abbrev pub invariant-loop-place : goal.invariant-loop-place
-invariant-loop-place l = l.entries.items ≡ numbered 0 (take l.place l.fields)

@@ -1,8 +1,0 @@
-use Rattle.pbx_meaning.proofs.FaultyFirst.{faults_behind, first_behind}
-use Rattle.pbx_meaning.proofs.laws.faults_are_behind.Goals as goal
-
-pub returns-clause-all : goal.returns-clause-all
-returns-clause-all c = faults_behind
-
-pub returns-clause-first : goal.returns-clause-first
-returns-clause-first c = first_behind

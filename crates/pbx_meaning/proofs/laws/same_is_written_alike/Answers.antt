@@ -1,5 +1,0 @@
-use Rattle.pbx_meaning.proofs.Settled.{same_written}
-use Rattle.pbx_meaning.proofs.laws.same_is_written_alike.Goals as goal
-
-pub returns : goal.returns
-returns c = same_written

@@ -1,5 +1,0 @@
-use Rattle.pbx_meaning.proofs.Alike.{sorted_alike, alike_sorted}
-use Rattle.pbx_meaning.proofs.laws.sorted_records_are_alike.Goals as goal
-
-pub returns : goal.returns
-returns c rs ss = (alike_sorted rs ss, sorted_alike rs ss)

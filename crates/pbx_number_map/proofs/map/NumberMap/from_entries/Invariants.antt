@@ -1,6 +1,0 @@
-use Rattle.std.proofs.Common.{◌≡◌, []}
-use Rattle.pbx_number_map.specs.Entries.{with_entries}
-use Rattle.pbx_number_map.proofs.map.NumberMap.from_entries.Given as goal
-
-abbrev pub invariant-loop-number : goal.invariant-loop-number
-invariant-loop-number g l = l.map ≡ with_entries [] l.yielded

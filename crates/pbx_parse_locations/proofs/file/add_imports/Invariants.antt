@@ -1,0 +1,8 @@
+use Rattle.std.proofs.Common.{map, take}
+use Rattle.std.specs.List.{flat_map}
+use Rattle.pbx_parse_tree.specs.View.{top_of}
+use Rattle.pbx_parse_locations.specs.Locations.{import_at, top_imports, Adds}
+use Rattle.pbx_parse_locations.proofs.file.add_imports.Given as goal
+
+abbrev pub invariant-each : goal.invariant-each
+invariant-each l = Adds import_at (flat_map top_imports (map top_of (take l.top-index l.tops))) 0 l.index l.fn.out l.out

@@ -1,0 +1,8 @@
+use Rattle.std.proofs.Common.{map, take}
+use Rattle.std.specs.List.{flat_map}
+use Rattle.pbx_parse_tree.specs.View.{top_of}
+use Rattle.pbx_parse_locations.specs.Locations.{service_at, top_services, Adds}
+use Rattle.pbx_parse_locations.proofs.file.add_services.Given as goal
+
+abbrev pub invariant-each : goal.invariant-each
+invariant-each l = Adds service_at (flat_map top_services (map top_of (take l.top-index l.tops))) 0 l.index l.fn.out l.out

@@ -1,0 +1,9 @@
+use Rattle.std.proofs.Common.{map, take}
+use Rattle.std.specs.List.{flat_map}
+use Rattle.pbx_parse_tree.specs.View.{item_of}
+use Rattle.pbx_parse_locations.specs.Locations.{enum_at, item_enums, Adds}
+use Rattle.pbx_parse_locations.specs.BodyItems.{of_body_item}
+use Rattle.pbx_parse_locations.proofs.message.add_enums.Given as goal
+
+abbrev pub invariant-each : goal.invariant-each
+invariant-each l = Adds (enum_at l.path 4) (flat_map (of_body_item item_enums) (map item_of (take l.item-index l.items))) 0 l.index l.fn.out l.out

@@ -1,5 +1,0 @@
-use Rattle.pbx_pool_laws.proofs.References.{methods_have_messages}
-use Rattle.pbx_pool_laws.proofs.pool_laws.references_are_there.Goals as goal
-
-pub returns-clause-methods : goal.returns-clause-methods
-returns-clause-methods c = methods_have_messages

@@ -1,5 +1,0 @@
-use Rattle.pbx_pool_laws.proofs.Named.{fields_are_held}
-use Rattle.pbx_pool_laws.proofs.pool_laws.types_are_named.Goals as goal
-
-pub returns-clause-fields : goal.returns-clause-fields
-returns-clause-fields c = fields_are_held

@@ -1,2 +1,0 @@
-pub mod PoolLaws
-pub mod Pool

@@ -1,4 +1,0 @@
-pub mod Listed
-pub mod Looked
-pub mod Prefixes
-pub mod Twice

@@ -1,6 +1,0 @@
-use Rattle.std.proofs.Common.{◌≡◌, map, take}
-use Rattle.pbx_definitions.specs.Definitions.{full_name}
-use Rattle.pbx_pool_rules.proofs.names.full_names.Given as goal
-
-abbrev pub invariant-loop-definition : goal.invariant-loop-definition
-invariant-loop-definition l = l.names ≡ map full_name (take l.definition-index l.definitions)

@@ -1,1 +1,0 @@
--- No proof is written by hand so far.

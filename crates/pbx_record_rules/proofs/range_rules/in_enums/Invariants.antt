@@ -1,7 +1,0 @@
-use Rattle.std.proofs.Common.{◌≡◌, drop}
-use Rattle.std.specs.List.{flat_map}
-use Rattle.pbx_record_rules.specs.RangeRules.{bad_enum_ranges}
-use Rattle.pbx_record_rules.proofs.range_rules.in_enums.Given as goal
-
-abbrev pub invariant-loop-part : goal.invariant-loop-part
-invariant-loop-part l = flat_map bad_enum_ranges l.enums ≡ flat_map bad_enum_ranges (drop l.part-index l.enums)

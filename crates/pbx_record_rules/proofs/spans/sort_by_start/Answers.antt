@@ -1,7 +1,0 @@
-use Rattle.std.proofs.Common.{rules}
-use Rattle.std.proofs.lemmas.Fn.{always_returns_same}
-use Rattle.pbx_record_rules.specs.declared.spans.Span.{Span}
-use Rattle.pbx_record_rules.proofs.spans.sort_by_start.Goals as goal
-
-pub returns-clause-sorted : goal.returns-clause-sorted
-returns-clause-sorted c = c.sort_unstable_by_key.ensures.sorted (λ (s : Span). s.start) (always_returns_same _ _ _ (λ a r f' k. search rules))

@@ -1,5 +1,0 @@
-pub mod Values
-pub mod Contents
-pub mod Told
-pub mod Alike
-pub mod AlikeLinked

@@ -1,9 +1,0 @@
-use Rattle.std.proofs.Common.{◌≡◌, length}
-use Rattle.pbx_token.specs.Scan.{has_good_escapes}
-use Rattle.pbx_scope_rules.proofs.escapes.has_good_escapes.Given as goal
-
-abbrev pub invariant-scan : goal.invariant-scan
-invariant-scan l = has_good_escapes l.rest ≡ has_good_escapes l.text
-
-abbrev pub decreases-scan : goal.decreases-scan
-decreases-scan l = length l.rest

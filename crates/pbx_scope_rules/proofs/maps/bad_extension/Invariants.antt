@@ -1,7 +1,0 @@
-use Rattle.std.proofs.Common.{◌≡◌, drop}
-use Rattle.pbx_scope_rules.specs.MapFields.{of_entry_types}
-use Rattle.pbx_scope_rules.proofs.maps.bad_extension.Given as goal
-
-abbrev pub invariant-loop-extension : goal.invariant-loop-extension
-invariant-loop-extension g l =
-    of_entry_types (g.V.Visible.files l.seen) l.extensions ≡ of_entry_types (g.V.Visible.files l.seen) (drop l.extension-index l.extensions)

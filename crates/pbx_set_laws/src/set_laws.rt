@@ -1,9 +1,0 @@
-// Laws that callers use in their proofs. They have no body.
-ghost use Rattle.pbx_set_laws.specs.SetLaws.{SetsAreReadBack};
-
-/// Bytes that decode to the files of a pool, as those of its `encode_to_vec` do, make a pool of equal records, and are refused for want of
-/// memory alone.
-#[tactic(auto, using(crate::proofs::ReadBack::sets_are_read_back))]
-pub fn sets_are_read_back()
-    ensures { SetsAreReadBack }
-{}

@@ -1,8 +1,0 @@
-use Rattle.pbx_shape_laws.proofs.Proper.{types_are_proper, shape_is_proper}
-use Rattle.pbx_shape_laws.proofs.laws.shape_is_proper.Goals as goal
-
-pub returns-clause-types : goal.returns-clause-types
-returns-clause-types c = types_are_proper
-
-pub returns-clause-shape : goal.returns-clause-shape
-returns-clause-shape c = shape_is_proper

@@ -1,4 +1,0 @@
-pub mod Digits
-pub mod TimestampDays
-pub mod Moments
-pub mod Timestamps

@@ -1,2 +1,0 @@
-pub mod TextOrder
-pub mod TextPlaces

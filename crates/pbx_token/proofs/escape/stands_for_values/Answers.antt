@@ -1,5 +1,0 @@
-use Rattle.pbx_token.proofs.Strings.{values}
-use Rattle.pbx_token.proofs.escape.stands_for_values.Goals as goal
-
-pub returns : goal.returns
-returns c = values

@@ -1,5 +1,0 @@
-use Rattle.pbx_token.proofs.Laws.{one_list}
-use Rattle.pbx_token.proofs.lexer.at_most_one.Goals as goal
-
-pub returns : goal.returns
-returns c = one_list

@@ -1,5 +1,0 @@
-use Rattle.pbx_translation.proofs.Indexes.{all_named}
-use Rattle.pbx_translation.proofs.laws.indexes_name_own_oneofs.Goals as goal
-
-pub returns : goal.returns
-returns c = all_named

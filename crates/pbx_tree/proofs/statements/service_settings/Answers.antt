@@ -1,8 +1,0 @@
-use Rattle.std.proofs.Common.{sym}
-use Rattle.pbx_tree.specs.Conditions.{service_setting}
-use Rattle.pbx_tree.specs.View.{service_item_of}
-use Rattle.pbx_tree.proofs.Gathered.{of_views}
-use Rattle.pbx_tree.proofs.statements.service_settings.Goals as goal
-
-pub returns : goal.returns
-returns c = rw (sym (of_views service_setting service_item_of c.args.items.now)) c.set_among.ensures

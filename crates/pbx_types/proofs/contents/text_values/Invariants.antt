@@ -1,0 +1,13 @@
+use Rattle.std.proofs.Common.{◌≡◌, map, take}
+use Rattle.pbx_content.specs.declared.shape.Kind.TheVariants as kind
+use Rattle.pbx_content.specs.Content.{text, vals_of}
+use Rattle.pbx_content.specs.Sound.{AreElements}
+use Rattle.pbx_content_codec.specs.View.{val_of}
+use Rattle.pbx_desc_shapes.specs.TypesShape.{types_shape}
+use Rattle.pbx_types.proofs.contents.text_values.Given as goal
+
+abbrev pub invariant-loop-text : goal.invariant-loop-text
+invariant-loop-text l = record {
+  values : map val_of l.values ≡ map text (take l.text-index l.text-items);
+  sound : AreElements types_shape kind.String (vals_of (map text (take l.text-index l.text-items)));
+}

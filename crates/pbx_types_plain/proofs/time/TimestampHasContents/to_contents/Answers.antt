@@ -1,9 +1,0 @@
-use Rattle.std.proofs.Common.{refl}
-use Rattle.pbx_types_contents.proofs.Built.{two_made}
-use Rattle.pbx_types_contents.proofs.Types.{timestamp_type}
-use Rattle.pbx_types_plain.proofs.time.TimestampHasContents.to_contents.Goals as goal
-
-pub returns : goal.returns
-returns c =
-    two_made 8 _ _ c.args.self.now.unknown c.put_int32.new.contents timestamp_type (refl, (refl, tt)) refl refl refl c.in_ok-contents.ensures.content c.in_ok-put_int64.ensures c.in_ok-put_int32.ensures
-    c.in_ok-contents.ensures.fit

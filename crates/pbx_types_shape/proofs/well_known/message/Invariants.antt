@@ -1,6 +1,0 @@
-use Rattle.std.proofs.Common.{◌≡◌, map, take}
-use Rattle.pbx_types_shape.specs.TypesRows.{row_field}
-use Rattle.pbx_types_shape.proofs.well_known.message.Given as goal
-
-abbrev pub invariant-loop-row : goal.invariant-loop-row
-invariant-loop-row l = l.fields ≡ map row_field (take l.row-index l.rows)

@@ -1,6 +1,0 @@
-use Rattle.std.proofs.Common.{◌≡◌, map, take}
-use Rattle.pbx_types_shape.specs.TypesRows.{row_type}
-use Rattle.pbx_types_shape.proofs.well_known.messages.Given as goal
-
-abbrev pub invariant-loop-row : goal.invariant-loop-row
-invariant-loop-row l = l.messages ≡ map row_type (take l.row-index l.rows)

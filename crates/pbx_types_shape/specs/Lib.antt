@@ -1,2 +1,0 @@
-pub mod TypesRows
-pub mod TypesShape

@@ -1,8 +1,0 @@
-mod Lists
-mod Rules
-mod Places
-mod Oneofs
-mod Alike
-mod Values
-mod Rows
-mod Whole

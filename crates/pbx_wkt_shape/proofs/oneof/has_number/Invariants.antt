@@ -1,7 +1,0 @@
-use Rattle.std.proofs.Common.{◌≡◌}
-use Rattle.pbx_described.specs.Descriptors.{fields_of_oneof}
-use Rattle.pbx_wkt_shape.specs.Told.{has_number as has_number_of}
-use Rattle.pbx_wkt_shape.proofs.oneof.has_number.Given as goal
-
-abbrev pub invariant-loop-field : goal.invariant-loop-field
-invariant-loop-field l = has_number_of l.number (fields_of_oneof l.fn.oneof) ≡ has_number_of l.number l.field-iterator

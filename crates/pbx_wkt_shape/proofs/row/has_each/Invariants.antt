@@ -1,8 +1,0 @@
-use Rattle.std.proofs.Common.{◌≡◌, drop, map}
-use Rattle.std.specs.List.{list_all}
-use Rattle.pbx_well_known.specs.Rows.{row_field}
-use Rattle.pbx_wkt_shape.specs.Told.{has_row}
-use Rattle.pbx_wkt_shape.proofs.row.has_each.Given as goal
-
-abbrev pub invariant-loop-row : goal.invariant-loop-row
-invariant-loop-row l = list_all (has_row l.desc) (map row_field l.rows) ≡ list_all (has_row l.desc) (map row_field (drop l.row-index l.rows))

@@ -1,6 +1,0 @@
-use Rattle.std.proofs.Common.{◌≡◌}
-use Rattle.protox_generated.specs.Sources.{files_to}
-use Rattle.protox_generated.proofs.files.GeneratedFiles.new.Given as goal
-
-abbrev pub invariant-loop-before : goal.invariant-loop-before
-invariant-loop-before l = l.sources.items ≡ files_to l.before

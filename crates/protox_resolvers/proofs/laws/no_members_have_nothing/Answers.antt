@@ -1,5 +1,0 @@
-use Rattle.protox_resolvers.proofs.Joined.{none_has_nothing}
-use Rattle.protox_resolvers.proofs.laws.no_members_have_nothing.Goals as goal
-
-pub returns : goal.returns
-returns c = none_has_nothing
