@@ -9,8 +9,8 @@ use Rattle.pbx_content.specs.Faults.{IsFirst, IsToldFault}
 use Rattle.pbx_desc_encoding.specs.Sets.{set_meaning_of, IsSetFault}
 use Rattle.pbx_link_rules.specs.Breaches.{keeps_rules}
 use Rattle.pbx_link_rules.specs.Pool.{with_file}
-use Rattle.pbx_link.specs.declared.error.DescriptorError.{DescriptorError}
-use Rattle.pbx_link.specs.declared.error.DescriptorError.TheVariants.{Rule, Decode, NoMemory}
+use Rattle.pbx_link_definitions.specs.declared.error.DescriptorError.{DescriptorError}
+use Rattle.pbx_link_definitions.specs.declared.error.DescriptorError.TheVariants.{Rule, Decode, NoMemory}
 use Rattle.pbx_link.specs.Pool.{IsRefused}
 use Rattle.pbx_link.specs.Bytes.{with_files, AreRefused, undecoded_as, IsSetRefused}
 

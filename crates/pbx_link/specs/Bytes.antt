@@ -13,8 +13,8 @@ use Rattle.pbx_link_definitions.specs.Definitions.{Place}
 use Rattle.pbx_link_definitions.specs.Names.{text_or_empty}
 use Rattle.pbx_link_rules.specs.Breaches.{keeps_rules, BreaksFirst}
 use Rattle.pbx_link_rules.specs.Pool.{with_file}
-use Rattle.pbx_link.specs.declared.error.DescriptorError.{DescriptorError}
-use Rattle.pbx_link.specs.declared.error.DescriptorError.TheVariants.{Rule, Decode, NoMemory}
+use Rattle.pbx_link_definitions.specs.declared.error.DescriptorError.{DescriptorError}
+use Rattle.pbx_link_definitions.specs.declared.error.DescriptorError.TheVariants.{Rule, Decode, NoMemory}
 use Rattle.pbx_link.specs.Pool.{IsRefused}
 
 -- ---- records, one after another

@@ -3,8 +3,8 @@ use Rattle.std.specs.Prelude.{◌≡◌, List}
 use Rattle.pbx_desc_records.specs.declared.file.FileDescriptorProto.{FileDescriptorProto}
 use Rattle.pbx_link_definitions.specs.Names.{text_or_empty}
 use Rattle.pbx_link_rules.specs.Breaches.{BreaksFirst}
-use Rattle.pbx_link.specs.declared.error.DescriptorError.{DescriptorError}
-use Rattle.pbx_link.specs.declared.error.DescriptorError.TheVariants.{Rule, Decode, NoMemory}
+use Rattle.pbx_link_definitions.specs.declared.error.DescriptorError.{DescriptorError}
+use Rattle.pbx_link_definitions.specs.declared.error.DescriptorError.TheVariants.{Rule, Decode, NoMemory}
 
 -- the first rule that the record breaks among the files, with a place where it is broken and the file's name; nothing is said where memory
 -- runs out
@@ -12,7 +12,3 @@ abbrev pub IsRefused : List FileDescriptorProto → FileDescriptorProto → Desc
 IsRefused files f (Rule file place rule) = (file ≡ text_or_empty f.name) × BreaksFirst files f rule place
 IsRefused files f (Decode error) = ⊥
 IsRefused files f NoMemory = Unit {0}
-
--- want of memory
-abbrev pub out_of_memory : DescriptorError
-out_of_memory = NoMemory

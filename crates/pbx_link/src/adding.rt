@@ -8,11 +8,10 @@ ghost use Rattle.pbx_link_pool.specs.Refused.{IsRefused as IsRefusedByPool};
 ghost use Rattle.pbx_link.specs.Pool.{IsRefused};
 ghost use Rattle.pbx_link.specs.Tables.{held};
 
-use crate::error::DescriptorError;
 use crate::held::HeldPool;
 use crate::pool::DescriptorPool;
 use pbx_desc_records::FileDescriptorProto;
-use pbx_link_definitions::text_or_empty;
+use pbx_link_definitions::{DescriptorError, text_or_empty};
 use pbx_link_pool::{Pool, Refusal};
 use pbx_link_rules::Breach;
 use pbx_shared::{Shared, Unique};

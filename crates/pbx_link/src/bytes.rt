@@ -4,10 +4,10 @@ ghost use Rattle.pbx_content.specs.Meaning.{meaning_of};
 ghost use Rattle.pbx_content.specs.Faults.{IsFaultOf, IsToldFault};
 ghost use Rattle.pbx_link.specs.Bytes.{IsFileAdded, IsFileRefused, AreAdded, IsSetRefused, AreRefused, with_files, undecoded_as};
 
-use crate::error::DescriptorError;
 use crate::pool::DescriptorPool;
 use pbx_desc::DecodeMessage;
 use pbx_desc_records::{FileDescriptorProto, FileDescriptorSet};
+use pbx_link_definitions::DescriptorError;
 use pbx_wire::{DecodeError, List};
 use std::alloc::Global;
 

@@ -5,3 +5,4 @@ pub mod Codes
 pub mod Laws
 pub mod Places
 pub mod Ranges
+pub mod Errors

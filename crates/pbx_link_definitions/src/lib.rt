@@ -1,8 +1,9 @@
-//! The parts of descriptor records with their full names and places, and all that a file defines.
+//! The parts of descriptor records with their full names and places, and all that a file defines; and why a file is not linked.
 #![tactic(auto)]
 
 mod absent;
 mod definitions;
+mod error;
 mod file_parts;
 mod laws;
 mod names;
@@ -10,6 +11,7 @@ mod parts;
 
 pub use absent::{is_named, number_or_zero, text_or_empty};
 pub use definitions::{Definition, Sort, file_definitions};
+pub use error::DescriptorError;
 pub use file_parts::FileParts;
 pub use laws::nested_are_told;
 pub use names::is_ident;

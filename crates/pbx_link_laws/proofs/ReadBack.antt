@@ -22,8 +22,8 @@ use Rattle.pbx_link_laws.proofs.Alike.{alike_is_settled}
 use Rattle.pbx_link_laws.proofs.AlikeLinked.{alike_is_linked}
 use Rattle.pbx_link_laws.proofs.Values.{content_settled, records_same}
 use Rattle.pbx_link_laws.proofs.Told.{Tells, content_tells, nth, list_told, items_told, message_told}
-use Rattle.pbx_link.specs.declared.error.DescriptorError.{DescriptorError}
-use Rattle.pbx_link.specs.declared.error.DescriptorError.TheVariants.{Rule, Decode, NoMemory}
+use Rattle.pbx_link_definitions.specs.declared.error.DescriptorError.{DescriptorError}
+use Rattle.pbx_link_definitions.specs.declared.error.DescriptorError.TheVariants.{Rule, Decode, NoMemory}
 use Rattle.pbx_link.specs.Bytes.{with_files, IsFirstRefused, DecodesFiles, AreAdded, IsSetRefused}
 use Rattle.pbx_link_laws.specs.SetLaws.{SetsAreReadBack}
 

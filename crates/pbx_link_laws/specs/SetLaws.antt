@@ -4,8 +4,8 @@ use Rattle.pbx_desc_records.specs.declared.file.FileDescriptorProto.{FileDescrip
 use Rattle.pbx_desc_encoding.specs.Content.{files_content}
 use Rattle.pbx_desc_encoding.specs.Sets.{DecodesSet}
 use Rattle.pbx_link_rules.specs.Pool.{ArePooled}
-use Rattle.pbx_link.specs.declared.error.DescriptorError.{DescriptorError}
-use Rattle.pbx_link.specs.declared.error.DescriptorError.TheVariants.{NoMemory}
+use Rattle.pbx_link_definitions.specs.declared.error.DescriptorError.{DescriptorError}
+use Rattle.pbx_link_definitions.specs.declared.error.DescriptorError.TheVariants.{NoMemory}
 use Rattle.pbx_link.specs.Bytes.{AreAdded, IsSetRefused}
 
 -- what is decoded into a pool without files is this pool, and nothing but want of memory refuses it

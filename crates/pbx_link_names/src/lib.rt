@@ -3,8 +3,6 @@
 
 mod name_map;
 mod numbered_names;
-#[cfg(test)]
-mod tests;
 
 pub use name_map::NameMap;
 pub use numbered_names::NumberedNames;

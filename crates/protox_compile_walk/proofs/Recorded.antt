@@ -14,8 +14,8 @@ use Rattle.pbx_link_rules.specs.Pool.{ArePooled, with_file}
 use Rattle.pbx_link_rules.specs.PoolLaws.{AreBehind}
 use Rattle.pbx_link_rules.proofs.Kept.{has_name}
 use Rattle.pbx_link_rules.proofs.Behind.{pooled_are_behind}
-use Rattle.pbx_link.specs.declared.error.DescriptorError.{DescriptorError}
-use Rattle.pbx_link.specs.declared.error.DescriptorError.TheVariants as check
+use Rattle.pbx_link_definitions.specs.declared.error.DescriptorError.{DescriptorError}
+use Rattle.pbx_link_definitions.specs.declared.error.DescriptorError.TheVariants as check
 use Rattle.pbx_link.specs.Pool.{IsRefused}
 use Rattle.protox_file_error.specs.Errors.{of_descriptor}
 use Rattle.protox_file_sources.specs.Metadata.{Metadata}

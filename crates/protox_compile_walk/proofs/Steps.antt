@@ -1,7 +1,7 @@
 -- How a step of the stack goes on or ends a walk.
 use Rattle.std.proofs.Common.{◌≡◌, ◌+◌, ◌<◌, ◌≤◌, ◌∙◌, inl, inr, ◌∷◌, ◌++◌, [], ℕ, List, Bool, true, false, refl, sym, subst, length, take, reverse, arith, add-one}
 use Rattle.std.specs.Prelude.{nat_lt, None}
-use Rattle.pbx_link.specs.declared.error.DescriptorError.{DescriptorError}
+use Rattle.pbx_link_definitions.specs.declared.error.DescriptorError.{DescriptorError}
 use Rattle.pbx_link.specs.Pool.{IsRefused}
 use Rattle.pbx_link_rules.specs.Breaches.{keeps_rules}
 use Rattle.pbx_link_definitions.specs.Names.{among}

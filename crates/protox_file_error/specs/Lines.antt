@@ -3,8 +3,8 @@ use Rattle.std.specs.Prelude.{ℕ, ℤ, ◌==◌, ◌++◌, nat_lt, List, [], �
 use Rattle.std.specs.Fmt.{signed_decimal}
 use Rattle.pbx_parse.specs.declared.error.ParseError.{ParseError}
 use Rattle.pbx_parse.specs.declared.error.ParseError.TheVariants as parse
-use Rattle.pbx_link.specs.declared.error.DescriptorError.{DescriptorError}
-use Rattle.pbx_link.specs.declared.error.DescriptorError.TheVariants as check
+use Rattle.pbx_link_definitions.specs.declared.error.DescriptorError.{DescriptorError}
+use Rattle.pbx_link_definitions.specs.declared.error.DescriptorError.TheVariants as check
 use Rattle.protox_file_error.specs.declared.error.ErrorKind.{ErrorKind}
 use Rattle.protox_file_error.specs.declared.error.ErrorKind.TheVariants.{Parse, Check, OpenFile, FileTooLarge, FileInvalidUtf8, FileNotFound}
 use Rattle.protox_file_error.specs.declared.error.ErrorKind.TheVariants.{ImportNotFound, CircularImport, FileNotIncluded, FileShadowed}

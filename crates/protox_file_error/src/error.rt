@@ -8,7 +8,7 @@ ghost use Rattle.protox_file_error.specs.Errors.{is_text_fault, is_reading_fault
 ghost use Rattle.protox_file_error.specs.Lines.{line_of, long_line_of};
 
 use crate::lines;
-use pbx_link::DescriptorError;
+use pbx_link_definitions::DescriptorError;
 use pbx_parse::ParseError;
 use pbx_wire::{DecodeError, NoMemory, Text};
 use std::alloc::Global;

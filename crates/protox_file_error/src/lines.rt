@@ -8,7 +8,7 @@ ghost use Rattle.protox_file_error.specs.Lines.{at_place, at_import, before_pars
 
 use crate::error::ErrorKind;
 use itoa::Buffer;
-use pbx_link::DescriptorError;
+use pbx_link_definitions::DescriptorError;
 use pbx_parse::ParseError;
 use pbx_wire::{NoMemory, Text};
 use std::alloc::Global;

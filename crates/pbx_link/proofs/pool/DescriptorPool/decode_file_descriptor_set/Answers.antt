@@ -1,5 +1,5 @@
 use Rattle.std.proofs.Common.{sym, subst}
-use Rattle.pbx_link.specs.declared.error.DescriptorError.{DescriptorError}
+use Rattle.pbx_link_definitions.specs.declared.error.DescriptorError.{DescriptorError}
 use Rattle.pbx_link.specs.Bytes.{IsSetRefused}
 use Rattle.pbx_link.proofs.Added.{undecoded_is, set_refused}
 use Rattle.pbx_link.proofs.pool.DescriptorPool.decode_file_descriptor_set.Goals as goal

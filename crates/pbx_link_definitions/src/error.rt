@@ -1,5 +1,5 @@
 ghost use Rattle.std.specs.Prelude.{◌≡◌};
-ghost use Rattle.pbx_link.specs.Pool.{out_of_memory};
+ghost use Rattle.pbx_link_definitions.specs.Errors.{out_of_memory};
 
 use pbx_wire::{DecodeError, List, NoMemory, Text};
 
