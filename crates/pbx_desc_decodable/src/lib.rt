@@ -11,4 +11,4 @@ mod shape;
 mod table;
 
 pub use set::{encode_decodable, first_undecodable, is_decodable};
-pub use shape::{FILE_SET, options_schema};
+pub(crate) use shape::{FILE_SET, options_schema};

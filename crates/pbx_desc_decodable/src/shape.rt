@@ -13,7 +13,7 @@ use pbx_wire::{List, NoMemory, Text};
 use std::alloc::Global;
 
 /// The place of `google.protobuf.FileDescriptorSet` in the schema.
-pub const FILE_SET: usize = 0;
+pub(crate) const FILE_SET: usize = 0;
 
 fn text_of(alloc: Global, text: Option<&'static str>) -> Result<Option<Text>, NoMemory>
     ensures { IfOk result (λ own. own ≡ option_map (λ t. t.now) text.entry) }
@@ -126,7 +126,7 @@ fn enums(alloc: Global) -> Result<List<EnumShape>, NoMemory>
 
 /// The schema of `google/protobuf/descriptor.proto` without the field `source_code_info` of a file, below which there are
 /// no options. The only error is want of memory.
-pub fn options_schema(alloc: Global) -> Result<Schema, NoMemory>
+pub(crate) fn options_schema(alloc: Global) -> Result<Schema, NoMemory>
     ensures { IfOk result (λ schema. schema ≡ options_schema_of) }
 {
     let shape = Shape {

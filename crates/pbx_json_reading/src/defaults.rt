@@ -56,7 +56,7 @@ fn kept_if<T: Drop>(is_kept: bool, value: T) -> Option<T>
 }
 
 /// The value, unless it is a default of a field without presence.
-pub fn shown(schema: &Schema, field: &FieldShape, held: Option<Held>) -> Option<Held>
+pub(crate) fn shown(schema: &Schema, field: &FieldShape, held: Option<Held>) -> Option<Held>
     ensures { option_map val_of result ≡ shown_of schema.now (has_presence_of field.now) field.now.kind (option_map val_of held) }
 {
     match held {

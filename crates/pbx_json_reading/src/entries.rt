@@ -15,7 +15,7 @@ use std::collections::BTreeSet;
 
 /// The numbers that keys were read as, and the pairs so far.
 #[derive(Drop)]
-pub struct MapEntries {
+pub(crate) struct MapEntries {
     numbers: BTreeSet<i128>,
     pairs: List<Pair>,
 }
@@ -37,7 +37,7 @@ fn number(key: &MapKey) -> Option<i128>
 
 impl MapEntries {
     /// No entries.
-    pub fn new(alloc: Global) -> MapEntries
+    pub(crate) fn new(alloc: Global) -> MapEntries
         ensures { entries_of result ≡ no_entries }
     {
         MapEntries {
@@ -47,7 +47,7 @@ impl MapEntries {
     }
 
     /// Whether a key was read as the same number. Other keys that are read alike are one key.
-    pub fn is_used(&self, key: &MapKey) -> bool
+    pub(crate) fn is_used(&self, key: &MapKey) -> bool
         ensures { result ≡ is_used_of (key_of key.now) (entries_of self.now).numbers }
     {
         match number(key) {
@@ -82,7 +82,7 @@ impl MapEntries {
     }
 
     /// With an entry.
-    pub fn add(&mut self, key: MapKey, held: Option<Held>) -> Result<(), NoMemory>
+    pub(crate) fn add(&mut self, key: MapKey, held: Option<Held>) -> Result<(), NoMemory>
         ensures { OnOk result (entries_of self.new ≡ with_entry (key_of key) (entries_of self.old) (option_map val_of held)) }
     {
         if self.use_key(&key).is_err() {
@@ -93,7 +93,7 @@ impl MapEntries {
     }
 
     /// The pairs by ascending key, as a value.
-    pub fn into_value(self, alloc: Global) -> Result<Held, NoMemory>
+    pub(crate) fn into_value(self, alloc: Global) -> Result<Held, NoMemory>
         ensures { IfOk result (λ held. Some (val_of held) ≡ map_value (entries_of self)) }
     {
         Ok(Held::Pairs(sorted(alloc, self.pairs)?))

@@ -9,7 +9,7 @@ use pbx_wire::{List, Text};
 use std::alloc::Global;
 
 /// A fault of the tree itself.
-pub fn at_tree(alloc: Global, kind: JsonKind) -> JsonError
+pub(crate) fn at_tree(alloc: Global, kind: JsonKind) -> JsonError
     ensures { result ≡ record { place = []; kind = kind } }
 {
     JsonError {
@@ -31,7 +31,7 @@ fn below_step(alloc: Global, step: Step, error: JsonError) -> JsonError
 }
 
 /// A fault below a key.
-pub fn below_key(alloc: Global, key: &str, error: JsonError) -> JsonError
+pub(crate) fn below_key(alloc: Global, key: &str, error: JsonError) -> JsonError
     ensures { (result.kind ≡ OutOfMemory) ⊎ (result ≡ below (to_key key.now) error) }
 {
     match Text::from_str(alloc, key) {
@@ -41,14 +41,14 @@ pub fn below_key(alloc: Global, key: &str, error: JsonError) -> JsonError
 }
 
 /// A fault below an element.
-pub fn below_index(alloc: Global, index: usize, error: JsonError) -> JsonError
+pub(crate) fn below_index(alloc: Global, index: usize, error: JsonError) -> JsonError
     ensures { (result.kind ≡ OutOfMemory) ⊎ (result ≡ below (to_index index) error) }
 {
     below_step(alloc, Step::Index(index as u64), error)
 }
 
 /// A fault of a key.
-pub fn at_key(alloc: Global, key: &str, kind: JsonKind) -> JsonError
+pub(crate) fn at_key(alloc: Global, key: &str, kind: JsonKind) -> JsonError
     ensures { (result.kind ≡ OutOfMemory) ⊎ (result ≡ below (to_key key.now) (record { place = []; kind = kind })) }
 {
     below_key(alloc, key, at_tree(alloc, kind))

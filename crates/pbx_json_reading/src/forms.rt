@@ -32,7 +32,7 @@ use serde_json::Value;
 use std::alloc::Global;
 
 /// Whether keys that name no field are skipped: never those of `Empty`.
-pub fn skips_keys(form: Form, allow: bool) -> bool
+pub(crate) fn skips_keys(form: Form, allow: bool) -> bool
     ensures { result ≡ skips form allow }
 {
     match form {
@@ -300,7 +300,7 @@ fn read_whole(
 }
 
 /// What a message of a type, whose form is no object of fields, is read as.
-pub fn read_own<'t>(
+pub(crate) fn read_own<'t>(
     alloc: Global,
     schema: &Schema,
     names: &mut SchemaNames,

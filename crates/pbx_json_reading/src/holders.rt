@@ -23,7 +23,7 @@ use std::alloc::Global;
 
 /// A `Value` that holds another message.
 #[derive(Clone, Copy)]
-pub struct Outer {
+pub(crate) struct Outer {
     /// The place of its type.
     pub place: usize,
     /// The number of the field that holds the message.
@@ -32,7 +32,7 @@ pub struct Outer {
 
 /// A `Struct` or a `ListValue`, in the `Value` that holds it if there is one.
 #[derive(Clone, Copy)]
-pub struct Holder {
+pub(crate) struct Holder {
     /// The place of its type.
     pub place: usize,
     /// The `Value` that holds it.
@@ -41,7 +41,7 @@ pub struct Holder {
 
 /// The payload of an `Any`.
 #[derive(Clone, Copy)]
-pub struct Packing<'t> {
+pub(crate) struct Packing<'t> {
     /// The place of the type of the `Any`.
     pub place: usize,
     /// The URL of the payload's type.
@@ -54,7 +54,7 @@ pub struct Packing<'t> {
 
 /// What a message of a form of its own is read as.
 #[derive(Drop)]
-pub enum Own<'t> {
+pub(crate) enum Own<'t> {
     /// Contents, which were read at once.
     Whole(Contents),
     /// The elements of the tree, of a `ListValue`.
@@ -184,7 +184,7 @@ fn held_contents(
 }
 
 /// The contents of a list or a map with values of a kind; an empty one is absent.
-pub fn hold(
+pub(crate) fn hold(
     alloc: Global,
     schema: &Schema,
     kind: Kind,

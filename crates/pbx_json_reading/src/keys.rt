@@ -81,7 +81,7 @@ fn u64_key(text: &str) -> Result<MapKey, JsonKind>
 }
 
 /// What a key of an object is as the key of a map.
-pub fn read_key(alloc: Global, kind: Kind, text: &str) -> Result<MapKey, JsonKind>
+pub(crate) fn read_key(alloc: Global, kind: Kind, text: &str) -> Result<MapKey, JsonKind>
     ensures ok { IfOk result (λ k. key_read kind text.now ≡ Ok (key_of_key k)) }
     ensures err { IfErr result (λ e. (e ≡ OutOfMemory) ⊎ (key_read kind text.now ≡ Err e)) }
 {

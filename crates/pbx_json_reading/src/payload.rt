@@ -25,14 +25,14 @@ use serde_json::{Map, Value};
 use std::alloc::Global;
 
 /// Whether the key is that of the type.
-pub fn is_type_key(key: &str) -> bool
+pub(crate) fn is_type_key(key: &str) -> bool
     ensures { result ≡ is_type_key_of key.now }
 {
     key == "@type"
 }
 
 /// Whether the key is that of a payload of a well-known type.
-pub fn is_value_key(key: &str) -> bool
+pub(crate) fn is_value_key(key: &str) -> bool
     ensures { result ≡ is_value_key_of key.now }
 {
     key == "value"
@@ -186,7 +186,7 @@ fn packed_contents(
 }
 
 /// The content of an `Any` whose payload was read.
-pub fn pack(
+pub(crate) fn pack(
     alloc: Global,
     schema: &Schema,
     packing: Packing<'_>,
@@ -204,7 +204,7 @@ pub fn pack(
 }
 
 /// The payload, if one was found.
-pub fn payload_found(alloc: Global, found: Option<Contents>) -> Result<Contents, JsonError>
+pub(crate) fn payload_found(alloc: Global, found: Option<Contents>) -> Result<Contents, JsonError>
     ensures ok { IfOk result (λ c. payload_found_of (option_map content_of found) ≡ Ok (content_of c)) }
     ensures err { IfErr result (λ e. payload_found_of (option_map content_of found) ≡ Err e) }
 {

@@ -201,7 +201,7 @@ fn read_enum(
 }
 
 /// A value of a kind that is no message.
-pub fn read_scalar(
+pub(crate) fn read_scalar(
     alloc: Global,
     schema: &Schema,
     names: &mut SchemaNames,

@@ -20,7 +20,7 @@ use std::collections::BTreeSet;
 /// The numbers of the fields that a key named, the oneofs of which a member has a value, and the values so far in order of
 /// arrival, which is the order of their names.
 #[derive(Drop)]
-pub struct ObjectState {
+pub(crate) struct ObjectState {
     seen: BTreeSet<u32>,
     taken: BTreeSet<u32>,
     values: List<(u32, Held)>,
@@ -48,7 +48,7 @@ fn add_oneof(taken: &mut BTreeSet<u32>, oneof: Option<u32>) -> Result<(), NoMemo
 
 impl ObjectState {
     /// Nothing was named.
-    pub fn new(alloc: Global) -> ObjectState
+    pub(crate) fn new(alloc: Global) -> ObjectState
         ensures { state_of result ≡ start }
     {
         ObjectState {
@@ -59,7 +59,7 @@ impl ObjectState {
     }
 
     /// Whether a key named the field of a number.
-    pub fn is_seen(&self, number: u32) -> bool
+    pub(crate) fn is_seen(&self, number: u32) -> bool
         ensures { result ≡ contains_of nat_cmp (state_of self.now).seen number }
     {
         self.seen.contains(&number)
@@ -123,7 +123,7 @@ impl ObjectState {
     }
 
     /// With what was read for a field.
-    pub fn note(
+    pub(crate) fn note(
         &mut self,
         alloc: Global,
         field: &FieldShape,
@@ -142,7 +142,7 @@ impl ObjectState {
     }
 
     /// The content that was found.
-    pub fn into_contents(self, alloc: Global) -> Result<Contents, JsonError>
+    pub(crate) fn into_contents(self, alloc: Global) -> Result<Contents, JsonError>
         ensures ok { IfOk result (λ contents. content_of contents ≡ (state_of self).found) }
         ensures err { IfErr result (λ e. e.kind ≡ OutOfMemory) }
     {
@@ -163,7 +163,7 @@ fn in_order(values: List<(u32, Held)>) -> Result<Vec<(u32, Held)>, NoMemory>
 }
 
 /// The content of these values. Where their numbers ascend, none is moved.
-pub fn contents_with(alloc: Global, values: List<(u32, Held)>) -> Result<Contents, NoMemory>
+pub(crate) fn contents_with(alloc: Global, values: List<(u32, Held)>) -> Result<Contents, NoMemory>
     ensures { IfOk result (λ contents. content_of contents ≡ content_with values) }
 {
     let fields = NumberMap::from_entries(alloc, in_order(values)?)?;

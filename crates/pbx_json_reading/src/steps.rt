@@ -16,7 +16,7 @@ use pbx_wire::List;
 use std::alloc::Global;
 
 /// With what was read for the field that a key names.
-pub fn note_at(
+pub(crate) fn note_at(
     alloc: Global,
     key: &str,
     state: &mut ObjectState,
@@ -33,7 +33,7 @@ pub fn note_at(
 }
 
 /// With an element, if it was not dropped.
-pub fn add_value(
+pub(crate) fn add_value(
     alloc: Global,
     values: &mut List<Held>,
     held: Option<Held>,
@@ -51,7 +51,7 @@ pub fn add_value(
 }
 
 /// With an entry.
-pub fn add_entry(
+pub(crate) fn add_entry(
     alloc: Global,
     entries: &mut MapEntries,
     key: MapKey,
@@ -67,7 +67,7 @@ pub fn add_entry(
 }
 
 /// The entries as a value.
-pub fn map_held(alloc: Global, entries: MapEntries) -> Result<Option<Held>, JsonError>
+pub(crate) fn map_held(alloc: Global, entries: MapEntries) -> Result<Option<Held>, JsonError>
     ensures ok { IfOk result (λ r. option_map val_of r ≡ map_value (entries_of entries)) }
     ensures err { IfErr result (λ e. e.kind ≡ OutOfMemory) }
 {

@@ -22,7 +22,7 @@ enum Sort {
 
 /// The fields of one message type by their names. It holds none of the fields, and each look-up is given them again.
 #[derive(Drop)]
-pub struct FieldNames {
+pub(crate) struct FieldNames {
     by_key: NamePlaces,
     by_name: NamePlaces,
 }

@@ -14,7 +14,7 @@ mod type_names;
 
 pub use any::{payload_bytes, type_url};
 pub use enums::{first_value, is_null_value};
-pub use field_names::FieldNames;
+pub(crate) use field_names::FieldNames;
 pub use kinds::{has_presence, is_float, is_object_form, kind_at};
 pub use schema_names::SchemaNames;
 pub use type_names::TypeNames;

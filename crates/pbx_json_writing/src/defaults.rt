@@ -105,7 +105,7 @@ fn add_defaults(
 }
 
 /// The object of a message whose fields with values are these members.
-pub fn with_defaults(
+pub(crate) fn with_defaults(
     alloc: Global,
     schema: &Schema,
     options: &SerializeOptions,

@@ -20,7 +20,7 @@ use pbx_wire::{Rec, Recs};
 use std::alloc::Global;
 
 /// The place of a message type.
-pub fn message_type(kind: Kind) -> usize
+pub(crate) fn message_type(kind: Kind) -> usize
     ensures { result ≡ type_of kind }
 {
     match kind {
@@ -47,7 +47,7 @@ pub(crate) fn declared_of(schema: &Schema, type_at: usize) -> &[FieldShape]
 }
 
 /// The field of a number in the type at a place.
-pub fn field_numbered(schema: &Schema, type_at: usize, number: u32) -> Option<&FieldShape>
+pub(crate) fn field_numbered(schema: &Schema, type_at: usize, number: u32) -> Option<&FieldShape>
     ensures found { option_map (λ f. f.now) result ≡ field_of number (declared_of_type schema.now type_at) }
     ensures proper { IsProper schema.now }
 {
@@ -56,7 +56,7 @@ pub fn field_numbered(schema: &Schema, type_at: usize, number: u32) -> Option<&F
 }
 
 /// The key that a field is written under: its JSON name, or by option its own name; an extension keeps its JSON name.
-pub fn key_of_field<'f>(options: &SerializeOptions, field: &'f FieldShape) -> &'f str
+pub(crate) fn key_of_field<'f>(options: &SerializeOptions, field: &'f FieldShape) -> &'f str
     ensures { result.now ≡ key_of_field_of (plain options.now) field.now }
 {
     if options.use_proto_field_name && !field.is_extension {
@@ -114,7 +114,7 @@ pub(crate) fn kept_float<'s>(
 }
 
 /// Nothing, where the content keeps no record of a float field.
-pub fn keeps_no_float(
+pub(crate) fn keeps_no_float(
     alloc: Global,
     schema: &Schema,
     options: &SerializeOptions,

@@ -227,7 +227,7 @@ fn wrapper_tree(
 }
 
 /// Whether messages of the form are told by the value of a field of theirs, or by their payload.
-pub fn is_passed_form(form: Form) -> bool
+pub(crate) fn is_passed_form(form: Form) -> bool
     ensures { result ≡ is_passed_form_of form }
 {
     matches!(
@@ -247,7 +247,7 @@ fn first_number(contents: &Contents) -> u32
 }
 
 /// The number of the field that a `Value` holds, 0 where it holds none, unless it keeps a record of its float field.
-pub fn number_of_value(
+pub(crate) fn number_of_value(
     contents: &Contents,
     alloc: Global,
     schema: &Schema,
@@ -265,7 +265,7 @@ pub fn number_of_value(
 }
 
 /// A message of a type that is told by a value of its own, and not by fields, the value of one of them or a payload.
-pub fn own_tree(
+pub(crate) fn own_tree(
     contents: &Contents,
     alloc: Global,
     schema: &Schema,

@@ -13,14 +13,14 @@ use std::alloc::Global;
 
 /// Values of enums by their numbers, and message types by their URLs, of those that were asked for.
 #[derive(Drop)]
-pub struct Indexes {
+pub(crate) struct Indexes {
     enums: EnumIndexes,
     types: TypeNames,
 }
 
 impl Indexes {
     /// Nothing was asked for yet; takes no memory.
-    pub fn new(alloc: Global, schema: &Schema) -> Indexes
+    pub(crate) fn new(alloc: Global, schema: &Schema) -> Indexes
         ensures { AreIndexes schema.now result }
     {
         Indexes {
@@ -30,7 +30,7 @@ impl Indexes {
     }
 
     /// The first declared value of a number.
-    pub fn value_of_number<'s>(
+    pub(crate) fn value_of_number<'s>(
         &mut self,
         alloc: Global,
         schema: &'s Schema,
@@ -45,7 +45,7 @@ impl Indexes {
     }
 
     /// The message type that a URL names.
-    pub fn type_of_url(
+    pub(crate) fn type_of_url(
         &mut self,
         alloc: Global,
         schema: &Schema,

@@ -15,11 +15,11 @@ mod refusal;
 mod scalars;
 mod writing;
 
-pub use defaults::with_defaults;
-pub use fields::{field_numbered, keeps_no_float, key_of_field, message_type};
-pub use forms::{is_passed_form, number_of_value, own_tree};
-pub use indexes::Indexes;
-pub use members::{add_item, add_member, put};
-pub use refusal::Refusal;
-pub use scalars::{key_text, scalar_tree, string_tree, zero_tree};
+pub(crate) use defaults::with_defaults;
+pub(crate) use fields::{field_numbered, keeps_no_float, key_of_field, message_type};
+pub(crate) use forms::{is_passed_form, number_of_value, own_tree};
+pub(crate) use indexes::Indexes;
+pub(crate) use members::{add_item, add_member, put};
+pub(crate) use refusal::Refusal;
+pub(crate) use scalars::{key_text, scalar_tree, string_tree, zero_tree};
 pub use writing::write_content;

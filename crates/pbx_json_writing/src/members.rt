@@ -18,7 +18,7 @@ fn has_key(map: &Map<String, Value>, key: &str) -> bool
 }
 
 /// Puts a tree under a key that is new.
-pub fn put(
+pub(crate) fn put(
     alloc: Global,
     key: &str,
     tree: Value,
@@ -38,7 +38,7 @@ pub fn put(
 }
 
 /// Puts what is written under a key. That the key is there already is a fault.
-pub fn add_member(
+pub(crate) fn add_member(
     alloc: Global,
     key: &str,
     written: Result<Value, Refusal>,
@@ -58,7 +58,10 @@ pub fn add_member(
 }
 
 /// Adds what is written to the elements of an array.
-pub fn add_item(written: Result<Value, Refusal>, items: &mut Vec<Value>) -> Result<(), Refusal>
+pub(crate) fn add_item(
+    written: Result<Value, Refusal>,
+    items: &mut Vec<Value>,
+) -> Result<(), Refusal>
     ensures written { OnOk result (IsOkAnd written (λ tree. items.new.items ≡ items.old.items ++ tree ∷ [])) }
     ensures refused { IfErr result (IsPassedOn (Index (length items.old.items)) written) }
 {

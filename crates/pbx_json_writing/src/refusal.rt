@@ -10,7 +10,7 @@ use std::alloc::{AllocError, Global};
 
 /// Why no tree is written.
 #[derive(Drop)]
-pub enum Refusal {
+pub(crate) enum Refusal {
     /// Memory ran out.
     Memory,
     /// A rule is broken; the steps lead from where it is broken up to the value that is written.
@@ -35,21 +35,21 @@ impl From<AllocError> for Refusal {
 
 impl Refusal {
     /// The rule is broken by the value itself.
-    pub fn here(alloc: Global, kind: JsonKind) -> Refusal
+    pub(crate) fn here(alloc: Global, kind: JsonKind) -> Refusal
         ensures { result ≡ refused.Rule kind [] }
     {
         Refusal::Rule(kind, List::new(alloc))
     }
 
     /// The rule is broken by a key of the value.
-    pub fn at_key(alloc: Global, key: &str, kind: JsonKind) -> Refusal
+    pub(crate) fn at_key(alloc: Global, key: &str, kind: JsonKind) -> Refusal
         ensures { IsAtKey key.now kind result }
     {
         Refusal::here(alloc, kind).under_key(alloc, key)
     }
 
     /// The refusal of what stands a step above.
-    pub fn above(self, step: Step) -> Refusal
+    pub(crate) fn above(self, step: Step) -> Refusal
         ensures { IsLifted step self result }
     {
         match self {
@@ -62,7 +62,7 @@ impl Refusal {
     }
 
     /// The refusal of the object that has this one under a key.
-    pub fn under_key(self, alloc: Global, key: &str) -> Refusal
+    pub(crate) fn under_key(self, alloc: Global, key: &str) -> Refusal
         ensures { IsLifted (Key key.now) self result }
     {
         match Text::from_str(alloc, key) {
@@ -72,7 +72,7 @@ impl Refusal {
     }
 
     /// The error that callers see: its steps lead from the root down.
-    pub fn told(self, alloc: Global) -> JsonError
+    pub(crate) fn told(self, alloc: Global) -> JsonError
         ensures { IsTold self result }
     {
         match self {

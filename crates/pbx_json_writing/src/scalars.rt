@@ -29,7 +29,7 @@ use serde_json::Value;
 use std::alloc::Global;
 
 /// A text as a tree.
-pub fn string_tree(alloc: Global, text: &str) -> Result<Value, NoMemory>
+pub(crate) fn string_tree(alloc: Global, text: &str) -> Result<Value, NoMemory>
     ensures { IfOk result (λ tree. view tree ≡ string text.now) }
 {
     Ok(Value::String(String::from_str(alloc, text)?))
@@ -219,7 +219,7 @@ fn bytes_tree(alloc: Global, kind: Kind, bytes: &[u8]) -> Result<Value, Refusal>
 }
 
 /// A value of one part as one of a kind. Of a message, a list or a map nothing is written here.
-pub fn scalar_tree(
+pub(crate) fn scalar_tree(
     held: &Held,
     alloc: Global,
     schema: &Schema,
@@ -246,7 +246,7 @@ pub fn scalar_tree(
 }
 
 /// The default of a kind; of messages and floats none is written.
-pub fn zero_tree(
+pub(crate) fn zero_tree(
     alloc: Global,
     schema: &Schema,
     options: &SerializeOptions,
@@ -273,7 +273,7 @@ pub fn zero_tree(
 }
 
 /// The key of an entry as a text.
-pub fn key_text(alloc: Global, key: &MapKey) -> Result<Text, NoMemory>
+pub(crate) fn key_text(alloc: Global, key: &MapKey) -> Result<Text, NoMemory>
     ensures { IfOk result (λ text. text ≡ key_text_of (key_of key.now)) }
 {
     match key {

@@ -23,7 +23,7 @@ fn has_file<P: Pooled>(pool: &P, name: &str) -> bool
 }
 
 /// A place at which rule 1 is broken, if there is one: a file of the pool has the name of the file. The only error is want of memory.
-pub fn file_twice<P: Pooled>(
+pub(crate) fn file_twice<P: Pooled>(
     alloc: Global,
     pool: &P,
     file: &FileDescriptorProto,
@@ -90,7 +90,7 @@ fn bad_index(
 
 /// A place at which rule 2 is broken, if there is one: a dependency is no file of the pool, or the index of a public or a weak
 /// dependency is no index of a dependency. The only error is want of memory; an index above those of 31 bits is refused likewise.
-pub fn missing_imports<P: Pooled>(
+pub(crate) fn missing_imports<P: Pooled>(
     alloc: Global,
     pool: &P,
     file: &FileDescriptorProto,

@@ -12,8 +12,8 @@ mod rule_laws;
 mod searches;
 
 pub use breach::Breach;
-pub use imports::{file_twice, missing_imports};
-pub use names::names_twice;
+pub(crate) use imports::{file_twice, missing_imports};
+pub(crate) use names::names_twice;
 pub use pool_laws::{
     names_are_new, pool_grows, pool_is_ordered, reached_is_reaches, references_are_there,
     types_are_named,

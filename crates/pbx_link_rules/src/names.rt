@@ -92,7 +92,7 @@ fn definition_twice<P: Pooled>(
 /// definition of the pool; or the full name of a definition is that of one of the pool or of an earlier one of the file, or is a package
 /// of the pool or of the file or what its name begins with (language guide: "Packages and Name Resolution"). The only error is want of
 /// memory; an index above those of 31 bits is refused likewise.
-pub fn names_twice<P: Pooled>(
+pub(crate) fn names_twice<P: Pooled>(
     alloc: Global,
     pool: &P,
     file: &FileDescriptorProto,

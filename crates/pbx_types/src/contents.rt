@@ -20,7 +20,7 @@ use pbx_wire::{List, NoMemory, Recs, Text, Texts};
 use std::alloc::Global;
 
 /// A record that has a content as a message of one of the well-known types.
-pub trait HasContents {
+pub(crate) trait HasContents {
     /// The place of the type.
     ghost TYPE_AT: { ℕ };
 
@@ -35,7 +35,11 @@ pub trait HasContents {
 }
 
 /// No fields, with those of the unknown records that may be written and have no known number.
-pub fn kept_contents(unknown: &Recs, known: &[u32], alloc: Global) -> Result<Contents, NoMemory>
+pub(crate) fn kept_contents(
+    unknown: &Recs,
+    known: &[u32],
+    alloc: Global,
+) -> Result<Contents, NoMemory>
     ensures content { IfOk result (λ contents.
         content_of contents ≡ content no_fields (filter (is_writable_beside known.now) unknown.now)) }
     ensures fit { OnOk result (are_fit (filter (is_writable_beside known.now) unknown.now) ≡ true) }
@@ -48,7 +52,7 @@ pub fn kept_contents(unknown: &Recs, known: &[u32], alloc: Global) -> Result<Con
 }
 
 /// Puts a text in, unless it is absent or empty.
-pub fn put_text(
+pub(crate) fn put_text(
     contents: &mut Contents,
     number: u32,
     text: &Option<Text>,
@@ -80,7 +84,7 @@ fn put_some_text(
 }
 
 /// Puts bytes in, unless they are absent or none.
-pub fn put_octets(
+pub(crate) fn put_octets(
     contents: &mut Contents,
     number: u32,
     octets: &Option<Bytes>,
@@ -105,7 +109,11 @@ fn put_some_octets(contents: &mut Contents, number: u32, octets: &Bytes) -> Resu
 }
 
 /// Puts a number in, unless it is absent or 0.
-pub fn put_int64(contents: &mut Contents, number: u32, value: Option<i64>) -> Result<(), NoMemory>
+pub(crate) fn put_int64(
+    contents: &mut Contents,
+    number: u32,
+    value: Option<i64>,
+) -> Result<(), NoMemory>
     ensures { OnOk result
         (Puts Singular false kind.Int64 number (option_map number_val value) (content_of contents.old) (content_of contents.new)) }
 {
@@ -116,7 +124,11 @@ pub fn put_int64(contents: &mut Contents, number: u32, value: Option<i64>) -> Re
 }
 
 /// Puts a number in, unless it is absent or 0.
-pub fn put_int32(contents: &mut Contents, number: u32, value: Option<i32>) -> Result<(), NoMemory>
+pub(crate) fn put_int32(
+    contents: &mut Contents,
+    number: u32,
+    value: Option<i32>,
+) -> Result<(), NoMemory>
     ensures { OnOk result
         (Puts Singular false kind.Int32 number (option_map number_val value) (content_of contents.old) (content_of contents.new)) }
 {
@@ -133,7 +145,11 @@ fn is_zero(value: i64) -> bool
 }
 
 /// Puts a list in, unless it is empty.
-pub fn put_list(contents: &mut Contents, number: u32, values: List<Held>) -> Result<(), NoMemory>
+pub(crate) fn put_list(
+    contents: &mut Contents,
+    number: u32,
+    values: List<Held>,
+) -> Result<(), NoMemory>
     ensures { OnOk result ((k : Kind) → AreElements types_shape k (vals_of (map val_of values))
         → Puts Repeated false k number (Some (many (vals_of (map val_of values)))) (content_of contents.old) (content_of contents.new)) }
 {
@@ -144,7 +160,11 @@ pub fn put_list(contents: &mut Contents, number: u32, values: List<Held>) -> Res
 }
 
 /// Puts the pairs of a map in, unless there are none.
-pub fn put_pairs(contents: &mut Contents, number: u32, pairs: List<Pair>) -> Result<(), NoMemory>
+pub(crate) fn put_pairs(
+    contents: &mut Contents,
+    number: u32,
+    pairs: List<Pair>,
+) -> Result<(), NoMemory>
     ensures { OnOk result ((key k : Kind) → ArePairs types_shape key k (pairs_of (map pair_of pairs))
         → Puts (Map key) false k number (Some (keyed (pairs_of (map pair_of pairs)))) (content_of contents.old) (content_of contents.new)) }
 {
@@ -155,7 +175,7 @@ pub fn put_pairs(contents: &mut Contents, number: u32, pairs: List<Pair>) -> Res
 }
 
 /// The texts as values.
-pub fn text_values(texts: &Texts, alloc: Global) -> Result<List<Held>, NoMemory>
+pub(crate) fn text_values(texts: &Texts, alloc: Global) -> Result<List<Held>, NoMemory>
     ensures values { IfOk result (λ values. map val_of values ≡ map text_val texts.now) }
     ensures sound { OnOk result (AreElements types_shape kind.String (vals_of (map text_val texts.now))) }
 {

@@ -69,7 +69,7 @@ pub(crate) fn truth_of(held: Held) -> Option<bool>
 }
 
 /// The content of the message that a value is, and the empty one where it is none.
-pub fn message_of(held: Held, alloc: Global) -> Contents
+pub(crate) fn message_of(held: Held, alloc: Global) -> Contents
     ensures { (type_at : ℕ) → IsOf (kind.Message type_at) (val_of held) → val_of held ≡ message (content_of result) }
 {
     match held {
@@ -99,7 +99,7 @@ pub(crate) fn pairs_in(held: Held, alloc: Global) -> List<Pair>
 }
 
 /// The texts that the values are.
-pub fn text_list(values: List<Held>, alloc: Global) -> Result<Texts, NoMemory>
+pub(crate) fn text_list(values: List<Held>, alloc: Global) -> Result<Texts, NoMemory>
     ensures { IfOk result (λ texts. AreOf kind.String (map val_of values) → map text texts ≡ map val_of values) }
 {
     let mut texts = List::with_capacity(alloc, values.len())?;

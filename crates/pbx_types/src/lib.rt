@@ -18,18 +18,18 @@ mod tree;
 mod unknown;
 
 pub use any::{Any, Empty};
-pub use contents::{
+pub(crate) use contents::{
     HasContents, kept_contents, put_int32, put_int64, put_list, put_octets, put_pairs, put_text,
     text_values,
 };
-pub use elements::{message_of, text_list};
+pub(crate) use elements::{message_of, text_list};
 pub use mask::FieldMask;
 pub use pbx_desc::DecodeMessage;
 pub use pbx_desc_encoding::Message;
 pub use pbx_desc_shapes::types_shape;
-pub use record_decoding::record_from_bytes;
-pub use record_encoding::record_bytes;
-pub use taking::{
+pub(crate) use record_decoding::record_from_bytes;
+pub(crate) use record_encoding::record_bytes;
+pub(crate) use taking::{
     FromContents, kept_records, take_int32, take_int64, take_octets, take_pairs, take_text,
     take_truth, take_values,
 };

@@ -11,7 +11,10 @@ use pbx_wire::DecodeError;
 use std::alloc::Global;
 
 /// The record of the bytes of a message of its type.
-pub fn record_from_bytes<R: FromContents>(alloc: Global, bytes: &[u8]) -> Result<R, DecodeError>
+pub(crate) fn record_from_bytes<R: FromContents>(
+    alloc: Global,
+    bytes: &[u8],
+) -> Result<R, DecodeError>
     ensures found { IfOk result (λ value. meaning_of types_shape_of R.TYPE_AT bytes.now ≡ Some (R.content value)) }
     ensures fault { IfErr result (IsToldFault (meaning_of types_shape_of R.TYPE_AT bytes.now) (IsFaultOf types_shape_of R.TYPE_AT bytes.now)) }
 {

@@ -13,7 +13,7 @@ use pbx_wire::{Blob, NoMemory};
 use std::alloc::Global;
 
 /// The canonical encoding of a record.
-pub fn record_bytes<R: HasContents>(alloc: Global, record: &R) -> Result<Vec<u8>, NoMemory>
+pub(crate) fn record_bytes<R: HasContents>(alloc: Global, record: &R) -> Result<Vec<u8>, NoMemory>
     ensures bytes { IfOk result (λ v. v.items ≡ encoded types_shape_of R.TYPE_AT (R.content «record».now)) }
     ensures decodes { IfOk result (λ v. depth (R.content «record».now) ≤ 100
         → Decodes types_shape_of R.TYPE_AT v.items (R.content «record».now)) }

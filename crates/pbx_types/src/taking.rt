@@ -14,7 +14,7 @@ use pbx_wire::{List, NoMemory, Recs, Text};
 use std::alloc::Global;
 
 /// A record that is made of a content of one of the well-known types.
-pub trait FromContents: Drop + Sized {
+pub(crate) trait FromContents: Drop + Sized {
     /// The place of the type.
     ghost TYPE_AT: { ℕ };
 
@@ -29,7 +29,7 @@ pub trait FromContents: Drop + Sized {
 }
 
 /// Takes a text out.
-pub fn take_text(contents: &mut Contents, number: u32) -> Option<Text>
+pub(crate) fn take_text(contents: &mut Contents, number: u32) -> Option<Text>
     ensures { Takes kind.String number (option_map text result) (content_of contents.old) (content_of contents.new) }
 {
     match contents.take(number) {
@@ -39,7 +39,7 @@ pub fn take_text(contents: &mut Contents, number: u32) -> Option<Text>
 }
 
 /// Takes bytes out.
-pub fn take_octets(contents: &mut Contents, number: u32) -> Option<Bytes>
+pub(crate) fn take_octets(contents: &mut Contents, number: u32) -> Option<Bytes>
     ensures { Takes kind.Bytes number (option_map octets result) (content_of contents.old) (content_of contents.new) }
 {
     match contents.take(number) {
@@ -49,7 +49,7 @@ pub fn take_octets(contents: &mut Contents, number: u32) -> Option<Bytes>
 }
 
 /// Takes a number out.
-pub fn take_int32(contents: &mut Contents, number: u32) -> Option<i32>
+pub(crate) fn take_int32(contents: &mut Contents, number: u32) -> Option<i32>
     ensures { Takes kind.Int32 number (option_map number_val result) (content_of contents.old) (content_of contents.new) }
 {
     match contents.take(number) {
@@ -59,7 +59,7 @@ pub fn take_int32(contents: &mut Contents, number: u32) -> Option<i32>
 }
 
 /// Takes a number out.
-pub fn take_int64(contents: &mut Contents, number: u32) -> Option<i64>
+pub(crate) fn take_int64(contents: &mut Contents, number: u32) -> Option<i64>
     ensures { Takes kind.Int64 number (option_map number_val result) (content_of contents.old) (content_of contents.new) }
 {
     match contents.take(number) {
@@ -69,7 +69,7 @@ pub fn take_int64(contents: &mut Contents, number: u32) -> Option<i64>
 }
 
 /// Takes a truth value out.
-pub fn take_truth(contents: &mut Contents, number: u32) -> Option<bool>
+pub(crate) fn take_truth(contents: &mut Contents, number: u32) -> Option<bool>
     ensures { Takes kind.Bool number (option_map truth result) (content_of contents.old) (content_of contents.new) }
 {
     match contents.take(number) {
@@ -79,7 +79,7 @@ pub fn take_truth(contents: &mut Contents, number: u32) -> Option<bool>
 }
 
 /// Takes a list out.
-pub fn take_values(contents: &mut Contents, number: u32, alloc: Global) -> List<Held>
+pub(crate) fn take_values(contents: &mut Contents, number: u32, alloc: Global) -> List<Held>
     ensures { (k : Kind) → TakesList k number (map val_of result) (content_of contents.old) (content_of contents.new) }
 {
     match contents.take(number) {
@@ -89,7 +89,7 @@ pub fn take_values(contents: &mut Contents, number: u32, alloc: Global) -> List<
 }
 
 /// Takes the pairs of a map out.
-pub fn take_pairs(contents: &mut Contents, number: u32, alloc: Global) -> List<Pair>
+pub(crate) fn take_pairs(contents: &mut Contents, number: u32, alloc: Global) -> List<Pair>
     ensures { (key k : Kind) → TakesPairs key k number (map pair_of result) (content_of contents.old) (content_of contents.new) }
 {
     match contents.take(number) {
@@ -99,7 +99,7 @@ pub fn take_pairs(contents: &mut Contents, number: u32, alloc: Global) -> List<P
 }
 
 /// The records that no field reads.
-pub fn kept_records(contents: Contents) -> Recs
+pub(crate) fn kept_records(contents: Contents) -> Recs
     ensures { result ≡ kept (content_of contents) }
 {
     contents.kept
