@@ -9,16 +9,6 @@ use pbx_wire::DecodeError;
 use std::alloc::{AllocError, Global};
 use test_rows::Row;
 
-/// Tells the numbers with points between them.
-fn tell_place(told: &mut Told, place: &[i32]) {
-    let mut point = "";
-    for step in place {
-        told.add(point);
-        told.add_number(i128::from(*step));
-        point = ".";
-    }
-}
-
 /// Tells the index of the refused file, the rule and the place.
 fn tell_refusal(told: &mut Told, index: usize, error: &DescriptorError) {
     match error {
@@ -31,7 +21,7 @@ fn tell_refusal(told: &mut Told, index: usize, error: &DescriptorError) {
             told.add(" ");
             told.add_number(i128::from(*rule));
             told.add(" ");
-            tell_place(told, place.as_slice());
+            told.add_place(place.as_slice());
         }
         DescriptorError::Decode(_) => told.add("no record"),
         DescriptorError::NoMemory => told.run_short(),
@@ -45,7 +35,7 @@ pub(crate) fn tell_error(told: &mut Told, error: &DescriptorError) {
             told.add("rule ");
             told.add_number(i128::from(*rule));
             told.add(" at ");
-            tell_place(told, place.as_slice());
+            told.add_place(place.as_slice());
             told.add_all(&[" of ", file.as_str(), "; "]);
         }
         DescriptorError::Decode(fault) => told.add_fault(*fault),

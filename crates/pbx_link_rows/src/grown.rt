@@ -79,8 +79,8 @@ fn kept(
     }
 }
 
-/// Of a full name and a count: what is told of the shape of the pool of so many files, and of it where the files behind them were added; by
-/// itself, beside a copy that was made before, or beside one where the shape was asked for before too.
+/// Of a full name and a count: what is told of the shape of the pool of so many files, and of it where the files behind them
+/// were added; by itself, beside a copy that was made before, or beside one where the shape was asked for before too.
 pub(crate) fn grown(alloc: Global, told: &mut Told, pool: &mut DescriptorPool, row: &Row) {
     let Some(behind) = add_some(alloc, told, pool, row, 2, row.number(1)) else {
         return;

@@ -40,8 +40,8 @@ fn tell_same(
     }
 }
 
-/// Of two full names and a count: whether the messages of the names are the same, the first of the pool of so many files, the second of
-/// the pool of the files behind them.
+/// Of two full names and a count: whether the messages of the names are the same, the first of the pool of so many files, the
+/// second of the pool of the files behind them.
 pub(crate) fn same(alloc: Global, told: &mut Told, pool: &mut DescriptorPool, row: &Row) {
     if let Some(behind) = add_some(alloc, told, pool, row, 3, row.number(2)) {
         match DescriptorPool::new(alloc) {

@@ -56,6 +56,16 @@ impl Told {
         }
     }
 
+    /// Adds the numbers with points between them.
+    pub(crate) fn add_place(&mut self, place: &[i32]) {
+        let mut point = "";
+        for step in place {
+            self.add(point);
+            self.add_number(i128::from(*step));
+            point = ".";
+        }
+    }
+
     /// Adds the count.
     pub(crate) fn add_count(&mut self, count: usize) {
         self.add_number(count as i128);
