@@ -1,53 +1,45 @@
-//! Rows of what `protox` writes, prints and refuses, over files, input and output in memory.
+//! Rows of what the program `protox` does, of files and all that they import, and of the words of a command line.
 //!
-//! What is asked is one of these; each file is two fields, its name and its source, and the source `oversized` stands for
-//! a file of too many bytes:
-//!
-//! - `run`: words, input, which object fails (`disk`, `input`, `out` or `err`; or none), the number of its call that fails,
-//!   and the files. The answer is status, output, error output and the files `w` and `s` in hexadecimal digits, `-` where one is absent.
-//! - `set`: names of files, input, a type's name, and the files. The answer is the set of the files in hexadecimal digits.
-//! - `deep`: a type's name, and files, each by its name and how many messages stand in one another there. The answer is `ok`, or what is
-//!   refused.
-//! - `built-in`: names of built-in files, input and a type's name. The answer is the wire bytes in hexadecimal digits and the canonical text, or
-//!   what is refused.
-//! - `from set`: the same over the files of a set, whose bytes are the last field.
+//! Each line of the input is a row: a name, what is asked, and fields. `stdin` has the rows, and `stdout` the answers that they
+//! must have. What is asked begins with the subject's word and a blank: `file` as the module `file` says, `words` as the module
+//! `words` does. What begins with neither is asked of the whole program, as the module `program` says. The names of rows of files
+//! and of the words of a command line begin with `file/` and `words/`.
 #![tactic(auto)]
 
-mod built_in;
-mod deep;
-mod objects;
-mod runs;
-mod sets;
+mod file;
+mod program;
+mod stop;
+mod words;
 
-use pbx_wire::NoMemory;
-use std::alloc::Global;
+use std::alloc::AllocError;
 use std::io;
+use std::rt::Files;
+use stop::Stop;
 use test_rows::{Row, answer_line};
 
-fn answer(alloc: Global, row: &Row) -> Result<String, NoMemory> {
-    match row.asked() {
-        "run" => runs::run(alloc, row),
-        "set" => sets::set(alloc, row),
-        "deep" => deep::deep(alloc, row),
-        "built-in" => built_in::built_in(alloc, row),
-        "from set" => built_in::from_set(alloc, row),
-        _ => Ok(String::from_str(alloc, "no such question")?),
+fn answer<R: Files + AllocGlobal>(rt: &R, row: &Row) -> Result<String, Stop> {
+    let (subject, word) = row.asked().split_once(' ').unwrap_or(("", row.asked()));
+    match subject {
+        "file" => file::answer(rt, row, word),
+        "words" => words::answer(rt.alloc(), row, word),
+        _ => program::answer(rt.alloc(), row, row.asked()),
     }
 }
 
-/// The line of a row's answer.
-fn answered(alloc: Global, line: &str) -> Result<String, NoMemory> {
-    let row = Row::read(alloc, line)?;
-    let answer = answer(alloc, &row)?;
-    Ok(answer_line(alloc, &row, answer.as_str())?)
+/// The line for a row.
+fn told<R: Files + AllocGlobal>(rt: &R, line: &str) -> Result<String, AllocError> {
+    let row = Row::read(rt.alloc(), line)?;
+    match answer(rt, &row) {
+        Ok(answer) => answer_line(rt.alloc(), &row, answer.as_str()),
+        Err(Stop::NoSuchWord) => answer_line(rt.alloc(), &row, "no such word"),
+        Err(Stop::NoMemory) => Err(AllocError),
+    }
 }
 
 fn main(rt: HostRuntime) -> io::Result<()> {
     for line in rt.lines(rt.alloc()) {
-        let Ok(answer) = answered(rt.alloc(), line?.as_str()) else {
-            return Err(io::Error::from(io::ErrorKind::OutOfMemory));
-        };
-        println!(rt; "{answer}")?;
+        let told = told(&rt, line?.as_str())?;
+        println!(rt; "{told}")?;
     }
     Ok(())
 }

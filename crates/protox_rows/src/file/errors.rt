@@ -1,12 +1,13 @@
 //! Questions about errors. The fields of a row are the kind of the error and what it has.
 
-use crate::step::small_number;
-use crate::told::Told;
+use crate::file::step::small_number;
+use crate::file::told::Told;
 use pbx_link::DescriptorError;
 use pbx_parse::ParseError;
 use pbx_wire::{DecodeError, List, NoMemory, Text};
 use protox_file_sources::{Error, ErrorKind};
 use std::alloc::Global;
+use std::mem::drop;
 use test_rows::Row;
 
 /// The field as a text of its own.
@@ -154,6 +155,7 @@ pub(crate) fn line(alloc: Global, row: &Row, told: &mut Told) {
         Ok(line) => told.add(line.as_str()),
         Err(_) => told.add("out of memory"),
     }
+    drop(error);
 }
 
 /// Adds what is wrong and where, in one line.
@@ -168,6 +170,7 @@ pub(crate) fn add_long_line(alloc: Global, error: &Error, told: &mut Told) {
 pub(crate) fn long_line(alloc: Global, row: &Row, told: &mut Told) {
     let error = made(alloc, row);
     add_long_line(alloc, &error, told);
+    drop(error);
 }
 
 /// What is at fault.
@@ -192,4 +195,5 @@ pub(crate) fn add_file_and_sort(error: &Error, told: &mut Told) {
 pub(crate) fn file_and_sort(alloc: Global, row: &Row, told: &mut Told) {
     let error = made(alloc, row);
     add_file_and_sort(&error, told);
+    drop(error);
 }

@@ -1,8 +1,6 @@
-//! Answers rows of questions about paths, disks, streams, files, their errors and the walk over their imports.
+//! Questions about paths, disks, streams, files, their errors and the walk over their imports.
 //!
-//! Each line of the input is a row: a name, what is asked, and fields. Of most questions the fields are steps, in pairs:
-//! what is done, and what it is done with. `stdin` has the rows, and `stdout` the answers that they must have.
-#![tactic(auto)]
+//! Of most questions the fields are steps, in pairs: what is done, and what it is done with.
 
 mod built_in;
 mod compiled;
@@ -19,15 +17,15 @@ mod told;
 mod untold;
 mod walk;
 
-use std::alloc::{AllocError, Global};
-use std::io;
+use crate::stop::{Done, Stop};
+use std::alloc::Global;
 use std::rt::Files;
-use test_rows::{Row, answer_line};
+use test_rows::Row;
 use told::Told;
 
 /// Answers a question about paths, errors, single files or streams.
-fn answer_alone(alloc: Global, row: &Row, told: &mut Told) {
-    match row.asked() {
+fn tell_alone(alloc: Global, row: &Row, word: &str, told: &mut Told) -> Done {
+    match word {
         "name of path" => paths::name(alloc, row, told),
         "equal paths" => paths::equal(row, told),
         "path below" => paths::below(row, told),
@@ -44,13 +42,24 @@ fn answer_alone(alloc: Global, row: &Row, told: &mut Told) {
         "source to its end" => streams::source_to_end(alloc, row, told),
         "sink" => streams::sink(alloc, row, told),
         "broken streams" => streams::over_broken(told),
-        _ => told.say("no such question"),
+        _ => return Err(Stop::NoSuchWord),
     }
+    Ok(())
+}
+
+/// Answers a question about the disk and the streams of the process, or one that needs neither.
+fn tell_of_process<R: Files + AllocGlobal>(rt: &R, row: &Row, word: &str, told: &mut Told) -> Done {
+    match word {
+        "real disk" => disks::real(rt, row, told),
+        "real streams" => streams::real(rt, row, told),
+        _ => return tell_alone(rt.alloc(), row, word, told),
+    }
+    Ok(())
 }
 
 /// Answers a row's question.
-fn answer<R: Files + AllocGlobal>(rt: &R, row: &Row, told: &mut Told) {
-    match row.asked() {
+fn tell<R: Files + AllocGlobal>(rt: &R, row: &Row, word: &str, told: &mut Told) -> Done {
+    match word {
         "walk" => walk::of_memory(rt.alloc(), row, told),
         "walk over one" => untold::walk_over_one(rt.alloc(), row, told),
         "walk over none" => untold::walk_over_none(rt.alloc(), row, told),
@@ -63,24 +72,18 @@ fn answer<R: Files + AllocGlobal>(rt: &R, row: &Row, told: &mut Told) {
         "chain" => over::of_chain(rt.alloc(), row, told),
         "set" => over::of_set(rt.alloc(), row, told),
         "disk" => disks::of_memory(rt.alloc(), row, told),
-        "real disk" => disks::real(rt, row, told),
-        "real streams" => streams::real(rt, row, told),
-        _ => answer_alone(rt.alloc(), row, told),
-    }
-}
-
-/// The line that answers a row.
-fn answered<R: Files + AllocGlobal>(rt: &R, row: &Row) -> Result<String, AllocError> {
-    let mut told = Told::new(rt.alloc());
-    answer(rt, row, &mut told);
-    answer_line(rt.alloc(), row, told.text())
-}
-
-fn main(rt: HostRuntime) -> io::Result<()> {
-    for line in rt.lines(rt.alloc()) {
-        let row = Row::read(rt.alloc(), line?.as_str())?;
-        let answer = answered(&rt, &row)?;
-        println!(rt; "{answer}")?;
+        _ => return tell_of_process(rt, row, word, told),
     }
     Ok(())
+}
+
+/// What the word asks of files and what they come from.
+pub(crate) fn answer<R: Files + AllocGlobal>(
+    rt: &R,
+    row: &Row,
+    word: &str,
+) -> Result<String, Stop> {
+    let mut told = Told::new(rt.alloc());
+    tell(rt, row, word, &mut told)?;
+    told.all()
 }

@@ -1,7 +1,7 @@
 //! Questions about the built-in files.
 
-use crate::errors::add_long_line;
-use crate::told::Told;
+use crate::file::errors::add_long_line;
+use crate::file::told::Told;
 use pbx_link::DescriptorPool;
 use pbx_wkt::make_wkt_descriptor_pool;
 use protox_file_sources::{File, FileResolver, GoogleFileResolver};

@@ -1,9 +1,9 @@
 //! Questions about resolvers. The steps of a row put files, list calls that fail, open names, and resolve paths.
 
-use crate::disks;
-use crate::errors::add_long_line;
-use crate::step::{Step, add_texts, halves, number, step_at, steps};
-use crate::told::Told;
+use crate::file::disks;
+use crate::file::errors::add_long_line;
+use crate::file::step::{Step, add_texts, halves, number, step_at, steps};
+use crate::file::told::Told;
 use pbx_desc_records::FileDescriptorProto;
 use pbx_wire::{NoMemory, Text};
 use protox_file_sources::{
@@ -54,7 +54,10 @@ fn put_record(
 /// Puts a file that was read at a path.
 fn put_read(alloc: Global, resolver: &mut MemoryResolver, step: Step<'_>) -> Result<(), NoMemory> {
     let mut disk = MemoryDisk::new(alloc);
-    disk.put(step.text, EMPTY.as_bytes())?;
+    if disk.put(step.text, EMPTY.as_bytes()).is_err() {
+        drop(disk);
+        return Err(NoMemory);
+    }
     match File::open(alloc, &mut disk, step.name, step.text) {
         Ok(file) => resolver.put_file(step.name, file),
         Err(error) => {

@@ -1,8 +1,8 @@
 //! Questions about disks. The steps of a row put files, list calls that fail, read, write, and open files.
 
-use crate::files::say_file;
-use crate::step::{Step, number, step_at, steps};
-use crate::told::Told;
+use crate::file::files::say_file;
+use crate::file::step::{Step, number, step_at, steps};
+use crate::file::told::Told;
 use pbx_wire::NoMemory;
 use protox_file_sources::File;
 use protox_io::{Disk, DiskAnswer, DiskError, MemoryDisk, RealDisk};

@@ -1,15 +1,17 @@
 //! What a run writes and prints, and how it ends.
 
-use crate::objects::{disk, input, sink, words};
+use crate::program::objects::{disk, input, sink, words};
+use crate::stop::Stop;
 use hex::encode;
 use pbx_wire::NoMemory;
-use protox::Ran;
 use protox_io::{MemoryDisk, MemorySink};
+use protox_run::Ran;
 use std::alloc::Global;
+use std::mem::drop;
 use test_rows::Row;
 
 /// The hexadecimal digits of a file, `-` where there is none.
-fn digits(alloc: Global, file: Option<&[u8]>) -> Result<String, NoMemory> {
+fn digits(alloc: Global, file: Option<&[u8]>) -> Result<String, Stop> {
     match file {
         Some(bytes) => Ok(encode(alloc, bytes)?),
         None => Ok(String::from_str(alloc, "-")?),
@@ -22,7 +24,7 @@ fn told(
     ran: &Ran<MemoryDisk>,
     out: &MemorySink,
     err: &MemorySink,
-) -> Result<String, NoMemory> {
+) -> Result<String, Stop> {
     let printed = String::from_utf8_lossy(alloc, out.held())?;
     let said = String::from_utf8_lossy(alloc, err.held())?;
     let wire = digits(alloc, ran.disk.get("w"))?;
@@ -36,19 +38,28 @@ fn ran(
     row: &Row,
     out: &mut MemorySink,
     err: &mut MemorySink,
-) -> Result<Ran<MemoryDisk>, NoMemory> {
+) -> Result<Ran<MemoryDisk>, Stop> {
     let words = words(alloc, row)?;
     let mut input = input(alloc, row)?;
-    let disk = disk(alloc, row)?;
-    Ok(protox::run(alloc, &words, disk, &mut input, out, err))
+    match disk(alloc, row) {
+        Ok(disk) => Ok(protox_run::run(alloc, &words, disk, &mut input, out, err)),
+        Err(NoMemory) => {
+            drop(input);
+            Err(Stop::NoMemory)
+        }
+    }
 }
 
 /// Status, output, error output and the files `w` and `s` of a run of protox.
-pub(crate) fn run(alloc: Global, row: &Row) -> Result<String, NoMemory> {
+pub(crate) fn run(alloc: Global, row: &Row) -> Result<String, Stop> {
     let mut out = sink(alloc, row, "out");
     let mut err = sink(alloc, row, "err");
     match ran(alloc, row, &mut out, &mut err) {
-        Ok(ran) => told(alloc, &ran, &out, &err),
-        Err(error) => Err(error),
+        Ok(ran) => {
+            let told = told(alloc, &ran, &out, &err);
+            drop(ran);
+            told
+        }
+        Err(stop) => Err(stop),
     }
 }

@@ -1,11 +1,13 @@
 //! The words, files, input and outputs of a row.
 
+use crate::stop::Stop;
 use pbx_wire::{Blob, NoMemory, Text, Texts};
-use protox::{TopError, Transcoded, compile_and_transcode};
 use protox_file_sources::FileResolver;
 use protox_io::{MemoryDisk, MemorySink, MemorySource};
+use protox_transcode::{TopError, Transcoded, compile_and_transcode};
 use serde_json::Value;
 use std::alloc::Global;
+use std::mem::drop;
 use test_rows::Row;
 
 const WORDS: usize = 0;
@@ -44,6 +46,12 @@ pub(crate) fn came_of<R: FileResolver + Drop>(
     tree: &Value,
 ) -> Result<Transcoded, TopError> {
     compile_and_transcode(alloc, files, paths, type_name, tree).result
+}
+
+/// The line of what is refused.
+pub(crate) fn line(alloc: Global, error: &TopError) -> Result<String, Stop> {
+    let line = error.line(alloc)?;
+    Ok(String::from_str(alloc, line.as_str())?)
 }
 
 /// The number of the object's call that fails, if the row has that object fail.
@@ -86,8 +94,9 @@ fn fill(disk: &mut MemoryDisk, row: &Row) -> Result<(), NoMemory> {
 /// The disk with the files of the row.
 pub(crate) fn disk(alloc: Global, row: &Row) -> Result<MemoryDisk, NoMemory> {
     let mut disk = MemoryDisk::new(alloc);
-    match fill(&mut disk, row) {
-        Ok(()) => Ok(disk),
-        Err(error) => Err(error),
+    if let Err(error) = fill(&mut disk, row) {
+        drop(disk);
+        return Err(error);
     }
+    Ok(disk)
 }

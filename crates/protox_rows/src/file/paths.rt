@@ -1,6 +1,6 @@
 //! Questions about paths.
 
-use crate::told::Told;
+use crate::file::told::Told;
 use protox_io::{join_path, path_eq, path_to_file_name, strip_prefix};
 use std::alloc::Global;
 use test_rows::Row;

@@ -1,7 +1,7 @@
 //! Questions about the files of a descriptor set.
 
-use crate::step::{step_at, steps};
-use crate::told::Told;
+use crate::file::step::{step_at, steps};
+use crate::file::told::Told;
 use hex::encode;
 use pbx_desc::DecodeMessage;
 use pbx_desc_records::FileDescriptorSet;
@@ -102,7 +102,10 @@ fn open_each(alloc: Global, row: &Row, resolver: &mut DescriptorSetFileResolver,
 /// The steps of a row over the files of a set, each with its bytes.
 pub(crate) fn of_bytes(alloc: Global, row: &Row, bytes: &[u8], told: &mut Told) {
     match DescriptorSetFileResolver::decode(alloc, bytes) {
-        Ok(mut resolver) => open_each(alloc, row, &mut resolver, told),
+        Ok(mut resolver) => {
+            open_each(alloc, row, &mut resolver, told);
+            drop(resolver);
+        }
         Err(error) => add_fault(error, told),
     }
 }
@@ -113,6 +116,7 @@ pub(crate) fn of_records(alloc: Global, row: &Row, bytes: &[u8], told: &mut Told
         Ok(set) => {
             let mut resolver = DescriptorSetFileResolver::new(alloc, set);
             open_each(alloc, row, &mut resolver, told);
+            drop(resolver);
         }
         Err(error) => add_fault(error, told),
     }

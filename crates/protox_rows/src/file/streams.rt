@@ -1,6 +1,6 @@
 //! Questions about streams.
 
-use crate::told::Told;
+use crate::file::told::Told;
 use pbx_wire::{Blob, NoMemory};
 use protox_io::{
     MemorySink, MemorySource, ReadFault, RealSink, RealSource, Sink, SinkError, Source,

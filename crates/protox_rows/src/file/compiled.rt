@@ -1,8 +1,8 @@
 //! Questions about the sets of compiled files.
 
-use crate::errors::add_long_line;
-use crate::over::{filled_disk, named};
-use crate::told::Told;
+use crate::file::errors::add_long_line;
+use crate::file::over::{filled_disk, named};
+use crate::file::told::Told;
 use hex::encode;
 use pbx_desc_records::FileDescriptorSet;
 use protox_compile::{Compiler, compile};
@@ -66,4 +66,5 @@ pub(crate) fn at_once(alloc: Global, row: &Row, told: &mut Told) {
         }
         Err(error) => add_long_line(alloc, error, told),
     }
+    drop(compiled);
 }

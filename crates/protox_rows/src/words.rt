@@ -1,14 +1,13 @@
-//! Asks of `protox_words`, as rows of data: what is asked is `words`, and each field is a word of a command line.
+//! The words of a command line: `read` asks what they mean, and each field is a word.
 //!
-//! The answer is `ok` with the options, each by its first spelling, the files, and behind `|` the folders that files are read from, or the
-//! line of the fault. Texts stand between single quotes.
-#![tactic(auto)]
+//! The answer is `ok` with the options, each by its first spelling, the files, and behind `|` the folders that files are read
+//! from, or the line of the fault. Texts stand between single quotes.
 
+use crate::stop::Stop;
 use pbx_wire::{NoMemory, Text, Texts};
-use protox_words::{Args, WordsError, read_words};
+use protox_words::{Args, WordFault, WordsError, read_words};
 use std::alloc::{AllocError, Global};
-use std::io;
-use test_rows::{Row, answer_line};
+use test_rows::Row;
 
 fn add_text(line: &mut String, option: &str, text: &str) -> Result<(), AllocError> {
     line.push_str(option)?;
@@ -69,36 +68,35 @@ fn words_of(alloc: Global, row: &Row) -> Result<Texts, NoMemory> {
     Ok(words)
 }
 
+/// What the words ask for.
+fn args_told(alloc: Global, args: &Args<'_>) -> Result<String, Stop> {
+    let mut line = String::from_str(alloc, "ok")?;
+    add_args(alloc, &mut line, args)?;
+    Ok(line)
+}
+
+/// The line of a fault.
+fn fault_told(alloc: Global, fault: &WordFault<'_>) -> Result<String, Stop> {
+    let line = fault.line(alloc)?;
+    Ok(String::from_str(alloc, line.as_str())?)
+}
+
 /// What is told of the words.
-fn told(alloc: Global, words: &Texts) -> Result<String, NoMemory> {
+fn told(alloc: Global, words: &Texts) -> Result<String, Stop> {
     match read_words(alloc, words) {
-        Ok(args) => {
-            let mut line = String::from_str(alloc, "ok")?;
-            add_args(alloc, &mut line, &args)?;
-            Ok(line)
-        }
-        Err(WordsError::Fault(fault)) => {
-            let line = fault.line(alloc)?;
-            Ok(String::from_str(alloc, line.as_str())?)
-        }
-        Err(WordsError::NoMemory) => Err(NoMemory),
+        Ok(args) => args_told(alloc, &args),
+        Err(WordsError::Fault(fault)) => fault_told(alloc, &fault),
+        Err(WordsError::NoMemory) => Err(Stop::NoMemory),
     }
 }
 
-/// The line of a row's answer.
-fn answered(alloc: Global, line: &str) -> Result<String, NoMemory> {
-    let row = Row::read(alloc, line)?;
-    let words = words_of(alloc, &row)?;
-    let answer = told(alloc, &words)?;
-    Ok(answer_line(alloc, &row, answer.as_str())?)
-}
-
-fn main(rt: HostRuntime) -> io::Result<()> {
-    for line in rt.lines(rt.alloc()) {
-        let Ok(answer) = answered(rt.alloc(), line?.as_str()) else {
-            return Err(io::Error::from(io::ErrorKind::OutOfMemory));
-        };
-        println!(rt; "{answer}")?;
+/// What the word asks of the words of a command line.
+pub(crate) fn answer(alloc: Global, row: &Row, word: &str) -> Result<String, Stop> {
+    match word {
+        "read" => {
+            let words = words_of(alloc, row)?;
+            told(alloc, &words)
+        }
+        _ => Err(Stop::NoSuchWord),
     }
-    Ok(())
 }

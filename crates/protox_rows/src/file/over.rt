@@ -1,9 +1,9 @@
 //! Questions about resolvers over others: a chain, the folders of a disk with the built-in files, and a descriptor set.
 
-use crate::resolvers::{filled_member, take_steps};
-use crate::step::{step_at, steps};
-use crate::told::Told;
-use crate::{disks, sets};
+use crate::file::resolvers::{filled_member, take_steps};
+use crate::file::step::{step_at, steps};
+use crate::file::told::Told;
+use crate::file::{disks, sets};
 use pbx_wire::{NoMemory, Text, Texts};
 use protox_file::{ChainFileResolver, StandardResolver};
 use protox_io::MemoryDisk;
@@ -76,6 +76,7 @@ pub(crate) fn of_folders(alloc: Global, row: &Row, told: &mut Told) {
             take_steps(alloc, row, &mut resolver, told);
             let mut disk = resolver.into_disk();
             disks::take_steps(alloc, row, &mut disk, told);
+            drop(disk);
         }
         Err(_) => told.say("out of memory"),
     }

@@ -1,12 +1,12 @@
 //! Questions about files with all that they import. The steps of a row put files, set limits and open paths.
 
-use crate::compiled::{include, say_encoded, say_set};
-use crate::errors::{add_long_line, sort};
-use crate::over::{filled_disk, folders};
-use crate::resolvers;
-use crate::sets::add_fault;
-use crate::step::{Step, add_texts, small_number, step_at, steps};
-use crate::told::Told;
+use crate::file::compiled::{include, say_encoded, say_set};
+use crate::file::errors::{add_long_line, sort};
+use crate::file::over::{filled_disk, folders};
+use crate::file::resolvers;
+use crate::file::sets::add_fault;
+use crate::file::step::{Step, add_texts, small_number, step_at, steps};
+use crate::file::told::Told;
 use pbx_desc_records::FieldDescriptorProto;
 use pbx_link::DescriptorPool;
 use pbx_wire::Texts;
@@ -278,7 +278,10 @@ pub(crate) fn over_folders(alloc: Global, row: &Row, told: &mut Told) {
         return;
     };
     match Compiler::new(alloc, disk, &folders) {
-        Ok(mut compiler) => take_steps(alloc, row, &mut compiler, told),
+        Ok(mut compiler) => {
+            take_steps(alloc, row, &mut compiler, told);
+            drop(compiler);
+        }
         Err(_) => told.say("out of memory"),
     }
 }

@@ -4,8 +4,8 @@ ghost use Rattle.std.specs.Prelude.{true};
 ghost use Rattle.protox_io.specs.Count.{counted};
 ghost use Rattle.protox_file_sources.specs.Library.{unknown};
 
-use crate::told::Told;
-use crate::walk;
+use crate::file::told::Told;
+use crate::file::walk;
 use pbx_wire::{NoMemory, Text};
 use protox_file_sources::{Error, File, FileResolver};
 use std::alloc::Global;

@@ -1,5 +1,6 @@
 //! The answer to a row.
 
+use crate::stop::Stop;
 use std::alloc::Global;
 use std::str::from_utf8;
 
@@ -20,13 +21,13 @@ impl Told {
         }
     }
 
-    /// All that was told, or that memory ran out.
-    pub(crate) fn text(&self) -> &str {
-        if self.short {
-            "out of memory"
-        } else {
-            self.text.as_str()
+    /// All that was told, unless memory ran out.
+    pub(crate) fn all(self) -> Result<String, Stop> {
+        let Told { text, short } = self;
+        if short {
+            return Err(Stop::NoMemory);
         }
+        Ok(text)
     }
 
     pub(crate) fn add(&mut self, words: &str) {

@@ -1,7 +1,7 @@
 //! Questions about single files.
 
-use crate::errors::add_file_and_sort;
-use crate::told::Told;
+use crate::file::errors::add_file_and_sort;
+use crate::file::told::Told;
 use pbx_desc_records::FileDescriptorProto;
 use pbx_wire::{NoMemory, Text};
 use protox_file_sources::{Error, File, FileMetadata, looked_up_once};
