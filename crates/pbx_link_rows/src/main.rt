@@ -1,7 +1,7 @@
 //! Asks of `pbx_link` and of the crates of rules below it, as rows of data.
 //!
-//! A row that asks `breach` and the name of a rule asks where a file's record breaks it (`breaches`). Every other row asks of
-//! the pool of the files whose records it has (`pools`).
+//! A row that asks `breach` and the name of a rule asks where a file's record breaks it (`breaches`), and one that asks `names` what is under
+//! names once items are added (`name_maps`). Every other row asks of the pool of the files whose records it has (`pools`).
 #![tactic(auto)]
 
 mod adding;
@@ -12,6 +12,7 @@ mod files;
 mod from_bytes;
 mod grown;
 mod messages;
+mod name_maps;
 mod pools;
 mod rules;
 mod same;
@@ -28,6 +29,7 @@ use told::Told;
 fn tell(alloc: Global, told: &mut Told, row: &Row) {
     match row.asked().split_once(' ') {
         Some(("breach", word)) => breaches::answer(alloc, told, row, word),
+        Some(("names", word)) => name_maps::answer(alloc, told, word),
         _ => pools::answer(alloc, told, row),
     }
 }
