@@ -5,6 +5,7 @@ use crate::stop::{Done, Stop};
 use pbx_link::{DescriptorPool, ExtensionDescriptor, FieldDescriptor};
 use pbx_message_dynamic::{DynamicMessage, SetFieldError, Value};
 use std::alloc::Global;
+use std::mem::drop;
 
 /// A field, as a row names it.
 #[derive(Drop)]
@@ -67,8 +68,21 @@ pub(crate) fn value_of(
     word: &str,
 ) -> Result<Value, Stop> {
     let field = field_named(pool, word);
-    let (_, value) = got(alloc, message, &field)?;
-    value.ok_or(Stop::NoSuchWord)
+    let found = got(alloc, message, &field);
+    drop(field);
+    match found {
+        Ok((_, Some(value))) => Ok(value),
+        Ok((_, None)) => Err(Stop::NoSuchWord),
+        Err(stop) => Err(stop),
+    }
+}
+
+/// Adds the value of the field, or its default.
+fn add_said(alloc: Global, text: &mut String, message: &DynamicMessage, field: &Named<'_>) -> Done {
+    let (has, value) = got(alloc, message, field)?;
+    let done = add_got(alloc, text, has, &value);
+    drop(value);
+    done
 }
 
 /// The value of the field that the word names, or its default.
@@ -80,8 +94,9 @@ pub(crate) fn field_said(
 ) -> Result<String, Stop> {
     let mut text = String::new(alloc);
     let field = field_named(pool, word);
-    let (has, value) = got(alloc, message, &field)?;
-    add_got(alloc, &mut text, has, &value)?;
+    let done = add_said(alloc, &mut text, message, &field);
+    drop(field);
+    done?;
     Ok(text)
 }
 
@@ -97,6 +112,17 @@ fn set_named(
     }
 }
 
+/// Adds what came of setting a field.
+fn add_set(text: &mut String, done: Result<(), SetFieldError>) -> Done {
+    match done {
+        Ok(()) => text.push_str("set; ")?,
+        Err(SetFieldError::NotFound) => text.push_str("not found; ")?,
+        Err(SetFieldError::InvalidType) => text.push_str("invalid type; ")?,
+        Err(SetFieldError::NoMemory) => return Err(Stop::NoMemory),
+    }
+    Ok(())
+}
+
 /// Sets the field that the word names, and tells what came of it.
 pub(crate) fn set_field(
     text: &mut String,
@@ -106,13 +132,9 @@ pub(crate) fn set_field(
     value: Value,
 ) -> Done {
     let field = field_named(pool, word);
-    match set_named(message, &field, value) {
-        Ok(()) => text.push_str("set; ")?,
-        Err(SetFieldError::NotFound) => text.push_str("not found; ")?,
-        Err(SetFieldError::InvalidType) => text.push_str("invalid type; ")?,
-        Err(SetFieldError::NoMemory) => return Err(Stop::NoMemory),
-    }
-    Ok(())
+    let done = set_named(message, &field, value);
+    drop(field);
+    add_set(text, done)
 }
 
 /// Takes the value of the field away that the word names.

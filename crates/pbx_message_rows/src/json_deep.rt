@@ -1,20 +1,40 @@
 //! Trees that nest deeper than any text that is read.
 
 use crate::json_faults::fault;
-use crate::stop::Stop;
+use crate::stop::{Done, Stop};
 use pbx_json::{JsonMessage, fits_levels};
 use pbx_link::MessageDescriptor;
 use pbx_message_dynamic::DynamicMessage;
 use serde_json::{Map, Value};
 use std::alloc::Global;
+use std::mem::{drop, replace};
+
+/// Puts the tree under the key `c` of an object, which takes its place.
+fn enclose(alloc: Global, tree: &mut Value) -> Done {
+    let key = String::from_str(alloc, "c")?;
+    let mut members = Map::new(alloc);
+    if members.insert(key, replace(tree, Value::Null)).is_err() {
+        drop(members);
+        return Err(Stop::NoMemory);
+    }
+    *tree = Value::Object(members);
+    Ok(())
+}
+
+/// Puts so many objects around the tree, each into the next.
+fn enclose_times(alloc: Global, tree: &mut Value, times: u64) -> Done {
+    for _ in 0..times {
+        enclose(alloc, tree)?;
+    }
+    Ok(())
+}
 
 /// An object under the key `c` of another one, and so on, so many times.
 fn nested(alloc: Global, count: u64) -> Result<Value, Stop> {
     let mut tree = Value::Object(Map::new(alloc));
-    for _ in 0..count {
-        let mut members = Map::new(alloc);
-        let _ = members.insert(String::from_str(alloc, "c")?, tree)?;
-        tree = Value::Object(members);
+    if let Err(stop) = enclose_times(alloc, &mut tree, count) {
+        drop(tree);
+        return Err(stop);
     }
     Ok(tree)
 }
@@ -41,19 +61,27 @@ fn rewritten(alloc: Global, message: &DynamicMessage) -> &'static str {
     }
 }
 
-/// What comes of reading the tree as a message of the type, and of writing that.
-fn came(alloc: Global, desc: MessageDescriptor, tree: &Value) -> Result<String, Stop> {
-    let message = match DynamicMessage::deserialize(alloc, desc, tree) {
-        Ok(message) => message,
-        Err(error) => return refusal(alloc, fault(alloc, error)),
-    };
-    let word = if fits_levels(alloc, &message)? {
+/// Whether the message nests few levels, and what comes of writing it.
+fn fits_and_written(alloc: Global, message: &DynamicMessage) -> Result<String, Stop> {
+    let word = if fits_levels(alloc, message)? {
         "fits"
     } else {
         "too deep"
     };
-    let written = rewritten(alloc, &message);
+    let written = rewritten(alloc, message);
     Ok(format!(in alloc; "{word}, {written}")?)
+}
+
+/// What comes of reading the tree as a message of the type, and of writing that.
+fn came(alloc: Global, desc: MessageDescriptor, tree: &Value) -> Result<String, Stop> {
+    match DynamicMessage::deserialize(alloc, desc, tree) {
+        Ok(message) => {
+            let told = fits_and_written(alloc, &message);
+            drop(message);
+            told
+        }
+        Err(error) => refusal(alloc, fault(alloc, error)),
+    }
 }
 
 /// Want of memory is what is asked for here.
@@ -66,8 +94,15 @@ fn refusal(alloc: Global, stop: Stop) -> Result<String, Stop> {
 
 /// What comes of reading a tree of so many levels as a message of the type.
 pub(crate) fn deep(alloc: Global, desc: MessageDescriptor, count: u64) -> Result<String, Stop> {
-    let tree = nested(alloc, count)?;
-    let told = came(alloc, desc, &tree);
-    unwind(count, tree);
-    told
+    match nested(alloc, count) {
+        Ok(tree) => {
+            let told = came(alloc, desc, &tree);
+            unwind(count, tree);
+            told
+        }
+        Err(stop) => {
+            drop(desc);
+            Err(stop)
+        }
+    }
 }

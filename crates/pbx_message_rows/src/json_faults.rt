@@ -3,6 +3,7 @@
 use crate::stop::{Done, Stop};
 use pbx_json::{JsonError, JsonKind, Step};
 use std::alloc::Global;
+use std::mem::drop;
 
 fn kind_word(kind: JsonKind) -> &'static str {
     match kind {
@@ -48,13 +49,20 @@ fn told(alloc: Global, error: &JsonError) -> Result<String, Stop> {
     Ok(text)
 }
 
-/// Why a row has no other answer.
-pub(crate) fn fault(alloc: Global, error: JsonError) -> Stop {
+/// Why a row has no other answer than the fault.
+fn stop_of(alloc: Global, error: &JsonError) -> Stop {
     if matches!(error.kind, JsonKind::NoMemory) {
         return Stop::NoMemory;
     }
-    match told(alloc, &error) {
+    match told(alloc, error) {
         Ok(text) => Stop::Refused(text),
         Err(stop) => stop,
     }
+}
+
+/// The same of a fault that is not used any more.
+pub(crate) fn fault(alloc: Global, error: JsonError) -> Stop {
+    let stop = stop_of(alloc, &error);
+    drop(error);
+    stop
 }

@@ -9,6 +9,7 @@ use pbx_link::{DescriptorPool, MessageDescriptor};
 use pbx_message_dynamic::{DynamicMessage, Value};
 use pbx_wire::DecodeError;
 use std::alloc::Global;
+use std::mem::drop;
 use test_rows::Row;
 
 fn type_of(pool: &DescriptorPool, name: &str) -> Result<MessageDescriptor, Stop> {
@@ -32,7 +33,10 @@ fn message_of(
 ) -> Result<DynamicMessage, Stop> {
     let bytes = hex::decode(alloc, digits)?;
     let desc = type_of(pool, name)?;
-    DynamicMessage::decode(alloc, desc, bytes.as_slice()).map_err(|error| fault(alloc, error))
+    match DynamicMessage::decode(alloc, desc, bytes.as_slice()) {
+        Ok(message) => Ok(message),
+        Err(error) => Err(fault(alloc, error)),
+    }
 }
 
 /// The message, as text.
@@ -56,7 +60,9 @@ fn merged(alloc: Global, row: &Row, message: &mut DynamicMessage) -> Result<Stri
 /// The value of a field of the other message of the row.
 fn value_of(alloc: Global, pool: &DescriptorPool, row: &Row) -> Result<Value, Stop> {
     let source = message_of(alloc, pool, row.text(4), row.text(5))?;
-    fields::value_of(alloc, pool, &source, row.text(6))
+    let value = fields::value_of(alloc, pool, &source, row.text(6));
+    drop(source);
+    value
 }
 
 /// What came of setting a field to the value of a field of another message, and the message then.
@@ -103,9 +109,18 @@ fn of_message(
     }
 }
 
+/// What is told of the row of a message of a type of the pool.
+fn in_pool(alloc: Global, pool: &DescriptorPool, row: &Row) -> Result<String, Stop> {
+    let mut message = message_of(alloc, pool, row.text(1), row.text(2))?;
+    let told = of_message(alloc, pool, row, &mut message);
+    drop(message);
+    told
+}
+
 /// What is told of the row of a message.
 pub(crate) fn answer(alloc: Global, row: &Row) -> Result<String, Stop> {
     let pool = pool_of(alloc, row.text(0))?;
-    let mut message = message_of(alloc, &pool, row.text(1), row.text(2))?;
-    of_message(alloc, &pool, row, &mut message)
+    let told = in_pool(alloc, &pool, row);
+    drop(pool);
+    told
 }

@@ -7,6 +7,7 @@
 
 use crate::stop::Stop;
 use hex::FromHexError;
+use pbx_content::Schema;
 use pbx_content_codec::{decode, encode};
 use pbx_desc_encoding::Message;
 use pbx_link::{DescriptorError, DescriptorPool};
@@ -15,6 +16,7 @@ use pbx_wire::{Blob, DecodeError, NoMemory};
 use protox_io::{ReadFault, RealSink, RealSource, Sink, SinkError, Source, read_to_end, write_all};
 use std::alloc::{AllocError, Global};
 use std::env;
+use std::mem::drop;
 use std::process::ExitCode;
 use test_rows::{Row, ShapeTextError, schema};
 
@@ -105,14 +107,39 @@ impl From<RecodeError> for Stop {
     }
 }
 
-/// What is written for what the bytes mean as a message of the shape's first type.
-fn recoded(alloc: Global, shape: &str, bytes: &[u8]) -> Result<Blob, RecodeError> {
-    let schema = schema(alloc, shape)?;
-    let contents = decode(alloc, &schema, 0, bytes)?;
-    Ok(encode(alloc, &schema, 0, &contents)?)
+/// What is written for what the bytes mean as a message of the schema's first type.
+fn recoded_by(alloc: Global, schema: &Schema, bytes: &[u8]) -> Result<Blob, RecodeError> {
+    let contents = decode(alloc, schema, 0, bytes)?;
+    let written = encode(alloc, schema, 0, &contents);
+    drop(contents);
+    Ok(written?)
 }
 
-/// What is written for the dynamic message that the bytes mean.
+/// The same of the shape's first type.
+fn recoded(alloc: Global, shape: &str, bytes: &[u8]) -> Result<Blob, RecodeError> {
+    let schema = schema(alloc, shape)?;
+    let written = recoded_by(alloc, &schema, bytes);
+    drop(schema);
+    written
+}
+
+/// What is written for the dynamic message of a type of the pool that the bytes mean.
+fn recoded_in(
+    alloc: Global,
+    pool: &DescriptorPool,
+    type_name: &str,
+    bytes: &[u8],
+) -> Result<Vec<u8>, RecodeError> {
+    let Some(desc) = pool.get_message_by_name(type_name) else {
+        return Err(RecodeError::NoType);
+    };
+    let message = DynamicMessage::decode(alloc, desc, bytes)?;
+    let written = message.encode_to_vec(alloc);
+    drop(message);
+    Ok(written?)
+}
+
+/// The same of a type of the set's pool.
 fn recoded_as(
     alloc: Global,
     set: &str,
@@ -121,11 +148,9 @@ fn recoded_as(
 ) -> Result<Vec<u8>, RecodeError> {
     let set = hex::decode(alloc, set)?;
     let pool = DescriptorPool::decode(alloc, set.as_slice())?;
-    let Some(desc) = pool.get_message_by_name(type_name) else {
-        return Err(RecodeError::NoType);
-    };
-    let message = DynamicMessage::decode(alloc, desc, bytes)?;
-    Ok(message.encode_to_vec(alloc)?)
+    let written = recoded_in(alloc, &pool, type_name, bytes);
+    drop(pool);
+    written
 }
 
 fn recode<S: Source, K: Sink>(

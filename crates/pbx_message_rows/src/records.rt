@@ -7,6 +7,7 @@ use pbx_desc_encoding::Message;
 use pbx_desc_records::FileDescriptorProto;
 use pbx_message_dynamic::DynamicMessage;
 use std::alloc::Global;
+use std::mem::drop;
 use test_rows::Row;
 
 /// The bytes of the record of a file.
@@ -18,7 +19,11 @@ fn file_said(alloc: Global, file: &FileDescriptorProto) -> Result<String, Stop> 
 /// The bytes of the record of a file that the message is; or why it is none.
 pub(crate) fn to_file(alloc: Global, message: &DynamicMessage) -> Result<String, Stop> {
     match message.transcode_to::<FileDescriptorProto>(alloc) {
-        Ok(file) => file_said(alloc, &file),
+        Ok(file) => {
+            let said = file_said(alloc, &file);
+            drop(file);
+            said
+        }
         Err(error) => Ok(format!(in alloc; "{error}")?),
     }
 }
@@ -45,7 +50,11 @@ pub(crate) fn from_file(
 ) -> Result<String, Stop> {
     let bytes = hex::decode(alloc, row.text(3))?;
     match FileDescriptorProto::decode(alloc, bytes.as_slice()) {
-        Ok(file) => with_file(alloc, message, &file),
+        Ok(file) => {
+            let told = with_file(alloc, message, &file);
+            drop(file);
+            told
+        }
         Err(_) => Err(Stop::NoSuchWord),
     }
 }

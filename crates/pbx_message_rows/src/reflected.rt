@@ -6,14 +6,23 @@ use pbx_link::{DescriptorPool, MessageDescriptor};
 use pbx_message::{ReflectError, ReflectMessage};
 use pbx_message_dynamic::DynamicMessage;
 use std::alloc::{AllocError, Global};
+use std::mem::drop;
+
+fn add_name(told: &mut String, name: &str) -> Result<(), AllocError> {
+    told.push_str(name)?;
+    told.push_str(": ")
+}
 
 /// Adds the full name of the type, if there is one.
-fn add_name(told: &mut String, desc: Option<MessageDescriptor>) -> Result<(), AllocError> {
-    if let Some(desc) = desc {
-        told.push_str(desc.full_name())?;
-        told.push_str(": ")?;
+fn add_type(told: &mut String, desc: Option<MessageDescriptor>) -> Result<(), AllocError> {
+    match desc {
+        Some(desc) => {
+            let done = add_name(told, desc.full_name());
+            drop(desc);
+            done
+        }
+        None => Ok(()),
     }
-    Ok(())
 }
 
 /// Adds what is written for the message, in hexadecimal digits and quotes.
@@ -43,9 +52,13 @@ pub(crate) fn reflected<M: ReflectMessage>(
     value: &M,
 ) -> Result<String, Stop> {
     let mut told = String::new(alloc);
-    add_name(&mut told, value.descriptor(pool))?;
+    add_type(&mut told, value.descriptor(pool))?;
     match value.transcode_to_dynamic(alloc, pool) {
-        Ok(message) => add_bytes(alloc, &mut told, &message)?,
+        Ok(message) => {
+            let done = add_bytes(alloc, &mut told, &message);
+            drop(message);
+            done?;
+        }
         Err(error) => add_error(&mut told, error)?,
     }
     Ok(told)

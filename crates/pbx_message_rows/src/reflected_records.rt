@@ -9,12 +9,13 @@ use pbx_desc_encoding::{
     MethodDescriptorProto, OneofDescriptorProto, ReservedRange, ServiceDescriptorProto,
     SourceCodeInfo,
 };
-use pbx_link::DescriptorPool;
+use pbx_link::{DescriptorPool, MessageDescriptor};
 use pbx_message::ReflectMessage;
 use pbx_message_dynamic::DynamicMessage;
 use pbx_types::{Any, Duration, Empty, FieldMask, ListValue, Struct, Timestamp, Value};
 use pbx_wkt::make_wkt_descriptor_pool;
 use std::alloc::Global;
+use std::mem::drop;
 use test_rows::Row;
 
 /// What is told of the record that the row's bytes are read as.
@@ -25,20 +26,33 @@ fn record<R: DecodeMessage + ReflectMessage + Drop>(
 ) -> Result<String, Stop> {
     let bytes = hex::decode(alloc, row.text(1))?;
     match R::decode(alloc, bytes.as_slice()) {
-        Ok(value) => reflected(alloc, pool, &value),
+        Ok(value) => {
+            let told = reflected(alloc, pool, &value);
+            drop(value);
+            told
+        }
         Err(_) => Err(Stop::NoSuchWord),
     }
 }
 
+/// The built-in type of that name.
+fn built_in_type(alloc: Global, name: &str) -> Result<MessageDescriptor, Stop> {
+    let pool = make_wkt_descriptor_pool(alloc)?;
+    let desc = pool.get_message_by_name(name);
+    drop(pool);
+    desc.ok_or(Stop::NoSuchWord)
+}
+
 /// The same of the built-in type that the row names behind its bytes.
 fn dynamic(alloc: Global, pool: &DescriptorPool, row: &Row) -> Result<String, Stop> {
-    let built_in = make_wkt_descriptor_pool(alloc)?;
-    let Some(desc) = built_in.get_message_by_name(row.text(2)) else {
-        return Err(Stop::NoSuchWord);
-    };
     let bytes = hex::decode(alloc, row.text(1))?;
+    let desc = built_in_type(alloc, row.text(2))?;
     match DynamicMessage::decode(alloc, desc, bytes.as_slice()) {
-        Ok(message) => reflected(alloc, pool, &message),
+        Ok(message) => {
+            let told = reflected(alloc, pool, &message);
+            drop(message);
+            told
+        }
         Err(_) => Err(Stop::NoSuchWord),
     }
 }

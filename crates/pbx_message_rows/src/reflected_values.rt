@@ -8,6 +8,7 @@ use bytes::Bytes;
 use pbx_link::DescriptorPool;
 use pbx_wkt::make_wkt_descriptor_pool;
 use std::alloc::Global;
+use std::mem::drop;
 use test_rows::Row;
 
 /// The pool of that word, or of that set of files.
@@ -50,5 +51,7 @@ fn owned(alloc: Global, pool: &DescriptorPool, row: &Row, sort: &str) -> Result<
 /// What is told of the row's value in the row's pool, as one of the type of this name.
 pub(crate) fn answer(alloc: Global, row: &Row, sort: &str) -> Result<String, Stop> {
     let pool = named_pool(alloc, row.text(0))?;
-    single(alloc, &pool, row, sort)
+    let told = single(alloc, &pool, row, sort);
+    drop(pool);
+    told
 }

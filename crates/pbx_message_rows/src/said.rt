@@ -3,10 +3,11 @@
 use crate::stop::Done;
 use crate::values::add_value;
 use pbx_desc_encoding::Message;
-use pbx_link::{ExtensionDescriptor, FieldDescriptor};
+use pbx_link::{ExtensionDescriptor, FieldDescriptor, MessageDescriptor};
 use pbx_message_dynamic::{DynamicMessage, Value};
 use pbx_wire::{Blob, write_recs};
 use std::alloc::Global;
+use std::mem::drop;
 
 /// The value of a field; `=` before it where the message has one, and else `~` before the default.
 pub(crate) fn add_got(alloc: Global, text: &mut String, has: bool, value: &Option<Value>) -> Done {
@@ -28,7 +29,9 @@ fn add_field(
 ) -> Done {
     text.push_str(field.name())?;
     let value = message.get_field(alloc, field)?;
-    add_got(alloc, text, message.has_field(field), &value)?;
+    let done = add_got(alloc, text, message.has_field(field), &value);
+    drop(value);
+    done?;
     text.push_str(" ")?;
     Ok(())
 }
@@ -41,7 +44,9 @@ fn add_extension(
 ) -> Done {
     write!(text, "[{}]", extension.full_name())?;
     let value = message.get_extension(alloc, extension)?;
-    add_got(alloc, text, message.has_extension(extension), &value)?;
+    let done = add_got(alloc, text, message.has_extension(extension), &value);
+    drop(value);
+    done?;
     text.push_str(" ")?;
     Ok(())
 }
@@ -53,13 +58,51 @@ pub(crate) fn add_bytes(alloc: Global, text: &mut String, bytes: &[u8]) -> Done 
     Ok(())
 }
 
+/// Each field of the message's type.
+fn add_fields(
+    alloc: Global,
+    text: &mut String,
+    message: &DynamicMessage,
+    desc: &MessageDescriptor,
+) -> Done {
+    for field in desc.fields() {
+        let done = add_field(alloc, text, message, &field);
+        drop(field);
+        done?;
+    }
+    Ok(())
+}
+
+/// Each extension of the message's type.
+fn add_extensions(
+    alloc: Global,
+    text: &mut String,
+    message: &DynamicMessage,
+    desc: &MessageDescriptor,
+) -> Done {
+    for extension in desc.extensions() {
+        let done = add_extension(alloc, text, message, &extension);
+        drop(extension);
+        done?;
+    }
+    Ok(())
+}
+
 /// Each field and extension, the records that none of them reads, the bytes, and how many levels there are.
 pub(crate) fn add_message(alloc: Global, text: &mut String, message: &DynamicMessage) -> Done {
     let desc = message.descriptor();
-    for field in desc.fields() {
-        add_field(alloc, text, message, &field)?;
-    }
+    let done = add_fields(alloc, text, message, &desc);
+    drop(desc);
+    done?;
     add_rest(alloc, text, message)
+}
+
+/// The records that no field and no extension reads.
+fn add_unknown(alloc: Global, text: &mut String, message: &DynamicMessage) -> Done {
+    text.push_str("unknown ")?;
+    let mut unknown = Blob::new(alloc);
+    write_recs(&mut unknown, message.unknown_fields())?;
+    add_bytes(alloc, text, unknown.as_slice())
 }
 
 /// The bytes, and how many levels there are.
@@ -74,12 +117,9 @@ fn add_encoded(alloc: Global, text: &mut String, message: &DynamicMessage) -> Do
 /// The same without the fields.
 fn add_rest(alloc: Global, text: &mut String, message: &DynamicMessage) -> Done {
     let desc = message.descriptor();
-    for extension in desc.extensions() {
-        add_extension(alloc, text, message, &extension)?;
-    }
-    let mut unknown = Blob::new(alloc);
-    write_recs(&mut unknown, message.unknown_fields())?;
-    text.push_str("unknown ")?;
-    add_bytes(alloc, text, unknown.as_slice())?;
+    let done = add_extensions(alloc, text, message, &desc);
+    drop(desc);
+    done?;
+    add_unknown(alloc, text, message)?;
     add_encoded(alloc, text, message)
 }

@@ -9,19 +9,18 @@ use std::process::ExitCode;
 use std::rt::Env;
 use std::{env, io};
 
-/// The arguments of the process, without its own name.
-fn arguments<R: Env + AllocGlobal>(rt: &R) -> io::Result<Texts> {
-    let mut words = Texts::new(rt.alloc());
-    for word in env::args(rt)?.skip(1) {
-        add(rt, &mut words, word.as_str()).map_err(|_| io::Error::from(
-            io::ErrorKind::OutOfMemory,
-        ))?;
-    }
-    Ok(words)
-}
-
 fn add<R: AllocGlobal>(rt: &R, words: &mut Texts, word: &str) -> Result<(), NoMemory> {
     words.add(Text::from_str(rt.alloc(), word)?)
+}
+
+/// Adds the arguments of the process, without its own name.
+fn add_arguments<R: Env + AllocGlobal>(rt: &R, words: &mut Texts) -> io::Result<()> {
+    for word in env::args(rt)?.skip(1) {
+        if add(rt, words, word.as_str()).is_err() {
+            return Err(io::Error::from(io::ErrorKind::OutOfMemory));
+        }
+    }
+    Ok(())
 }
 
 /// Says why there are no words, and gives the status: 2 where an argument is no text, 4 for want of memory.
@@ -38,10 +37,10 @@ fn without_words<E: Sink>(err: &mut E, kind: io::ErrorKind) -> u8 {
 
 fn main(rt: HostRuntime) -> ExitCode {
     let mut err = RealError::new(rt.stderr());
-    let words = match arguments(&rt) {
-        Ok(words) => words,
-        Err(error) => return ExitCode::from(without_words(&mut err, error.kind())),
-    };
+    let mut words = Texts::new(rt.alloc());
+    if let Err(error) = add_arguments(&rt, &mut words) {
+        return ExitCode::from(without_words(&mut err, error.kind()));
+    }
     let mut input = RealSource::new(rt.stdin());
     let mut out = RealSink::new(rt.stdout());
     let ran = run(
