@@ -124,26 +124,20 @@ fn nest_all(alloc: Global, message: &mut DescriptorProto, times: &str) -> Done {
     Ok(())
 }
 
-/// A step with a message: what it holds is what was made last. By `nested_type` the message goes into another, and by
-/// `levels NUMBER` so many times.
-pub(crate) fn message_step(
+/// A step with what a message holds: it is what was made last.
+fn holding_step(
     alloc: Global,
     parts: &mut MessageParts,
     enums: &mut EnumParts,
-    records: &mut Recs,
     part: &str,
-    value: &str,
 ) -> Done {
     let message = &mut parts.message;
     match part {
-        "name" => put_text(alloc, &mut message.name, value),
         "field" => hand_over(
             &mut message.field,
             &mut parts.field,
             FieldDescriptorProto::new(alloc),
         ),
-        "nested_type" => nest(alloc, message),
-        "levels" => nest_all(alloc, message, value),
         "enum_type" => hand_over(
             &mut message.enum_type,
             &mut enums.enumeration,
@@ -159,7 +153,6 @@ pub(crate) fn message_step(
             &mut parts.field,
             FieldDescriptorProto::new(alloc),
         ),
-        "options" => take_options(alloc, &mut message.options, records),
         "oneof_decl" => hand_over(
             &mut message.oneof_decl,
             &mut parts.oneof,
@@ -170,9 +163,29 @@ pub(crate) fn message_step(
             &mut parts.reserved_range,
             ReservedRange::new(alloc),
         ),
+        _ => Err(Stop::NoSuchWord),
+    }
+}
+
+/// A step with a message: what it holds is what was made last. By `nested_type` the message goes into another, and by
+/// `levels NUMBER` so many times.
+pub(crate) fn message_step(
+    alloc: Global,
+    parts: &mut MessageParts,
+    enums: &mut EnumParts,
+    records: &mut Recs,
+    part: &str,
+    value: &str,
+) -> Done {
+    let message = &mut parts.message;
+    match part {
+        "name" => put_text(alloc, &mut message.name, value),
+        "nested_type" => nest(alloc, message),
+        "levels" => nest_all(alloc, message, value),
+        "options" => take_options(alloc, &mut message.options, records),
         "reserved_name" => add_text(alloc, &mut message.reserved_name, value),
         "unknown" => take_records(alloc, &mut message.unknown, records),
-        _ => Err(Stop::NoSuchWord),
+        _ => holding_step(alloc, parts, enums, part),
     }
 }
 
