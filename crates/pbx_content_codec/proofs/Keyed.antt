@@ -346,13 +346,15 @@ get_other n m (field k v fs) e = at (m == k) (n == k) refl refl (get_other n m f
 pub second_there : (c mid : Content) → mid ≡ with_fields c (without 1 (fields c)) → get 2 (fields mid) ≡ get 2 (fields c)
 second_there (content fs ks) mid e = ap (λ (x : Content). get 2 (fields x)) e ∙ get_other 2 1 fs refl
 
-pub entry_pair : (shape : Shape) (key kind : Kind) (c : Content) (k : Key) (v a : Val) (old : List (Key × Val)) (now : Pairs) → k ≡ key_in a
+pub entry_given : (shape : Shape) (key kind : Kind) (c : Content) (k : Key) (v a : Val) → k ≡ key_in a
     → a ≡ or_else (get 1 (fields c)) (zero_of shape key)
-    → v ≡ or_else (get 2 (fields c)) (zero_of shape kind) → now ≡ by_key (old ++ (k, v) ∷ [])
-    → keyed now ≡ keyed (by_key (old ++ pair_in shape key kind c ∷ []))
-entry_pair shape key kind c k v a old now p q s e =
-    ap keyed (e ∙ ap (λ (x : Key). by_key (old ++ (x, v) ∷ [])) (p ∙ ap key_in q)
-    ∙ ap (λ (x : Val). by_key (old ++ (key_in (or_else (get 1 (fields c)) (zero_of shape key)), x) ∷ [])) s)
+    → v ≡ or_else (get 2 (fields c)) (zero_of shape kind) → ◌≡◌ {A = Key × Val} (k, v) (pair_in shape key kind c)
+entry_given shape key kind c k v a p q s =
+    ap (λ (x : Key). (x, v)) (p ∙ ap key_in q)
+    ∙ ap (λ (x : Val). (key_in (or_else (get 1 (fields c)) (zero_of shape key)), x)) s
+
+pub pair_put : (old : List (Key × Val)) (p q : Key × Val) (now : Pairs) → p ≡ q → now ≡ by_key (old ++ p ∷ []) → now ≡ by_key (old ++ q ∷ [])
+pair_put old p q now e h = h ∙ ap (λ (x : Key × Val). by_key (old ++ x ∷ [])) e
 
 -- ---- maps
 

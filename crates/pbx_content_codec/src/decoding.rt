@@ -46,7 +46,10 @@ fn decode_with(
         bytes,
     ) {
         Ok(()) => Ok(contents),
-        Err(fault) => Err(fault),
+        Err(fault) => {
+            drop(contents);
+            Err(fault)
+        }
     }
 }
 
@@ -144,6 +147,9 @@ pub fn merge(
         bytes,
     ) {
         Ok(()) => Ok(contents),
-        Err(fault) => Err(fault),
+        Err(fault) => {
+            drop(contents);
+            Err(fault)
+        }
     }
 }

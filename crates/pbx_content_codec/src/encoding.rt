@@ -110,6 +110,15 @@ fn held_record(
     }
 }
 
+/// The record of the key in a list that has room for that of the value.
+fn key_alone(alloc: Global, kind: Kind, key: &MapKey) -> Result<Recs, NoMemory>
+    ensures { IfOk result (λ recs. recs ≡ key_rec kind (key_of key.now) ∷ []) }
+{
+    let mut entry = Recs::with_capacity(alloc, 2)?;
+    entry.add(key_record(alloc, kind, key)?)?;
+    Ok(entry)
+}
+
 /// An entry of a map with the key and the record of the value.
 fn entry_record(
     alloc: Global,
@@ -120,8 +129,10 @@ fn entry_record(
 ) -> Result<Rec, NoMemory>
     ensures { IfOk result (λ it. it ≡ payload number (key_rec kind (key_of key.now) ∷ value ∷ [])) }
 {
-    let mut entry = Recs::with_capacity(alloc, 2)?;
-    entry.add(key_record(alloc, kind, key)?)?;
+    let Ok(mut entry) = key_alone(alloc, kind, key) else {
+        drop(value);
+        return Err(NoMemory);
+    };
     entry.add(value)?;
     message_record(alloc, number, entry)
 }

@@ -132,7 +132,10 @@ fn take_message(alloc: Global, held: &mut Option<Held>) -> Contents
 {
     match held.take() {
         Some(Held::Message(contents)) => contents,
-        _ => Contents::new(alloc),
+        other => {
+            drop(other);
+            Contents::new(alloc)
+        }
     }
 }
 
@@ -276,7 +279,10 @@ fn join_message(
             set_message(held, inner);
             Ok(())
         }
-        Err(fault) => Err(fault),
+        Err(fault) => {
+            drop(inner);
+            Err(fault)
+        }
     }
 }
 
@@ -310,7 +316,10 @@ fn push_message(
         alloc, schema, true, messages, room, owner, at, end, &mut inner, rec,
     ) {
         Ok(()) => add_message(alloc, held, inner),
-        Err(fault) => Err(fault),
+        Err(fault) => {
+            drop(inner);
+            Err(fault)
+        }
     }
 }
 
@@ -345,7 +354,10 @@ fn put_entry(
         alloc, schema, true, messages, room, owner, at, end, &mut entry, rec,
     ) {
         Ok(()) => add_pair(alloc, schema, key, view.kind, held, entry),
-        Err(fault) => Err(fault),
+        Err(fault) => {
+            drop(entry);
+            Err(fault)
+        }
     }
 }
 
@@ -427,7 +439,10 @@ fn merge_rec(
         alloc, schema, stable, groups, messages, room, view, at, end, &mut held, &rec,
     ) {
         Ok(()) => put_value(into, view.number, held),
-        Err(fault) => Err(fault),
+        Err(fault) => {
+            drop(held);
+            Err(fault)
+        }
     }
 }
 

@@ -157,7 +157,10 @@ fn key_held(held: Held) -> MapKey
         Held::U64(value) => MapKey::U64(value),
         Held::Bool(value) => MapKey::Bool(value),
         Held::Text(text) => MapKey::String(text),
-        _ => MapKey::Bool(false),
+        other => {
+            drop(other);
+            MapKey::Bool(false)
+        }
     }
 }
 
@@ -195,7 +198,51 @@ pub(crate) fn pairs_held(alloc: Global, old: Option<Held>) -> List<Pair>
 {
     match old {
         Some(Held::Pairs(pairs)) => pairs,
-        _ => List::new(alloc),
+        other => {
+            drop(other);
+            List::new(alloc)
+        }
+    }
+}
+
+/// The pair that an entry is; its key and value are taken out.
+fn entry_pair(
+    alloc: Global,
+    schema: &Schema,
+    key: Kind,
+    kind: Kind,
+    entry: &mut Contents,
+) -> Result<Pair, NoMemory>
+    ensures { IfOk result (λ pair. pair_of pair ≡ pair_in schema.now key kind (content_of entry.old)) }
+{
+    let own = key_held(or_zero(alloc, schema, key, entry.take(1))?);
+    match or_zero(alloc, schema, kind, entry.take(2)) {
+        Ok(held) => Ok(Pair { key: own, held }),
+        Err(error) => {
+            drop(own);
+            Err(error)
+        }
+    }
+}
+
+/// Puts the pair that an entry is at its key.
+fn add_entry(
+    alloc: Global,
+    schema: &Schema,
+    key: Kind,
+    kind: Kind,
+    pairs: &mut List<Pair>,
+    entry: Contents,
+) -> Result<(), NoMemory>
+    requires { AreInOrder (map pair_of pairs.old) }
+    ensures { OnOk result (pairs_of (map pair_of pairs.new) ≡ by_key_of (map pair_of pairs.old ++ pair_in schema.now key kind (content_of entry) ∷ [])) }
+{
+    let mut entry = entry;
+    let made = entry_pair(alloc, schema, key, kind, &mut entry);
+    drop(entry);
+    match made {
+        Ok(pair) => put_pair(pairs, pair.key, pair.held),
+        Err(error) => Err(error),
     }
 }
 
@@ -212,9 +259,11 @@ pub(crate) fn with_entry(
     ensures { IfOk result (λ all. val_of all ≡ keyed (by_key_of (map pair_of pairs ++ pair_in schema.now key kind (content_of entry) ∷ []))) }
 {
     let mut pairs = pairs;
-    let mut entry = entry;
-    let own = or_zero(alloc, schema, key, entry.take(1))?;
-    let held = or_zero(alloc, schema, kind, entry.take(2))?;
-    put_pair(&mut pairs, key_held(own), held)?;
-    Ok(Held::Pairs(pairs))
+    match add_entry(alloc, schema, key, kind, &mut pairs, entry) {
+        Ok(()) => Ok(Held::Pairs(pairs)),
+        Err(error) => {
+            drop(pairs);
+            Err(error)
+        }
+    }
 }

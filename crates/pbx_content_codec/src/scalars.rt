@@ -157,6 +157,7 @@ pub(crate) fn shown(schema: &Schema, presence: bool, kind: Kind, held: Held) -> 
     if presence {
         Some(held)
     } else if is_default(schema, kind, &held) {
+        drop(held);
         None
     } else {
         Some(held)
@@ -170,6 +171,9 @@ pub(crate) fn list_held(alloc: Global, old: Option<Held>) -> List<Held>
 {
     match old {
         Some(Held::Many(many)) => many,
-        _ => List::new(alloc),
+        other => {
+            drop(other);
+            List::new(alloc)
+        }
     }
 }

@@ -135,14 +135,19 @@ fn stabilized_field(
     ensures { IfOk result (λ left. option_map val_of left
         ≡ stabilized_at schema.now (field_of (entry_of field).0 (fields_of schema.now type_at)) (Some (entry_of field).1)) }
 {
-    match view_in(schema, Owner::Type(type_at), field.0) {
+    let (number, held) = field;
+    match view_in(schema, Owner::Type(type_at), number) {
         Some(view) => {
             if is_float(view.kind) {
+                drop(held);
                 return Ok(None);
             }
-            stabilized_value(alloc, schema, view, field.1)
+            stabilized_value(alloc, schema, view, held)
         }
-        None => Ok(None),
+        None => {
+            drop(held);
+            Ok(None)
+        }
     }
 }
 
