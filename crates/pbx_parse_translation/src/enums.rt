@@ -1,7 +1,7 @@
 //! Records of enums.
 
-ghost use Rattle.std.specs.Prelude.{◌≡◌, map, pos, IfOk};
-ghost use Rattle.std.specs.List.{filter_map};
+ghost use Rattle.std.specs.Prelude.{◌≡◌, Some, map, pos, IfOk, OnOk};
+ghost use Rattle.std.specs.List.{flat_map, filter_map};
 ghost use Rattle.pbx_parse_tree.specs.declared.options.OptionPlace.TheVariants as places;
 ghost use Rattle.pbx_parse_tree.specs.Conditions.{enum_setting};
 ghost use Rattle.pbx_parse_tree.specs.View.{literal_of, range_of, enum_number_of, value_of, enum_item_of, enum_of};
@@ -9,9 +9,9 @@ ghost use Rattle.pbx_parse_translation.specs.Texts.{string_text as string_text_o
 ghost use Rattle.pbx_parse_translation.specs.Settings.{options_of};
 ghost use Rattle.pbx_parse_translation.specs.Enums.{last_number as last_number_of, value_record as value_record_of, enum_value_records, enum_range, range_records, reserved_names_in, enum_record as enum_record_of};
 
-use crate::passes::{Becomes, Gives, add_each, all_given};
+use crate::passes::{Becomes, Gives, add_each, all_given, put};
 use crate::settings::{listed_options, options};
-use crate::texts::{signed, string_text};
+use crate::texts::{signed, some_text, string_text};
 use pbx_desc_records::{EnumDescriptorProto, EnumReservedRange, EnumValueDescriptorProto, Options};
 use pbx_parse_tree::{
     Enum, EnumItem, EnumNumber, Literal, OptionPlace, Range, RangeEnd, Reserved, Value, Version,
@@ -119,6 +119,29 @@ fn enum_options(alloc: Global, items: &[EnumItem<'_>]) -> Result<Option<Options>
     options(alloc, OptionPlace::Enum, settings.as_slice())
 }
 
+/// Fills all but what no source gives.
+fn fill(
+    alloc: Global,
+    version: Version,
+    name: &str,
+    items: &[EnumItem<'_>],
+    parts: &mut EnumDescriptorProto,
+) -> Result<(), NoMemory>
+    ensures { OnOk result (parts.new ≡ record parts.old {
+      name = Some name.now;
+      value = flat_map (λ i. enum_value_records (enum_item_of i)) items.now;
+      options = options_of places.Enum (filter_map enum_setting (map enum_item_of items.now));
+      reserved_range = flat_map (λ i. range_records (enum_item_of i)) items.now;
+      reserved_name = flat_map (λ i. reserved_names_in (enum_item_of i)) items.now;
+    }) }
+{
+    put(&mut parts.name, some_text(alloc, name))?;
+    put(&mut parts.value, all_given(alloc, version, items))?;
+    put(&mut parts.options, enum_options(alloc, items))?;
+    put(&mut parts.reserved_range, all_given(alloc, version, items))?;
+    put(&mut parts.reserved_name, all_given(alloc, version, items))
+}
+
 /// The record of an enum.
 #[tactic(auto, unfolding(crate::specs::Enums::enum_record))]
 pub(crate) fn enum_record(
@@ -129,12 +152,12 @@ pub(crate) fn enum_record(
     ensures { IfOk result (λ it. it ≡ enum_record_of (enum_of item.now)) }
 {
     let items = item.items.as_slice();
-    Ok(EnumDescriptorProto {
-        name: Some(Text::from_str(alloc, item.name.text)?),
-        value: all_given(alloc, version, items)?,
-        options: enum_options(alloc, items)?,
-        reserved_range: all_given(alloc, version, items)?,
-        reserved_name: all_given(alloc, version, items)?,
-        unknown: Recs::new(alloc),
-    })
+    let mut parts = EnumDescriptorProto::new(alloc);
+    match fill(alloc, version, item.name.text, items, &mut parts) {
+        Ok(()) => Ok(parts),
+        Err(error) => {
+            drop(parts);
+            Err(error)
+        }
+    }
 }

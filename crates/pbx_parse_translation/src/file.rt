@@ -8,22 +8,22 @@ ghost use Rattle.pbx_parse_tree.specs.declared.options.OptionPlace.TheVariants a
 ghost use Rattle.pbx_parse_tree.specs.Conditions.{version_of, packages, top_setting};
 ghost use Rattle.pbx_parse_tree.specs.View.{import_of, syntax_of, top_of, file_of};
 ghost use Rattle.pbx_parse_translation.specs.Settings.{options_of};
-ghost use Rattle.pbx_parse_translation.specs.Translation.{imports_in, messages_in, enums_in, extensions_in, services_in, import_name, has_modifier as has_modifier_of, indexes_from, syntax_name as syntax_name_of, package_name as package_name_of, file_with, translate_of};
+ghost use Rattle.pbx_parse_translation.specs.Translation.{imports_in, messages_in, enums_in, extensions_in, services_in, import_name, has_modifier as has_modifier_of, indexes_from, syntax_name as syntax_name_of, package_name as package_name_of, translate_of};
 
 use crate::enums::enum_record;
 use crate::fields::{add_extensions, index};
-use crate::messages::{message_with, nested_types};
-use crate::passes::Gives;
+use crate::messages::{add_message, nested_types};
+use crate::passes::{Gives, put};
 use crate::services::service_record;
 use crate::settings::options;
-use crate::texts::{full_text, string_text};
+use crate::texts::{full_text, some_text, string_text};
 use pbx_desc_records::{
     DescriptorProto, EnumDescriptorProto, FieldDescriptorProto, FileDescriptorProto, Location,
     Options, ServiceDescriptorProto, SourceCodeInfo,
 };
 use pbx_parse_token::stands_for;
 use pbx_parse_tree::{File, Import, Modifier, OptionPlace, Syntax, Top, Version, file_settings};
-use pbx_wire::{List, NoMemory, Text, Texts};
+use pbx_wire::{List, NoMemory, Recs, Text, Texts};
 use std::alloc::Global;
 
 impl Gives<DescriptorProto> for Top<'_> {
@@ -40,7 +40,14 @@ impl Gives<DescriptorProto> for Top<'_> {
         };
         let types = nested_types(&message.items, alloc, version)?;
         let items = message.items.as_slice();
-        records.add(message_with(alloc, version, message.head.name.text, items, types)?)
+        add_message(
+            alloc,
+            version,
+            message.head.name.text,
+            items,
+            types,
+            records,
+        )
     }
 }
 
@@ -179,13 +186,96 @@ fn file_options(alloc: Global, tops: &[Top<'_>]) -> Result<Option<Options>, NoMe
     options(alloc, OptionPlace::File, settings.as_slice())
 }
 
-/// Where the parts of the file stand.
-fn source_code_info(alloc: Global, locations: List<Location>) -> SourceCodeInfo
-    ensures { result ≡ record { location = locations; unknown = [] } }
-{
-    let mut info = SourceCodeInfo::new(alloc);
-    info.location = locations;
-    info
+/// What a file says of itself.
+#[derive(Drop)]
+struct Head {
+    name: Option<Text>,
+    package: Option<Text>,
+    options: Option<Options>,
+    syntax: Option<Text>,
+}
+
+impl Head {
+    /// Each absent; takes no memory.
+    fn new() -> Head {
+        Head {
+            name: None,
+            package: None,
+            options: None,
+            syntax: None,
+        }
+    }
+
+    /// Puts in what a file of this name, this version and these tops says of itself.
+    fn fill(
+        &mut self,
+        alloc: Global,
+        name: &str,
+        version: Version,
+        tops: &[Top<'_>],
+    ) -> Result<(), NoMemory>
+        ensures { OnOk result (self.new ≡ record {
+          name = Some name.now;
+          «package» = package_name_of (packages (map top_of tops.now));
+          options = options_of places.File (filter_map top_setting (map top_of tops.now));
+          syntax = syntax_name_of version;
+        }) }
+    {
+        put(&mut self.name, some_text(alloc, name))?;
+        put(&mut self.package, package_name(alloc, tops))?;
+        put(&mut self.options, file_options(alloc, tops))?;
+        put(&mut self.syntax, syntax_name(alloc, version))
+    }
+}
+
+/// What a file imports.
+#[derive(Drop)]
+struct Imported {
+    dependency: Texts,
+    public_dependency: List<i32>,
+    weak_dependency: List<i32>,
+}
+
+impl Imported {
+    /// Nothing; takes no memory.
+    fn new(alloc: Global) -> Imported {
+        Imported {
+            dependency: Texts::new(alloc),
+            public_dependency: List::new(alloc),
+            weak_dependency: List::new(alloc),
+        }
+    }
+
+    /// Puts in the names of these imports, and the indexes of those that have a modifier.
+    fn fill_with(&mut self, alloc: Global, imports: &[Import<'_>]) -> Result<(), NoMemory>
+        ensures { OnOk result (self.new ≡ record {
+          dependency = map import_name (map import_of imports.now);
+          public_dependency = indexes_from 0 modifiers.Public (map import_of imports.now);
+          weak_dependency = indexes_from 0 modifiers.Weak (map import_of imports.now);
+        }) }
+    {
+        put(&mut self.dependency, import_names(alloc, imports))?;
+        put(
+            &mut self.public_dependency,
+            indexes(alloc, Modifier::Public, imports),
+        )?;
+        put(
+            &mut self.weak_dependency,
+            indexes(alloc, Modifier::Weak, imports),
+        )
+    }
+
+    /// Puts in what the tops import.
+    fn fill(&mut self, alloc: Global, tops: &[Top<'_>]) -> Result<(), NoMemory>
+        ensures { OnOk result (self.new ≡ record {
+          dependency = map import_name (flat_map imports_in (map top_of tops.now));
+          public_dependency = indexes_from 0 modifiers.Public (flat_map imports_in (map top_of tops.now));
+          weak_dependency = indexes_from 0 modifiers.Weak (flat_map imports_in (map top_of tops.now));
+        }) }
+    {
+        let all = imports(alloc, tops)?;
+        self.fill_with(alloc, all.as_slice())
+    }
 }
 
 /// What stands at the top of a file, each sort in the order of the source.
@@ -254,110 +344,122 @@ impl Declarations {
     }
 }
 
-/// Adds the names of the files that are imported, and the indexes of those that have a modifier.
-fn add_imports(
-    alloc: Global,
-    tops: &[Top<'_>],
-    file: &mut FileDescriptorProto,
-) -> Result<(), NoMemory>
-    ensures { OnOk result (file.new ≡ record file.old {
-      dependency = map import_name (flat_map imports_in (map top_of tops.now));
-      public_dependency = indexes_from 0 modifiers.Public (flat_map imports_in (map top_of tops.now));
-      weak_dependency = indexes_from 0 modifiers.Weak (flat_map imports_in (map top_of tops.now));
-    }) }
-{
-    let all = imports(alloc, tops)?;
-    let imports = all.as_slice();
-    file.dependency = import_names(alloc, imports)?;
-    file.public_dependency = indexes(alloc, Modifier::Public, imports)?;
-    file.weak_dependency = indexes(alloc, Modifier::Weak, imports)?;
-    Ok(())
-}
-
-/// Adds the name, the package, the options record and the version's name.
-fn add_head(
-    alloc: Global,
-    name: &str,
-    version: Version,
-    tops: &[Top<'_>],
-    file: &mut FileDescriptorProto,
-) -> Result<(), NoMemory>
-    ensures { OnOk result (file.new ≡ record file.old {
-      name = Some name.now;
-      «package» = package_name_of (packages (map top_of tops.now));
-      options = options_of places.File (filter_map top_setting (map top_of tops.now));
-      syntax = syntax_name_of version;
-    }) }
-{
-    file.name = Some(Text::from_str(alloc, name)?);
-    file.package = package_name(alloc, tops)?;
-    file.options = file_options(alloc, tops)?;
-    file.syntax = syntax_name(alloc, version)?;
-    Ok(())
-}
-
-/// Adds all that the declarations at the top are not needed for.
-fn add_front(
+/// Fills all that the declarations at the top are not needed for.
+fn fill_front(
     alloc: Global,
     name: &str,
     version: Version,
     tops: &Vec<Top<'_>>,
-    file: &mut FileDescriptorProto,
+    head: &mut Head,
+    imported: &mut Imported,
 ) -> Result<(), NoMemory>
-    ensures { OnOk result (file.new ≡ record file.old {
+    ensures { OnOk result ((head.new ≡ record {
       name = Some name.now;
       «package» = package_name_of (packages (map top_of tops.now.items));
-      dependency = map import_name (flat_map imports_in (map top_of tops.now.items));
       options = options_of places.File (filter_map top_setting (map top_of tops.now.items));
+      syntax = syntax_name_of version;
+    }) × (imported.new ≡ record {
+      dependency = map import_name (flat_map imports_in (map top_of tops.now.items));
       public_dependency = indexes_from 0 modifiers.Public (flat_map imports_in (map top_of tops.now.items));
       weak_dependency = indexes_from 0 modifiers.Weak (flat_map imports_in (map top_of tops.now.items));
-      syntax = syntax_name_of version;
-    }) }
+    })) }
 {
     let tops = tops.as_slice();
-    add_head(alloc, name, version, tops, file)?;
-    add_imports(alloc, tops, file)
+    head.fill(alloc, name, version, tops)?;
+    imported.fill(alloc, tops)
 }
 
-/// Adds what the tops declare, and lets them go.
-fn add_declared(
-    alloc: Global,
-    version: Version,
-    tops: Vec<Top<'_>>,
-    file: &mut FileDescriptorProto,
-) -> Result<(), NoMemory>
-    ensures { OnOk result (file.new ≡ record file.old {
-      message_type = flat_map (messages_in version) (map top_of tops.entry.items);
-      enum_type = flat_map enums_in (map top_of tops.entry.items);
-      service = flat_map services_in (map top_of tops.entry.items);
-      extension = flat_map (extensions_in version) (map top_of tops.entry.items);
+/// What the tops declare; lets them go.
+fn declared(alloc: Global, version: Version, tops: Vec<Top<'_>>) -> Result<Declarations, NoMemory>
+    ensures { IfOk result (λ declared. declared ≡ record {
+      messages = flat_map (messages_in version) (map top_of tops.entry.items);
+      enums = flat_map enums_in (map top_of tops.entry.items);
+      services = flat_map services_in (map top_of tops.entry.items);
+      extensions = flat_map (extensions_in version) (map top_of tops.entry.items);
     }) }
 {
     let mut declared = Declarations::new(alloc);
-    declared.take_all(alloc, version, tops)?;
-    file.message_type = declared.messages;
-    file.enum_type = declared.enums;
-    file.service = declared.services;
-    file.extension = declared.extensions;
-    Ok(())
+    match declared.take_all(alloc, version, tops) {
+        Ok(()) => Ok(declared),
+        Err(error) => {
+            drop(declared);
+            Err(error)
+        }
+    }
 }
 
-/// Adds all but the locations.
-fn add_parts(
+/// Fills the head and the imports, and then takes what the tops declare.
+fn fill_and_declared(
     alloc: Global,
     name: &str,
     version: Version,
     tops: Vec<Top<'_>>,
-    file: &mut FileDescriptorProto,
-) -> Result<(), NoMemory>
-    ensures { OnOk result (file.new ≡ record (file_with name.now version (map top_of tops.entry.items) (flat_map imports_in (map top_of tops.entry.items)) []) {
-      source_code_info = file.old.source_code_info;
-      unknown = file.old.unknown;
-    }) }
+    head: &mut Head,
+    imported: &mut Imported,
+) -> Result<Declarations, NoMemory>
+    ensures { IfOk result (λ declared. (declared ≡ record {
+      messages = flat_map (messages_in version) (map top_of tops.entry.items);
+      enums = flat_map enums_in (map top_of tops.entry.items);
+      services = flat_map services_in (map top_of tops.entry.items);
+      extensions = flat_map (extensions_in version) (map top_of tops.entry.items);
+    }) × (head.new ≡ record {
+      name = Some name.now;
+      «package» = package_name_of (packages (map top_of tops.entry.items));
+      options = options_of places.File (filter_map top_setting (map top_of tops.entry.items));
+      syntax = syntax_name_of version;
+    }) × (imported.new ≡ record {
+      dependency = map import_name (flat_map imports_in (map top_of tops.entry.items));
+      public_dependency = indexes_from 0 modifiers.Public (flat_map imports_in (map top_of tops.entry.items));
+      weak_dependency = indexes_from 0 modifiers.Weak (flat_map imports_in (map top_of tops.entry.items));
+    })) }
 {
-    match add_front(alloc, name, version, &tops, file) {
-        Ok(()) => add_declared(alloc, version, tops, file),
+    match fill_front(alloc, name, version, &tops, head, imported) {
+        Ok(()) => declared(alloc, version, tops),
         Err(error) => Err(error),
+    }
+}
+
+/// The file of these parts.
+fn file_of_parts(
+    alloc: Global,
+    head: Head,
+    imported: Imported,
+    declared: Declarations,
+    locations: List<Location>,
+) -> FileDescriptorProto
+    ensures { result ≡ record {
+      name = head.name;
+      «package» = head.«package»;
+      dependency = imported.dependency;
+      message_type = declared.messages;
+      enum_type = declared.enums;
+      service = declared.services;
+      extension = declared.extensions;
+      options = head.options;
+      source_code_info = Some (record { location = locations; unknown = [] });
+      public_dependency = imported.public_dependency;
+      weak_dependency = imported.weak_dependency;
+      syntax = head.syntax;
+      unknown = [];
+    } }
+{
+    FileDescriptorProto {
+        name: head.name,
+        package: head.package,
+        dependency: imported.dependency,
+        message_type: declared.messages,
+        enum_type: declared.enums,
+        service: declared.services,
+        extension: declared.extensions,
+        options: head.options,
+        source_code_info: Some(SourceCodeInfo {
+            location: locations,
+            unknown: Recs::new(alloc),
+        }),
+        public_dependency: imported.public_dependency,
+        weak_dependency: imported.weak_dependency,
+        syntax: head.syntax,
+        unknown: Recs::new(alloc),
     }
 }
 
@@ -371,10 +473,14 @@ pub fn translate(
     ensures { IfOk result (λ it. it ≡ translate_of name.now (file_of file.entry) locations) }
 {
     let version = version(&file.syntax);
-    let mut translated = FileDescriptorProto::new(alloc);
-    translated.source_code_info = Some(source_code_info(alloc, locations));
-    match add_parts(alloc, name, version, file.tops, &mut translated) {
-        Ok(()) => Ok(translated),
-        Err(error) => Err(error),
+    let mut head = Head::new();
+    let mut imported = Imported::new(alloc);
+    match fill_and_declared(alloc, name, version, file.tops, &mut head, &mut imported) {
+        Ok(declared) => Ok(file_of_parts(alloc, head, imported, declared, locations)),
+        Err(error) => {
+            drop(head);
+            drop(imported);
+            Err(error)
+        }
     }
 }

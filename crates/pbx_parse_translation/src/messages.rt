@@ -375,7 +375,7 @@ fn own_parts(alloc: Global, version: Version, items: &[Item<'_>]) -> Result<OwnP
 
 /// The message of this name, these items and these nested types.
 #[tactic(auto, unfolding(crate::specs::Messages::message_with))]
-pub(crate) fn message_with(
+fn message_with(
     alloc: Global,
     version: Version,
     name: &str,
@@ -410,6 +410,20 @@ pub(crate) fn message_with(
     })
 }
 
+/// Adds the message of this name, these items and these nested types.
+pub(crate) fn add_message(
+    alloc: Global,
+    version: Version,
+    name: &str,
+    items: &[Item<'_>],
+    types: List<DescriptorProto>,
+    records: &mut List<DescriptorProto>,
+) -> Result<(), NoMemory>
+    ensures { OnOk result (records.new ≡ records.old ++ message_with_of version name.now (body_of items.now) types ∷ []) }
+{
+    records.add(message_with(alloc, version, name, items, types)?)
+}
+
 /// Adds the entry of a map field.
 fn add_entry(
     alloc: Global,
@@ -434,7 +448,7 @@ pub(crate) fn nested_types(
         match item {
             Item::Message(head, inner, _) => {
                 let types = nested_types(inner, alloc, version)?;
-                records.add(message_with(alloc, version, head.name.text, inner, types)?)?;
+                add_message(alloc, version, head.name.text, inner, types, &mut records)?;
             }
             Item::Map(map) => add_entry(alloc, map, &mut records)?,
             _ => {}

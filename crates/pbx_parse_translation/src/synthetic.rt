@@ -5,7 +5,7 @@ ghost use Rattle.std.specs.List.{flat_map};
 ghost use Rattle.std.specs.Option.{option_to_list};
 ghost use Rattle.pbx_parse_tree.specs.View.{item_of};
 ghost use Rattle.pbx_parse_translation.specs.Synthetic.{name_with as name_with_of, fewest_x as fewest_x_of, free_name, synthetic_names};
-ghost use Rattle.pbx_parse_translation.specs.Messages.{oneof_record as oneof_record_of, optional_names_in, synthetic_oneofs};
+ghost use Rattle.pbx_parse_translation.specs.Messages.{oneof_record as oneof_record_of, optional_names_in, names_in, synthetic_oneofs};
 ghost use Rattle.pbx_parse_translation.specs.Scope.{Holds, AreTaken, BeginsWell};
 
 use crate::fields::is_proto3_optional;
@@ -98,6 +98,20 @@ fn optional_name<'a>(version: Version, item: &'a Item<'_>) -> Option<&'a str>
     }
 }
 
+/// Adds the name of the field, if it has a synthetic oneof.
+fn add_optional_name<'a>(
+    version: Version,
+    item: &'a Item<'_>,
+    names: &mut Vec<&'a str>,
+) -> Result<(), NoMemory>
+    ensures { OnOk result (map (λ n. n.now) names.new.items ≡ map (λ n. n.now) names.old.items ++ optional_names_in version (item_of item.now)) }
+{
+    if let Some(name) = optional_name(version, item) {
+        names.push(name)?;
+    }
+    Ok(())
+}
+
 /// The names of the fields that have synthetic oneofs.
 fn optional_names<'a>(
     alloc: Global,
@@ -108,11 +122,23 @@ fn optional_names<'a>(
 {
     let mut names = Vec::new(alloc);
     'each: for item in items {
-        if let Some(name) = optional_name(version, item) {
-            names.push(name)?;
-        }
+        add_optional_name(version, item, &mut names)?;
     }
     Ok(names)
+}
+
+/// Adds a oneof for each of these fields, whose name is free among those that the items have.
+fn add_named(
+    alloc: Global,
+    items: &[Item<'_>],
+    fields: &[&str],
+    oneofs: &mut List<OneofDescriptorProto>,
+) -> Result<(), NoMemory>
+    ensures { OnOk result (oneofs.new ≡ oneofs.old ++ map oneof_record_of (synthetic_names (flat_map (λ i. names_in (item_of i)) items.now) (map (λ n. n.now) fields.now))) }
+{
+    let mut scope = Scope::new(alloc);
+    add_all_names(alloc, items, &mut scope)?;
+    add_synthetic(alloc, fields, &mut scope, oneofs)
 }
 
 /// Adds the synthetic oneofs of a message.
@@ -128,7 +154,5 @@ pub(crate) fn add_synthetic_oneofs(
     if names.is_empty() {
         return Ok(());
     }
-    let mut scope = Scope::new(alloc);
-    add_all_names(alloc, items, &mut scope)?;
-    add_synthetic(alloc, names.as_slice(), &mut scope, oneofs)
+    add_named(alloc, items, names.as_slice(), oneofs)
 }

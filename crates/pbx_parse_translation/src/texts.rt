@@ -1,6 +1,6 @@
 //! Names, texts and numbers in the words of the records.
 
-ghost use Rattle.std.specs.Prelude.{◌≡◌, ◌<◌, ◌++◌, ◌∷◌, [], true, IfOk, OnOk, string_bytes};
+ghost use Rattle.std.specs.Prelude.{◌≡◌, ◌<◌, ◌++◌, ◌∷◌, [], true, Some, IfOk, OnOk, string_bytes};
 ghost use Rattle.pbx_parse_tree.specs.View.{name_of, literal_of, type_of, separated_of, number_of, enum_number_of};
 ghost use Rattle.pbx_parse_translation.specs.Texts.{string_text as string_text_of, full_text as full_text_of, type_text as type_text_of, camel_from, entry_name as entry_name_of, octal as octal_of, escape as escape_of, escaped as escaped_of, number_text as number_text_of, signed as signed_of};
 
@@ -31,6 +31,13 @@ pub(crate) fn full_text(alloc: Global, full: &Separated<Name<'_>>) -> Result<Tex
     let mut text = String::new(alloc);
     add_full_text(full, &mut text)?;
     Text::from_str(alloc, text.as_str())
+}
+
+/// The text of a field that is there.
+pub(crate) fn some_text(alloc: Global, text: &str) -> Result<Option<Text>, NoMemory>
+    ensures { IfOk result (λ it. it ≡ Some text.now) }
+{
+    Ok(Some(Text::from_str(alloc, text)?))
 }
 
 /// The name of a type as it is written, without blanks.

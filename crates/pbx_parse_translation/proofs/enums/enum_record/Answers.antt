@@ -1,4 +1,4 @@
-use Rattle.std.proofs.Common.{◌≡◌, ◌∙◌, ℕ, [], List, map, Option, Some, ap}
+use Rattle.std.proofs.Common.{◌≡◌, ◌∙◌, ℕ, [], List, map, Option, Some, refl, ap}
 use Rattle.std.specs.List.{flat_map, filter_map}
 use Rattle.pbx_desc_records.specs.declared.enumeration.EnumDescriptorProto.{EnumDescriptorProto}
 use Rattle.pbx_desc_records.specs.declared.enumeration.EnumReservedRange.{EnumReservedRange}
@@ -34,15 +34,16 @@ from_parts e name value options ranges names unknown a b c d f g =
     ∙ ap (λ x. enum_with e.name.text (flat_map enum_value_records e.items) (options_of places.Enum (filter_map enum_setting e.items)) (flat_map range_records e.items) x unknown) f
     ∙ ap (λ x. enum_with e.name.text (flat_map enum_value_records e.items) (options_of places.Enum (filter_map enum_setting e.items)) (flat_map range_records e.items) (flat_map reserved_names_in e.items) x) g
 
-pub returns : goal.returns
-returns c =
+pub returns-in-Ok : goal.returns-in-Ok
+returns-in-Ok c =
     let seen = c.as_slice-items.result.now in
     let all = c.args.item.now.items.items in
     let are : seen ≡ all = c.as_slice-items.ensures.value in
-    from_parts (enum_of c.args.item.now) c.in_ok-from_str.field-0 c.in_ok-all_given.field-0 c.in_ok-enum_options.field-0 c.in_ok-all_given-2.field-0 c.in_ok-all_given-3.field-0 c.new.result
-    c.in_ok-from_str.ensures
-    (c.in_ok-all_given.ensures ∙ flat_seen enum_value_records enum_item_of seen ∙ ap (λ xs. flat_map enum_value_records (map enum_item_of xs)) are)
-    (c.in_ok-enum_options.ensures ∙ ap (λ xs. options_of places.Enum (filter_map enum_setting (map enum_item_of xs))) are)
-    (c.in_ok-all_given-2.ensures ∙ flat_seen range_records enum_item_of seen ∙ ap (λ xs. flat_map range_records (map enum_item_of xs)) are)
-    (c.in_ok-all_given-3.ensures ∙ flat_seen reserved_names_in enum_item_of seen ∙ ap (λ xs. flat_map reserved_names_in (map enum_item_of xs)) are)
-    c.new.ensures
+    c.in-Ok.ensures
+    ∙ from_parts (enum_of c.args.item.now) _ _ _ _ _ _
+    refl
+    (flat_seen enum_value_records enum_item_of seen ∙ ap (λ xs. flat_map enum_value_records (map enum_item_of xs)) are)
+    (ap (λ xs. options_of places.Enum (filter_map enum_setting (map enum_item_of xs))) are)
+    (flat_seen range_records enum_item_of seen ∙ ap (λ xs. flat_map range_records (map enum_item_of xs)) are)
+    (flat_seen reserved_names_in enum_item_of seen ∙ ap (λ xs. flat_map reserved_names_in (map enum_item_of xs)) are)
+    (ap (λ (e : EnumDescriptorProto). e.unknown) c.new-parts.ensures)

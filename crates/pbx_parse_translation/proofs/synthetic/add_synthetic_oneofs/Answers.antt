@@ -30,8 +30,8 @@ returns c =
     let oneofs = c.args.oneofs.now in
     let taken = flat_map (λ i. names_in (item_of i)) items in
     let names : map text_in c.as_slice.result.now ≡ flat_map (optional_names_in v) (map item_of items) = ap (map text_in) c.as_slice.ensures.value ∙ c.in_ok-names.ensures ∙ flat_seen (optional_names_in v) item_of items in
-    on_ok_weaker c.add_synthetic.result
+    on_ok_weaker c.add_named.result
     (λ e. e
     ∙ ap (λ ns. oneofs ++ map oneof_record (synthetic_names taken ns)) names
     ∙ ap (λ ts. oneofs ++ map oneof_record (synthetic_names ts (flat_map (optional_names_in v) (map item_of items)))) (flat_seen names_in item_of items))
-    (c.add_synthetic.ensures taken (c.in_ok-add_all_names.ensures [] c.new-scope.ensures))
+    c.add_named.ensures
