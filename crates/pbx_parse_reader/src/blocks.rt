@@ -2,13 +2,15 @@
 
 ghost use Rattle.std.specs.Prelude.{◌≡◌, ◌∷◌, ◌++◌, ◌<◌, ◌≤◌, List, length, [], map, true, false, OnOk, IfOk, IfErr, Bool};
 ghost use Rattle.pbx_parse_token.specs.Tokens as tokens;
+ghost use Rattle.pbx_parse_token.specs.declared.token.Span.{Span};
 ghost use Rattle.pbx_parse_tree.specs.declared.tree.Version.{Version};
-ghost use Rattle.pbx_parse_tree.specs.Grammar.{list_then};
+ghost use Rattle.pbx_parse_tree.specs.Grammar.{marked, list_then};
 ghost use Rattle.pbx_parse_reader.specs.Blocks.{Before, nothing, before_of, all_behind};
 ghost use Rattle.pbx_parse_reader.specs.View.{left, FailsNot, Reaches, TakesSome, TakesAny};
 
 use crate::cursor::Cursor;
 use crate::error::ReadError;
+use pbx_parse_token::Span;
 use pbx_parse_tree::{Setting, Version};
 use std::alloc::Global;
 
@@ -95,4 +97,22 @@ pub fn block<'a, P: BlockItem<'a>>(
     }
     items.shrink_to_fit();
     Ok(items)
+}
+
+/// Any number of them, and the `}` behind them.
+pub fn closed_block<'a, P: BlockItem<'a>>(
+    alloc: Global,
+    cursor: &mut Cursor<'_, 'a>,
+    version: Version,
+) -> Result<(Vec<P>, Span), ReadError>
+    ensures found { IfOk result (λ x. left cursor.old ≡ list_then P.spelled (map P.view x.0.items) (marked 125 x.1 ∷ left cursor.new)) }
+    ensures fit { IfOk result (λ x. all_behind (P.behind version) P.after nothing (map P.view x.0.items) ≡ true) }
+    ensures only { ((s : Span) (ts : List tokens.Token) → P.stop (marked 125 s ∷ ts) ≡ true) → (xs : List P.Tree) (close : Span) (rest : List tokens.Token) → all_behind (P.behind version) P.after nothing xs ≡ true → left cursor.old ≡ list_then P.spelled xs (marked 125 close ∷ rest) → Reaches {Y = List P.Tree × Span} (λ x. (map P.view x.0.items, x.1)) (xs, close) rest result (left cursor.new) }
+    ensures shorter { TakesSome result (left cursor.old) (left cursor.new) }
+{
+    let items = block(alloc, cursor, version)?;
+    match cursor.mark(b'}') {
+        Ok(close) => Ok((items, close)),
+        Err(error) => Err(error),
+    }
 }

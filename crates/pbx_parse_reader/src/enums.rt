@@ -10,10 +10,10 @@ ghost use Rattle.pbx_parse_reader.specs.Blocks.{enum_behind, enum_after};
 ghost use Rattle.pbx_parse_reader.specs.Firsts.{first_in_enum_of};
 ghost use Rattle.pbx_parse_reader.specs.View.{left, ends_block, Reaches, TakesSome};
 
-use crate::blocks::{BlockItem, Seen, add, block};
+use crate::blocks::{BlockItem, Seen, add, closed_block};
 use crate::cursor::Cursor;
 use crate::error::ReadError;
-use crate::parts::{settings, statement};
+use crate::parts::{block_head, settings, statement};
 use crate::ranges::reserved;
 use pbx_parse_tree::{Allowed, Enum, EnumItem, Expected, OptionPlace, Value, Version};
 use std::alloc::Global;
@@ -29,7 +29,13 @@ fn value<'a>(alloc: Global, cursor: &mut Cursor<'_, 'a>) -> Result<Value<'a>, Re
     let equals = cursor.mark(b'=')?;
     let number = cursor.enum_number()?;
     let settings = settings(alloc, cursor, Allowed::Option(OptionPlace::EnumValue))?;
-    let end = cursor.mark(b';')?;
+    let end = match cursor.mark(b';') {
+        Ok(end) => end,
+        Err(error) => {
+            drop(settings);
+            return Err(error);
+        }
+    };
     Ok(Value {
         name,
         equals,
@@ -133,15 +139,12 @@ pub fn enumeration<'a>(
     ensures only { (e : tree.Enum) (rest : List tokens.Token) → enum_fits e ≡ true → left cursor.old ≡ enum_then e rest → Reaches enum_of e rest result (left cursor.new) }
     ensures shorter { TakesSome result (left cursor.old) (left cursor.new) }
 {
-    let keyword = cursor.keyword("enum", Expected::Keyword)?;
-    let name = cursor.name()?;
-    let open = cursor.mark(b'{')?;
-    let items = block(alloc, cursor, version)?;
-    let close = cursor.mark(b'}')?;
+    let head = block_head(cursor, "enum")?;
+    let (items, close) = closed_block(alloc, cursor, version)?;
     Ok(Enum {
-        keyword,
-        name,
-        open,
+        keyword: head.keyword,
+        name: head.name,
+        open: head.open,
         items,
         close,
     })

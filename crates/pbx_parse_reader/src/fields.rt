@@ -17,8 +17,8 @@ ghost use Rattle.pbx_parse_reader.specs.View.{left, ends_block, label_follows, R
 
 use crate::cursor::Cursor;
 use crate::error::ReadError;
-use crate::many::{ListItem, Production, all};
-use crate::parts::{kind, named_type, settings};
+use crate::many::{ListItem, Production, all, all_closed};
+use crate::parts::{block_head, kind, named_type, settings};
 use pbx_parse_token::Span;
 use pbx_parse_tree::{
     Allowed, Expected, Extend, Extension, Field, Kind, Label, MapField, Member, Oneof, Scalar,
@@ -41,7 +41,13 @@ fn tail<'a>(
     let equals = cursor.mark(b'=')?;
     let number = cursor.field_number()?;
     let settings = settings(alloc, cursor, allowed)?;
-    let end = cursor.mark_unless(b';', b'{', Expected::NoGroup)?;
+    let end = match cursor.mark_unless(b';', b'{', Expected::NoGroup) {
+        Ok(end) => end,
+        Err(error) => {
+            drop(settings);
+            return Err(error);
+        }
+    };
     Ok(Tail {
         name,
         equals,
@@ -209,15 +215,12 @@ pub fn oneof<'a>(
     ensures only { (o : tree.Oneof) (rest : List tokens.Token) → oneof_fits o ≡ true → left cursor.old ≡ oneof_then o rest → Reaches oneof_of o rest result (left cursor.new) }
     ensures shorter { TakesSome result (left cursor.old) (left cursor.new) }
 {
-    let keyword = cursor.keyword("oneof", Expected::Keyword)?;
-    let name = cursor.name()?;
-    let open = cursor.mark(b'{')?;
-    let members = all(alloc, cursor, version)?;
-    let close = cursor.mark(b'}')?;
+    let head = block_head(cursor, "oneof")?;
+    let (members, close) = all_closed(alloc, cursor, version)?;
     Ok(Oneof {
-        keyword,
-        name,
-        open,
+        keyword: head.keyword,
+        name: head.name,
+        open: head.open,
         members,
         close,
     })

@@ -6,6 +6,7 @@ mod cursor;
 mod enums;
 mod error;
 mod fields;
+mod items;
 mod many;
 mod messages;
 mod parts;

@@ -69,6 +69,24 @@ pub fn all<'a, P: ListItem<'a>>(
     Ok(items)
 }
 
+/// Any number of them, and the `}` behind them.
+pub fn all_closed<'a, P: ListItem<'a>>(
+    alloc: Global,
+    cursor: &mut Cursor<'_, 'a>,
+    version: Version,
+) -> Result<(Vec<P>, Span), ReadError>
+    ensures found { IfOk result (λ x. left cursor.old ≡ list_then P.spelled (map P.view x.0.items) (marked 125 x.1 ∷ left cursor.new)) }
+    ensures fit { IfOk result (λ x. list_all (P.fits version) (map P.view x.0.items) ≡ true) }
+    ensures only { ((ts : List tokens.Token) → P.follows ts ≡ true) → ((s : Span) (ts : List tokens.Token) → P.stop (marked 125 s ∷ ts) ≡ true) → (ts : List P.Tree) (close : Span) (rest : List tokens.Token) → list_all (P.fits version) ts ≡ true → left cursor.old ≡ list_then P.spelled ts (marked 125 close ∷ rest) → Reaches {Y = List P.Tree × Span} (λ x. (map P.view x.0.items, x.1)) (ts, close) rest result (left cursor.new) }
+    ensures shorter { TakesSome result (left cursor.old) (left cursor.new) }
+{
+    let items = all(alloc, cursor, version)?;
+    match cursor.mark(b'}') {
+        Ok(close) => Ok((items, close)),
+        Err(error) => Err(error),
+    }
+}
+
 /// A mark, and one of them.
 fn next<'a, P: Production<'a>>(
     alloc: Global,

@@ -1,23 +1,24 @@
 //! Readers of names, types, options and ranges.
 
-ghost use Rattle.std.specs.Prelude.{◌≡◌, ◌∷◌, ◌<◌, ◌≤◌, List, Option, option_map, length, map, true, false, OnOk, IfOk};
+ghost use Rattle.std.specs.Prelude.{◌≡◌, ◌∷◌, ◌<◌, ◌≤◌, List, Option, option_map, length, map, true, false, OnOk, IfOk, IfErr};
 ghost use Rattle.pbx_parse_token.specs.Tokens as tokens;
 ghost use Rattle.pbx_parse_token.specs.declared.token.Span.{Span};
 ghost use Rattle.pbx_parse_tree.specs.Tree as tree;
 ghost use Rattle.pbx_parse_tree.specs.Tree.{all_of};
-ghost use Rattle.pbx_parse_tree.specs.Grammar.{named, name_then, full_then, type_then, kind_then, constant_then, setting_then, list_then, next_then, separated_then, some_settings_then, settings_then, statement_then};
+ghost use Rattle.pbx_parse_tree.specs.Grammar.{marked, worded, named, name_then, full_then, type_then, kind_then, constant_then, setting_then, list_then, next_then, separated_then, some_settings_then, settings_then, statement_then};
 ghost use Rattle.pbx_parse_tree.specs.Conditions.{type_fits as type_fits_of, kind_fits, option_fits, all_fit, settings_of as list_of};
 ghost use Rattle.pbx_parse_tree.specs.Fits.{allowed as allowed_of, may_follow, wanted_fits};
 ghost use Rattle.pbx_parse_tree.specs.View.{name_of, next_of, separated_of, type_of, kind_of, constant_of, setting_of, settings_of as some_settings_of, statement_of};
-ghost use Rattle.pbx_parse_reader.specs.View.{left, sees_mark, Reaches, TakesSome, TakesAny};
+ghost use Rattle.pbx_parse_reader.specs.View.{left, sees_mark, FailsNot, Reaches, TakesSome, TakesAny};
 
+use crate::blocks::add;
 use crate::cursor::Cursor;
 use crate::error::ReadError;
 use crate::many::{Production, separated};
 use pbx_parse_token::Span;
 use pbx_parse_tree::{
-    Allowed, Constant, Expected, Kind, Name, OptionPlace, Separated, Setting, Settings, Statement,
-    TypeName, Version, Wanted, name_fits, some_value_fits, type_fits, value_fits,
+    Allowed, Constant, Expected, Head, Kind, Name, OptionPlace, Separated, Setting, Settings,
+    Statement, TypeName, Version, Wanted, name_fits, some_value_fits, type_fits, value_fits,
 };
 use std::alloc::Global;
 
@@ -39,6 +40,22 @@ impl<'a> Production<'a> for Name<'a> {
     ) -> Result<Name<'a>, ReadError> {
         cursor.name()
     }
+}
+
+/// The keyword, the name and the `{` that a block with a name begins with.
+pub fn block_head<'a>(cursor: &mut Cursor<'_, 'a>, keyword: &str) -> Result<Head<'a>, ReadError>
+    ensures found { IfOk result (λ h. left cursor.old ≡ worded keyword.now h.keyword ∷ named (name_of h.name) ∷ marked 123 h.open ∷ left cursor.new) }
+    ensures only { (k : Span) (n : tree.Name) (s : Span) (rest : List tokens.Token) → left cursor.old ≡ worded keyword.now k ∷ named n ∷ marked 123 s ∷ rest → Reaches {Y = Span × tree.Name × Span} (λ h. (h.keyword, name_of h.name, h.open)) (k, n, s) rest result (left cursor.new) }
+    ensures shorter { TakesSome result (left cursor.old) (left cursor.new) }
+{
+    let keyword = cursor.keyword(keyword, Expected::Keyword)?;
+    let name = cursor.name()?;
+    let open = cursor.mark(b'{')?;
+    Ok(Head {
+        keyword,
+        name,
+        open,
+    })
 }
 
 /// Names with dots between them.
@@ -209,10 +226,10 @@ fn more_settings<'a>(
     let mut seen = Vec::new(alloc);
     let mut last = first;
     'each: while cursor.sees(b',') {
-        seen.push(last)?;
+        add(&mut seen, last)?;
         let next = next_setting(cursor, allowed, seen.as_slice())?;
         last = next.1;
-        more.push(next)?;
+        add(&mut more, next)?;
     }
     more.shrink_to_fit();
     Ok(more)
@@ -235,6 +252,17 @@ fn some_settings<'a>(
     Ok(Separated { first, more })
 }
 
+/// The value in a box.
+fn boxed<T: Drop>(alloc: Global, value: T) -> Result<Box<T>, ReadError>
+    ensures ok { IfOk result (λ b. b.value ≡ value) }
+    ensures err { IfErr result (λ e. FailsNot e) }
+{
+    match Box::new(alloc, value) {
+        Ok(made) => Ok(made),
+        Err(_) => Err(ReadError::NoMemory),
+    }
+}
+
 /// The same in brackets.
 fn bracketed<'a>(
     alloc: Global,
@@ -248,10 +276,16 @@ fn bracketed<'a>(
 {
     let open = cursor.mark(b'[')?;
     let settings = some_settings(alloc, cursor, allowed)?;
-    let close = cursor.mark(b']')?;
+    let close = match cursor.mark(b']') {
+        Ok(close) => close,
+        Err(error) => {
+            drop(settings);
+            return Err(error);
+        }
+    };
     Ok(Settings {
         open,
-        settings: Box::new(alloc, settings)?,
+        settings: boxed(alloc, settings)?,
         close,
     })
 }

@@ -9,10 +9,10 @@ ghost use Rattle.pbx_parse_tree.specs.View.{method_type_of, method_item_of, meth
 ghost use Rattle.pbx_parse_reader.specs.Blocks.{method_behind, method_after, service_behind, service_after};
 ghost use Rattle.pbx_parse_reader.specs.View.{left, sees_mark, ends_block, Reaches, TakesSome};
 
-use crate::blocks::{BlockItem, Seen, add, block};
+use crate::blocks::{BlockItem, Seen, add, closed_block};
 use crate::cursor::Cursor;
 use crate::error::ReadError;
-use crate::parts::{named_type, statement};
+use crate::parts::{block_head, named_type, statement};
 use pbx_parse_tree::{
     Expected, Method, MethodEnd, MethodItem, MethodType, OptionPlace, Service, ServiceItem, Version,
 };
@@ -96,8 +96,7 @@ fn method_block<'a>(
     ensures shorter { TakesSome result (left cursor.old) (left cursor.new) }
 {
     let open = cursor.mark_or(b'{', Expected::MethodEnd)?;
-    let items = block(alloc, cursor, version)?;
-    let close = cursor.mark(b'}')?;
+    let (items, close) = closed_block(alloc, cursor, version)?;
     Ok(MethodEnd::Block(open, items, close))
 }
 
@@ -206,15 +205,12 @@ pub fn service<'a>(
     ensures only { (s : tree.Service) (rest : List tokens.Token) → service_fits s ≡ true → left cursor.old ≡ service_then s rest → Reaches service_of s rest result (left cursor.new) }
     ensures shorter { TakesSome result (left cursor.old) (left cursor.new) }
 {
-    let keyword = cursor.keyword("service", Expected::Keyword)?;
-    let name = cursor.name()?;
-    let open = cursor.mark(b'{')?;
-    let items = block(alloc, cursor, version)?;
-    let close = cursor.mark(b'}')?;
+    let head = block_head(cursor, "service")?;
+    let (items, close) = closed_block(alloc, cursor, version)?;
     Ok(Service {
-        keyword,
-        name,
-        open,
+        keyword: head.keyword,
+        name: head.name,
+        open: head.open,
         items,
         close,
     })

@@ -12,30 +12,17 @@ pub returns-in_err-items-clause-only : goal.returns-in_err-items-clause-only
 returns-in_err-items-clause-only c = λ e rest n fit s.
     let q = err_from_is_err_and c.from_residual-in_err-items.result c.from_residual-in_err-items.ensures.1 in
     let b = block_of e rest (left c.args.cursor.now) n fit s in
-    let then = marked 125 b.closing ∷ rest in
-    let opened = c.in_ok-open.ensures.only b.opening (list_then method_item_then b.items then) b.parts in
-    rw (q.1, q.2) (c.in_err-items.ensures.only b.items then b.fit refl opened.1)
-
-pub returns-in_err-close-clause-only : goal.returns-in_err-close-clause-only
-returns-in_err-close-clause-only c = λ e rest n fit s.
-    let q = err_from_is_err_and c.from_residual-in_err-close.result c.from_residual-in_err-close.ensures.1 in
-    let b = block_of e rest (left c.args.cursor.now) n fit s in
-    let then = marked 125 b.closing ∷ rest in
-    let opened = c.in_ok-open.ensures.only b.opening (list_then method_item_then b.items then) b.parts in
-    let items = c.in_ok-items.ensures.only b.items then b.fit refl opened.1 in
-    rw (q.1, q.2) (c.in_err-close.ensures.only b.closing rest items.1)
+    let opened = c.in_ok-open.ensures.only b.opening (list_then method_item_then b.items (marked 125 b.closing ∷ rest)) b.parts in
+    rw (q.1, q.2) (c.in_err-items.ensures.only (λ _ _. refl) b.items b.closing rest b.fit opened.1)
 
 pub returns-clause-only : goal.returns-clause-only
 returns-clause-only c = λ e rest n fit s.
     let b = block_of e rest (left c.args.cursor.now) n fit s in
-    let then = marked 125 b.closing ∷ rest in
-    let opened = c.in_ok-open.ensures.only b.opening (list_then method_item_then b.items then) b.parts in
-    let items = c.in_ok-items.ensures.only b.items then b.fit refl opened.1 in
-    let closed = c.in_ok-close.ensures.only b.closing rest items.1 in
+    let opened = c.in_ok-open.ensures.only b.opening (list_then method_item_then b.items (marked 125 b.closing ∷ rest)) b.parts in
+    let items = c.in_ok-items.ensures.only (λ _ _. refl) b.items b.closing rest b.fit opened.1 in
     let found = map method_item_of c.in_ok-items.items.items in (
-      ap (λ (x : Span). tree.method_block x found c.in_ok-close.close) opened.0
-          ∙ ap (λ (xs : List tree.MethodItem). tree.method_block b.opening xs c.in_ok-close.close) items.0
-          ∙ ap (tree.method_block b.opening b.items) closed.0
+      ap (λ (x : Span). tree.method_block x found c.in_ok-items.close) opened.0
+          ∙ ap (λ (x : List tree.MethodItem × Span). tree.method_block b.opening x.0 x.1) items.0
           ∙ sym b.is,
-      closed.1,
+      items.1,
     )
