@@ -1,6 +1,6 @@
 pub mod Numbers
 pub mod Found
-pub mod Keys
+pub mod EntryKeys
 pub mod Moved
 pub mod Pairs
 pub mod Tree

@@ -1,7 +1,7 @@
 use Rattle.std.proofs.Common.{map}
 use Rattle.pbx_content_codec.specs.Keyed.{AreInOrder}
 use Rattle.pbx_content_codec.specs.View.{pair_of}
-use Rattle.pbx_json_reading.proofs.Keys.{in_order}
+use Rattle.pbx_json_reading.proofs.EntryKeys.{in_order}
 use Rattle.pbx_json_reading.proofs.entries.sorted.Goals as goal
 
 pub returns-then-are_in_order : goal.returns-then-are_in_order

@@ -4,7 +4,7 @@ use Rattle.std.specs.BTreeSet.{contains}
 use Rattle.std.specs.Ordering.{int_cmp}
 use Rattle.std.proofs.lemmas.Int.{to_z-of_z}
 use Rattle.pbx_content_codec.specs.View.{key_of}
-use Rattle.pbx_json_reading.proofs.Keys.{used_number}
+use Rattle.pbx_json_reading.proofs.EntryKeys.{used_number}
 use Rattle.pbx_json_reading.proofs.entries.MapEntries.is_used.Goals as goal
 
 pub returns-in-Some : goal.returns-in-Some
