@@ -1,7 +1,7 @@
 use Rattle.std.proofs.Common.{◌∙◌}
 use Rattle.pbx_message_laws.specs.Pools.{IsPooled}
 use Rattle.pbx_wkt.proofs.Whole.{shape_alike}
-use Rattle.pbx_wkt.proofs.has_shape.Goals as goal
+use Rattle.pbx_wkt.proofs.shape_test.has_shape.Goals as goal
 
 pub returns : goal.returns
 returns c =
