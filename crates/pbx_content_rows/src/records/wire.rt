@@ -117,25 +117,14 @@ pub(crate) fn nested(alloc: Global, row: &Row) -> Result<String, Stop> {
     }
 }
 
-/// Adds a varint record 1 and a record 3 of four bytes.
-fn add_two(recs: &mut Recs, row: &Row) -> Done {
-    recs.add(Rec::Varint(1, row.number(0)))?;
-    recs.add(Rec::Fixed32(3, small(row.number(1))))?;
-    Ok(())
-}
-
-/// The text of the records, written behind nothing.
-fn text_behind(alloc: Global, recs: &Recs) -> Result<String, Stop> {
-    let mut text = Blob::new(alloc);
-    write_recs(&mut text, recs)?;
-    shown(alloc, text.as_slice())
-}
-
 /// Of two numbers: the text of a varint record 1 and of a record 3 of four bytes.
 pub(crate) fn written(alloc: Global, row: &Row) -> Result<String, Stop> {
     let mut recs = Recs::new(alloc);
-    add_two(&mut recs, row)?;
-    text_behind(alloc, &recs)
+    recs.add(Rec::Varint(1, row.number(0)))?;
+    recs.add(Rec::Fixed32(3, small(row.number(1))))?;
+    let mut text = Blob::new(alloc);
+    write_recs(&mut text, &recs)?;
+    shown(alloc, text.as_slice())
 }
 
 /// Of bytes, more bytes and a number: these with a varint record 1 behind them.
