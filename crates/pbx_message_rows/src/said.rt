@@ -97,14 +97,6 @@ pub(crate) fn add_message(alloc: Global, text: &mut String, message: &DynamicMes
     add_rest(alloc, text, message)
 }
 
-/// The records that no field and no extension reads.
-fn add_unknown(alloc: Global, text: &mut String, message: &DynamicMessage) -> Done {
-    text.push_str("unknown ")?;
-    let mut unknown = Blob::new(alloc);
-    write_recs(&mut unknown, message.unknown_fields())?;
-    add_bytes(alloc, text, unknown.as_slice())
-}
-
 /// The bytes, and how many levels there are.
 fn add_encoded(alloc: Global, text: &mut String, message: &DynamicMessage) -> Done {
     text.push_str(" bytes ")?;
@@ -120,6 +112,9 @@ fn add_rest(alloc: Global, text: &mut String, message: &DynamicMessage) -> Done 
     let done = add_extensions(alloc, text, message, &desc);
     drop(desc);
     done?;
-    add_unknown(alloc, text, message)?;
+    let mut unknown = Blob::new(alloc);
+    write_recs(&mut unknown, message.unknown_fields())?;
+    text.push_str("unknown ")?;
+    add_bytes(alloc, text, unknown.as_slice())?;
     add_encoded(alloc, text, message)
 }
