@@ -3,7 +3,7 @@
 use Rattle.std.specs.Prelude.{◌+◌, ◌∷◌, [], zero, suc, ℕ, ℤ, pos, List, length, take, if◌then◌else◌, Option, Some, None, option_and_then}
 use Rattle.std.specs.Option.{option_or}
 use Rattle.std.specs.Ordering.{int_eq}
-use Rattle.std.specs.Slice.{pointwise}
+use Rattle.std.specs.Cmp.Lexicographic.{pointwise}
 use Rattle.pbx_desc_records.specs.declared.source.Location.{Location}
 use Rattle.protox_file_sources.specs.Told.{Entry}
 

@@ -1,6 +1,8 @@
 //! Where a part of a record stands in its source.
 
-ghost use Rattle.std.specs.Prelude.{◌≡◌, length};
+ghost use Rattle.std.specs.Prelude.{◌≡◌, length, if◌then◌else◌, None};
+ghost use Rattle.std.specs.Cmp.Lexicographic.{pointwise};
+ghost use Rattle.std.specs.Ordering.{int_eq};
 ghost use Rattle.protox_file_sources.specs.Places.{span_start, first_start, start_within};
 
 use pbx_desc_records::Location;
