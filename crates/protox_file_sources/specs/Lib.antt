@@ -3,6 +3,7 @@ pub mod Told
 pub mod Causes
 pub mod Memory
 pub mod Metadata
+pub mod Places
 pub mod Include
 pub mod Google
 pub mod Laws

@@ -14,8 +14,10 @@ ghost use Rattle.protox_file_error.specs.Errors.{UnlessMemory};
 ghost use Rattle.protox_file_sources.specs.Encoded.{IsEncoded};
 ghost use Rattle.protox_file_sources.specs.Laws.{LookedUpOnce};
 ghost use Rattle.protox_file_sources.specs.Library.{never, may_fail_at, alone};
+ghost use Rattle.protox_file_sources.specs.Places.{place_in_source};
 ghost use Rattle.protox_file_sources.specs.Told.{Source, told_source, told_held};
 
+use crate::place::start_within;
 use pbx_desc::DecodeMessage;
 use pbx_desc_records::FileDescriptorProto;
 use pbx_parse::parse;
@@ -169,6 +171,17 @@ impl File {
         ensures { result.now ≡ self.now.file }
     {
         &self.file
+    }
+
+    /// The line and the column, from 1, at which a part of the file begins in its source, so that a caller can tell where a rule is
+    /// broken: `place` names the part, as `Check` has it and as the path of a location of `SourceCodeInfo` does. Where the part has no
+    /// location of its own, it is that of the smallest part around it that has one; a file without `source_code_info` has none. Takes
+    /// no memory.
+    pub fn place_in_source(&self, place: &[i32]) -> Option<(u32, u32)>
+        ensures { result ≡ place_in_source self.now place.now }
+    {
+        let info = self.file.source_code_info.as_ref()?;
+        start_within(info.location.as_slice(), place)
     }
 
     /// The record alone.

@@ -6,6 +6,7 @@ mod google;
 mod include;
 mod memory;
 mod metadata;
+mod place;
 mod resolver;
 
 pub use file::{File, looked_up_once};

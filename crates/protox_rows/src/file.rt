@@ -7,6 +7,7 @@ mod compiled;
 mod disks;
 mod errors;
 mod files;
+mod located;
 mod over;
 mod paths;
 mod resolvers;
@@ -34,6 +35,7 @@ fn tell_alone(alloc: Global, row: &Row, word: &str, told: &mut Told) -> Done {
         "long line" => errors::long_line(alloc, row, told),
         "file and sort" => errors::file_and_sort(alloc, row, told),
         "file of source" => files::of_source(alloc, row, told),
+        "broken rule" => located::broken_rule(alloc, row, told),
         "file of record" => files::of_record(alloc, row, told),
         "record into file" => files::converted(alloc, row, told),
         "metadata" => files::metadata(alloc, row, told),
