@@ -1,5 +1,5 @@
 -- Records of the wire: their parts, filters of lists of them, and the records that bytes spell (Protocol Buffers "Encoding": Message Structure).
-use Rattle.std.specs.Prelude.{ℕ, suc, zero, List, [], ◌∷◌, ◌++◌, filter, take, drop, length, Bool, true, false, ◌==◌, nat_lt, Option, Some, None, option_map}
+use Rattle.std.specs.Prelude.{ℕ, suc, zero, List, [], ◌∷◌, ◌++◌, filter, take, drop, length, Bool, ◌==◌, nat_lt, Option, Some, None, option_map}
 use Rattle.std.specs.Prelude.{option_and_then, if◌then◌else◌}
 use Rattle.std.specs.Int.{Width}
 use Rattle.pbx_wire.specs.Fixed.{fixed}
