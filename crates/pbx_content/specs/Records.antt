@@ -1,19 +1,12 @@
 -- Records of the wire: their parts, filters of lists of them, and the records that bytes spell (Protocol Buffers "Encoding": Message Structure).
-use Rattle.std.specs.Prelude.{ℕ, suc, zero, List, [], ◌∷◌, ◌++◌, filter, take, drop, length, Bool, true, false, ◌==◌, nat_lt, Option, Some, None, option_map}
+use Rattle.std.specs.Prelude.{ℕ, suc, zero, List, [], ◌∷◌, ◌++◌, filter, take, drop, length, Bool, ◌==◌, nat_lt, Option, Some, None, option_map}
 use Rattle.std.specs.Prelude.{option_and_then, if◌then◌else◌}
 use Rattle.std.specs.Int.{Width}
 use Rattle.pbx_wire.specs.Fixed.{fixed}
 use Rattle.pbx_wire.specs.Reading.{varint_at, ok_of}
 pub use Rattle.pbx_wire.specs.Reading.{records_in}
+pub use Rattle.pbx_wire.specs.Number.{number_of, any}
 use Rattle.pbx_wire.specs.declared.rec.Rec.{Rec, Varint, Fixed64, Bytes, Group', Fixed32}
-
--- the field number in the key of a record
-abbrev pub number_of : Rec → ℕ
-number_of (Varint n v) = n
-number_of (Fixed64 n v) = n
-number_of (Bytes n b) = n
-number_of (Group' n shape row) = n
-number_of (Fixed32 n v) = n
 
 -- the value of a record of wire type 0, VARINT
 abbrev pub varint_of : Rec → Option ℕ
@@ -85,11 +78,6 @@ each f (x ∷ xs) = option_and_then (λ y. option_map (λ ys. y ∷ ys) (each f 
 abbrev pub flat : {X : Type 0} → List (List X) → List X
 flat [] = []
 flat (xs ∷ xss) = xs ++ flat xss
-
--- one of them passes the test
-abbrev pub any : {X : Type 0} → (X → Bool) → List X → Bool
-any p [] = false
-any p (x ∷ xs) = if p x then true else any p xs
 
 -- what comes after the last that passes the test, and all if none does
 abbrev pub after_last : {X : Type 0} → (X → Bool) → List X → List X

@@ -7,7 +7,6 @@ ghost use Rattle.pbx_wire.specs.Faults.{SpellsOne};
 ghost use Rattle.pbx_content.specs.declared.shape.Kind.TheVariants.{Message as MessageKind};
 ghost use Rattle.pbx_content.specs.declared.shape.Cardinality.TheVariants.{Singular, Repeated, Map};
 ghost use Rattle.pbx_content.specs.Content.{Content, message, many as many_of, keyed, vals_of, by_key, get, fields as fields_of_content, without, with_fields};
-ghost use Rattle.pbx_content.specs.Records.{number_of};
 ghost use Rattle.pbx_content.specs.Shape.{fields_of, field_of, is_float as is_float_of, is_other as is_other_of};
 ghost use Rattle.pbx_content.specs.Sound.{IsProper};
 ghost use Rattle.pbx_content.specs.Onto.{elements as elements_of, pairs_held as pairs_held_of, value_onto, meaning_onto, message_held as message_held_of};
@@ -40,18 +39,6 @@ fn keep(alloc: Global, into: &mut Contents, rec: RecRef<'_>) -> Result<(), Decod
 {
     into.kept.add(rec.into_rec(alloc)?)?;
     Ok(())
-}
-
-fn number(rec: &RecRef<'_>) -> u32
-    ensures { result ≡ number_of (rec_of rec.now) }
-{
-    match rec {
-        RecRef::Varint(number, _) => *number,
-        RecRef::Fixed64(number, _) => *number,
-        RecRef::Bytes(number, _) => *number,
-        RecRef::Group(number, _) => *number,
-        RecRef::Fixed32(number, _) => *number,
-    }
 }
 
 /// Whether both are members of one oneof, and not the same.
@@ -428,7 +415,7 @@ fn merge_rec(
         ≡ Some (content_of into.new)) }
     ensures fault { IfErr result (λ e. (e ≡ OutOfMemory) ⊎ RecFails schema.now groups messages (fields_at schema.now owner) at end (rec_of rec.entry) e) }
 {
-    let Some(view) = view_in(schema, owner, number(&rec)) else {
+    let Some(view) = view_in(schema, owner, rec.number()) else {
         return keep(alloc, into, rec);
     };
     if is_float(view.kind) {

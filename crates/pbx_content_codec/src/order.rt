@@ -1,23 +1,10 @@
 ghost use Rattle.std.specs.Prelude.{◌≡◌, ◌++◌, IfOk, OnOk};
-ghost use Rattle.pbx_content.specs.Records.{number_of, sorted};
+ghost use Rattle.pbx_content.specs.Records.{sorted};
 ghost use Rattle.pbx_content.specs.Encoding.{with_kept as with_kept_of};
 ghost use Rattle.pbx_content_codec.specs.Places.{ascend};
 
 use pbx_wire::{NoMemory, Rec, Recs};
 use std::alloc::Global;
-
-/// The field number of a record.
-fn rec_number(rec: &Rec) -> u32
-    ensures { result ≡ number_of rec.now }
-{
-    match rec {
-        Rec::Varint(number, _)
-        | Rec::Fixed64(number, _)
-        | Rec::Bytes(number, _)
-        | Rec::Group(number, _)
-        | Rec::Fixed32(number, _) => *number,
-    }
-}
 
 /// Whether no number is below the one before it.
 fn are_ascending(recs: &[Rec]) -> bool
@@ -25,7 +12,7 @@ fn are_ascending(recs: &[Rec]) -> bool
 {
     let mut least = 0;
     for rec in recs {
-        let number = rec_number(rec);
+        let number = rec.number();
         if number < least {
             return false;
         }
@@ -53,7 +40,7 @@ fn in_order(alloc: Global, recs: Recs) -> Result<Recs, NoMemory>
         return Ok(recs);
     }
     let mut recs = recs.into_vec();
-    recs.sort_by_key(|rec| rec_number(rec))?;
+    recs.sort_by_key(|rec| rec.number())?;
     listed(alloc, recs)
 }
 

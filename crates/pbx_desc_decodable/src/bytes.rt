@@ -10,7 +10,7 @@ ghost use Rattle.pbx_content.proofs.FaultyRecords.{RecFails};
 ghost use Rattle.pbx_desc_decodable.specs.Fields.{fields_at};
 ghost use Rattle.pbx_desc_decodable.specs.Reading.{RulesOut, GoesOn};
 
-use crate::fields::{FieldView, Owner, is_float, number, payload, reads, view_in};
+use crate::fields::{FieldView, Owner, is_float, payload, reads, view_in};
 use crate::numbers::{are_numbers, is_text};
 use pbx_content::{Cardinality, Kind, Schema};
 use pbx_wire::{DecodeError, NoMemory, RecRef, read_rec_ref};
@@ -79,7 +79,7 @@ fn rec_means(
     requires proper { IsProper schema.now }
     ensures { IfOk result (λ means. means ≡ is_some (meaning schema.now messages (fields_at schema.now owner) (rec_of rec.now ∷ []))) }
 {
-    let Some(view) = view_in(schema, owner, number(rec)) else {
+    let Some(view) = view_in(schema, owner, rec.number()) else {
         return Ok(true);
     };
     if is_float(view.kind) {

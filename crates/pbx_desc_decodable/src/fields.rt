@@ -2,7 +2,7 @@
 ghost use Rattle.std.specs.Prelude.{◌≡◌, option_map};
 ghost use Rattle.pbx_wire.specs.View.{rec_of};
 ghost use Rattle.pbx_content.specs.declared.shape.Cardinality.TheVariants.{Singular};
-ghost use Rattle.pbx_content.specs.Records.{number_of, bytes_of};
+ghost use Rattle.pbx_content.specs.Records.{bytes_of};
 ghost use Rattle.pbx_content.specs.Shape.{field_of, form_of, is_float as is_float_of, is_packable as is_packable_of};
 ghost use Rattle.pbx_content.specs.Faults.{reads as reads_of, wire_type, wire_type_of};
 ghost use Rattle.pbx_desc_decodable.specs.Fields.{view_of, fields_at};
@@ -24,19 +24,6 @@ pub(crate) enum Owner {
 pub(crate) struct FieldView {
     pub kind: Kind,
     pub cardinality: Cardinality,
-}
-
-/// The number in the key of a record.
-pub(crate) fn number(rec: &RecRef<'_>) -> u32
-    ensures { result ≡ number_of (rec_of rec.now) }
-{
-    match rec {
-        RecRef::Varint(number, _) => *number,
-        RecRef::Fixed64(number, _) => *number,
-        RecRef::Bytes(number, _) => *number,
-        RecRef::Group(number, _) => *number,
-        RecRef::Fixed32(number, _) => *number,
-    }
 }
 
 /// The wire type in the key of a record.

@@ -19,9 +19,9 @@ use Rattle.pbx_content.proofs.Sorted.{IsLow, IsSorted}
 use Rattle.pbx_content.proofs.WrittenOrder.{AreAbove, AreListed}
 use Rattle.pbx_desc_encoding.specs.Building.{followed_by}
 use Rattle.pbx_desc_encoding.specs.Content.{fields_from}
-use Rattle.pbx_desc_encoding.specs.Unknown.{has_one_of, is_writable_beside}
+use Rattle.pbx_wire.specs.Number.{has_one_of, is_writable_beside}
 use Rattle.pbx_desc_encoding.proofs.Fields.{numbers}
-use Rattle.pbx_desc_encoding.proofs.Unread.{both}
+use Rattle.pbx_wire.proofs.Written.{both}
 
 -- ---- bounds
 

@@ -29,7 +29,7 @@ use Rattle.pbx_desc_shapes.proofs.DescriptorsProper.{descriptor_shape_proper}
 use Rattle.pbx_desc_encoding.specs.Building.{entries, followed_by, Puts, recs_of, value_recs, packed_recs, Writes, WritesPacked, IsWritten}
 use Rattle.pbx_desc_encoding.specs.Content.{of_records, fields_from, record_content}
 use Rattle.pbx_desc_encoding.specs.Sound.{AreOf, MayBe}
-use Rattle.pbx_desc_encoding.specs.Unknown.{is_writable_beside}
+use Rattle.pbx_wire.specs.Number.{is_writable_beside}
 use Rattle.pbx_desc_encoding.proofs.Ascending.{AreBefore, Remains, remains_next, front_alone, is_run, fields_remain, fields_alone, fields_recs-followed}
 use Rattle.pbx_desc_encoding.proofs.Built.{entries-same, puts_behind, with-followed, list_ascends, values_ascend, front_ascends, back_ascends}
 use Rattle.pbx_desc_encoding.proofs.Fields.{AreValues, are_plain, numbers, kept_is, content_sound}

@@ -27,7 +27,7 @@ use Rattle.pbx_desc_shapes.proofs.DescriptorsProper.{descriptor_shape_proper}
 use Rattle.pbx_desc_encoding.specs.Building.{entries, followed_by, Puts, Holds}
 use Rattle.pbx_desc_encoding.specs.Sound.{AreOf, MayBe}
 use Rattle.pbx_desc_encoding.specs.Content.{listed, fields_from, record_content}
-use Rattle.pbx_desc_encoding.specs.Unknown.{is_writable_beside}
+use Rattle.pbx_wire.specs.Number.{is_writable_beside}
 use Rattle.pbx_desc_encoding.proofs.Told.{val_of-Many}
 use Rattle.pbx_desc_encoding.proofs.Fields.{AreValues, are_plain, numbers, kept_is, content_sound, ascend_from, ascends}
 

@@ -17,9 +17,9 @@ use Rattle.pbx_content.specs.Meaning.{with_field}
 use Rattle.pbx_content.specs.Sound.{IsSound, AreSound, IsSoundAt, AreElements, IsElement, AreKept, has_one_member}
 use Rattle.pbx_content.proofs.WrittenOrder.{AreAbove, AreListed, all_listed}
 use Rattle.pbx_desc_encoding.specs.Content.{listed, writable, fields_from, record_content}
-use Rattle.pbx_desc_encoding.specs.Unknown.{has_one_of, is_writable_beside}
+use Rattle.pbx_wire.specs.Number.{has_one_of, is_writable_beside}
 use Rattle.pbx_desc_encoding.specs.Sound.{IsOf, AreOf, MayBe}
-use Rattle.pbx_desc_encoding.proofs.Unread.{both}
+use Rattle.pbx_wire.proofs.Written.{both}
 
 -- ---- fields of the descriptor types
 

@@ -25,7 +25,7 @@ use Rattle.pbx_desc_encoding.specs.Content.{of_records, file_content, file_value
 use Rattle.pbx_desc_encoding.specs.Levels.{file_levels}
 use Rattle.pbx_desc_encoding.specs.Sets.{SetText, IsSetOf, is_deep_file}
 use Rattle.pbx_desc_encoding.specs.Sound.{AreOf}
-use Rattle.pbx_desc_encoding.specs.Unknown.{is_writable_beside}
+use Rattle.pbx_wire.specs.Number.{is_writable_beside}
 use Rattle.pbx_desc_encoding.proofs.Behind.{begin, anew, written, closed, all_sent}
 use Rattle.pbx_desc_encoding.proofs.Depths.{file_depth}
 use Rattle.pbx_desc_encoding.proofs.Told.{are_pushed}

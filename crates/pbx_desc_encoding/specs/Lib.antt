@@ -1,4 +1,3 @@
-pub mod Unknown
 pub mod Content
 pub mod Sound
 pub mod Building

@@ -13,13 +13,12 @@ ghost use Rattle.pbx_desc_shapes.specs.DescriptorShape.{descriptor_shape};
 ghost use Rattle.pbx_desc_encoding.specs.Building.{entries, Puts, Holds};
 ghost use Rattle.pbx_desc_encoding.specs.Content.{of_text, of_number, of_truth, of_texts, of_numbers, of_record, of_records, of_options, listed};
 ghost use Rattle.pbx_desc_encoding.specs.Sound.{AreOf};
-ghost use Rattle.pbx_desc_encoding.specs.Unknown.{is_writable_beside};
+ghost use Rattle.pbx_wire.specs.Number.{is_writable_beside};
 
-use crate::unknown::writable;
 use pbx_content_codec::{Contents, Held};
 use pbx_content_map::NumberMap;
 use pbx_desc_records::Options;
-use pbx_wire::{List, NoMemory, Recs, Text, Texts};
+use pbx_wire::{List, NoMemory, Recs, Text, Texts, writable_beside};
 use std::alloc::Global;
 
 /// A record that has a content as a message of one of the types of the descriptor records.
@@ -149,7 +148,7 @@ impl FieldList {
             content_of contents ≡ content_from (entries self.list) (filter (is_writable_beside known.now) unknown.now)) }
         ensures fit { OnOk result (are_fit (filter (is_writable_beside known.now) unknown.now) ≡ true) }
     {
-        let kept = writable(self.alloc, unknown, known)?;
+        let kept = writable_beside(self.alloc, unknown, known)?;
         let fields = NumberMap::from_entries(self.alloc, self.list.into_vec())?;
         Ok(Contents { fields, kept })
     }

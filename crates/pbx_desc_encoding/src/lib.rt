@@ -20,7 +20,6 @@ mod scalars;
 mod service;
 mod set;
 mod source;
-mod unknown;
 mod values;
 
 pub use encoding::Message;

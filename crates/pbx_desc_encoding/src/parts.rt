@@ -11,7 +11,7 @@ ghost use Rattle.pbx_content_codec.specs.View.{content_of};
 ghost use Rattle.pbx_desc_shapes.specs.DescriptorShape.{descriptor_shape};
 ghost use Rattle.pbx_desc_encoding.specs.Building.{entries, Writes, IsWritten};
 ghost use Rattle.pbx_desc_encoding.specs.Content.{of_record, of_records, source_code_info_content};
-ghost use Rattle.pbx_desc_encoding.specs.Unknown.{is_writable_beside};
+ghost use Rattle.pbx_wire.specs.Number.{is_writable_beside};
 
 use crate::contents::{FieldList, HasContents};
 use crate::source::write_source;

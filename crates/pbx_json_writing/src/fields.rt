@@ -1,7 +1,6 @@
 ghost use Rattle.std.specs.Prelude.{◌≡◌, Some, true, false, option_map, slice_get, IfSome, IfNone, IfErr, OnOk};
 ghost use Rattle.pbx_content.specs.Content.{message, kept};
 ghost use Rattle.pbx_content.specs.Encoding.{type_of};
-ghost use Rattle.pbx_content.specs.Records.{number_of};
 ghost use Rattle.pbx_content.specs.Shape.{declared_of as declared_of_type, field_of, is_float as is_float_of};
 ghost use Rattle.pbx_content.specs.Sound.{IsProper};
 ghost use Rattle.pbx_content_codec.specs.View.{content_of};
@@ -16,7 +15,7 @@ use pbx_content::{FieldShape, Kind, MessageShape, Schema};
 use pbx_content_codec::Contents;
 use pbx_json_meaning::{JsonKind, SerializeOptions};
 use pbx_json_schema::is_float;
-use pbx_wire::{Rec, Recs};
+use pbx_wire::Recs;
 use std::alloc::Global;
 
 /// The place of a message type.
@@ -66,19 +65,6 @@ pub(crate) fn key_of_field<'f>(options: &SerializeOptions, field: &'f FieldShape
     }
 }
 
-/// The number of a record.
-fn record_number(rec: &Rec) -> u32
-    ensures { result ≡ number_of rec.now }
-{
-    match rec {
-        Rec::Varint(number, _)
-        | Rec::Fixed64(number, _)
-        | Rec::Bytes(number, _)
-        | Rec::Group(number, _)
-        | Rec::Fixed32(number, _) => *number,
-    }
-}
-
 /// The float field of a number, if there is one.
 fn float_field(schema: &Schema, type_at: usize, number: u32) -> Option<&FieldShape>
     ensures found { IfSome result (λ found. (field_of number (declared_of_type schema.now type_at) ≡ Some found.now) × (is_float_of found.now.kind ≡ true)) }
@@ -106,7 +92,7 @@ pub(crate) fn kept_float<'s>(
     ensures absent { IfNone result (keeps_float (declared_of_type schema.now type_at) kept.now ≡ false) }
 {
     for rec in kept.as_slice() {
-        if let Some(found) = float_field(schema, type_at, record_number(rec)) {
+        if let Some(found) = float_field(schema, type_at, rec.number()) {
             return Some(found);
         }
     }

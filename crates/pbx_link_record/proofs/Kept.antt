@@ -1,31 +1,17 @@
--- Records that are kept, as walks over records find them.
-use Rattle.std.proofs.Common.{◌≡◌, ℕ, ◌+◌, ◌<◌, Bool, true, false, ◌&&◌, List, [], ◌∷◌, ◌++◌, length, take, drop, get_or, map, refl, sym, ap, ◌∙◌, append-nil, add-one, drop-cons, subst}
+-- Records that are kept.
+use Rattle.std.proofs.Common.{◌≡◌, ℕ, Bool, true, false, ◌&&◌, List, [], ◌∷◌, map, refl, sym, ap, ◌∙◌, subst}
 use Rattle.std.specs.Prelude.{◌==◌, not, Result, IfOk, if◌then◌else◌}
 use Rattle.std.specs.List.{filter}
-use Rattle.std.proofs.lemmas.List.Elements.{filter_more}
 use Rattle.pbx_wire.specs.declared.rec.Rec.{Rec}
-use Rattle.pbx_wire.specs.Text.{all_true, is_numbered}
+use Rattle.pbx_wire.specs.Text.{is_numbered}
+use Rattle.pbx_wire.specs.Number.{is_writable_beside}
 use Rattle.pbx_content.specs.declared.shape.FieldShape.{FieldShape}
 use Rattle.pbx_content.specs.Records.{number_of, any, sorted}
 use Rattle.pbx_content.specs.Shape.{is_float, is_read_as}
-use Rattle.pbx_link_record.specs.Unknown.{unread, settled_unknown, fields_of, is_other}
+use Rattle.pbx_link_record.specs.Unknown.{unread, settled_unknown, fields_of}
 use Rattle.pbx_link_record.specs.declared.unknown.RecordType.{RecordType}
 use Rattle.pbx_link_record.specs.declared.unknown.RecordType.TheVariants as types
 use Rattle.pbx_link_record.proofs.Ordered.{filter_same}
-
--- the first of the rest passes, so it is the rest's rest that counts
-pub all_rest : (p : Rec → Bool) (rs : List Rec) (i : ℕ) (r : Rec) → i < length rs → r ≡ get_or rs i r → p r ≡ true → all_true (map p (drop i rs)) ≡ all_true (map p (drop (i + 1) rs))
-all_rest p rs i r h e here = rw (drop_one rs i r h e, here) refl
-  where
-    drop_one : (rs : List Rec) (i : ℕ) (r : Rec) → i < length rs → r ≡ get_or rs i r → drop i rs ≡ r ∷ drop (i + 1) rs
-    drop_one rs i r h e = rw (drop-cons rs i r h, add-one, ← e) refl
-
--- a filter of one more
-pub filter_in : (p : Rec → Bool) (rs : List Rec) (i : ℕ) (r : Rec) → i < length rs → r ≡ get_or rs i r → p r ≡ true → filter p (take (i + 1) rs) ≡ filter p (take i rs) ++ r ∷ []
-filter_in p rs i r h e here = filter_more p rs i r h ∙ rw (← e, here) refl
-
-pub filter_out : (p : Rec → Bool) (rs : List Rec) (i : ℕ) (r : Rec) → i < length rs → r ≡ get_or rs i r → p r ≡ false → filter p (take (i + 1) rs) ≡ filter p (take i rs)
-filter_out p rs i r h e here = filter_more p rs i r h ∙ rw (← e, here) (append-nil _)
 
 -- ---- records of no field
 
@@ -65,18 +51,18 @@ no_float types.Method = refl
 no_float types.SourceCodeInfo = refl
 no_float types.Location = refl
 
-others_unread : (t : RecordType) (rs : List Rec) → filter (is_other (numbers (fields_of t))) rs ≡ unread (fields_of t) rs
+others_unread : (t : RecordType) (rs : List Rec) → filter (is_writable_beside (numbers (fields_of t))) rs ≡ unread (fields_of t) rs
 unfolding unread
 others_unread t rs = filter_same _ _ (λ r. ap (λ b. is_numbered r && not b) (sym (read_alike (fields_of t) r (no_float t)))) rs
 
-pub settled_is : (t : RecordType) (rs kept : List Rec) (known : List ℕ) → known ≡ numbers (fields_of t) → kept ≡ filter (is_other known) rs
+pub settled_is : (t : RecordType) (rs kept : List Rec) (known : List ℕ) → known ≡ numbers (fields_of t) → kept ≡ filter (is_writable_beside known) rs
     → sorted kept ≡ settled_unknown (fields_of t) rs
 unfolding settled_unknown
-settled_is t rs kept known e f = ap sorted (f ∙ ap (λ (ns : List ℕ). filter (is_other ns) rs) e ∙ others_unread t rs)
+settled_is t rs kept known e f = ap sorted (f ∙ ap (λ (ns : List ℕ). filter (is_writable_beside ns) rs) e ∙ others_unread t rs)
 
-none_known : (rs : List Rec) → filter (is_other []) rs ≡ unread [] rs
+none_known : (rs : List Rec) → filter (is_writable_beside []) rs ≡ unread [] rs
 unfolding unread
 none_known rs = refl
 
-pub written_is : {E : Type 0} (result : Result (List Rec) E) (rs : List Rec) → IfOk result (λ k. k ≡ filter (is_other []) rs) → IfOk result (λ k. k ≡ unread [] rs)
+pub written_is : {E : Type 0} (result : Result (List Rec) E) (rs : List Rec) → IfOk result (λ k. k ≡ filter (is_writable_beside []) rs) → IfOk result (λ k. k ≡ unread [] rs)
 written_is result rs h = subst (λ (ks : List Rec). IfOk result (λ k. k ≡ ks)) (none_known rs) h

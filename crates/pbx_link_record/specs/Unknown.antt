@@ -1,10 +1,10 @@
 -- The unknown records of descriptor records, as the encoding of such a record gives them back (Protocol Buffers "Encoding": Field Order;
 -- "Language Guide (proto 3)": Unknown Fields).
-use Rattle.std.specs.Prelude.{ℕ, List, [], ◌∷◌, filter, Bool, true, not, ◌&&◌, ◌==◌, nat_lt}
+use Rattle.std.specs.Prelude.{ℕ, List, [], ◌∷◌, filter, Bool, true, not, ◌&&◌, nat_lt}
 use Rattle.pbx_wire.specs.Text.{is_numbered}
 use Rattle.pbx_wire.specs.declared.rec.Rec.{Rec}
 use Rattle.pbx_content.specs.declared.shape.FieldShape.{FieldShape}
-use Rattle.pbx_content.specs.Records.{number_of, any, sorted}
+use Rattle.pbx_content.specs.Records.{number_of, sorted}
 use Rattle.pbx_content.specs.Shape.{is_kept}
 use Rattle.pbx_desc_shapes.specs.DescriptorShape.{file_fields, message_fields, field_fields, extension_range_fields, reserved_range_fields, oneof_fields}
 use Rattle.pbx_desc_shapes.specs.DescriptorShape.{enum_fields, enum_reserved_range_fields, enum_value_fields, service_fields, method_fields}
@@ -35,10 +35,6 @@ fields_of types.Service = service_fields
 fields_of types.Method = method_fields
 fields_of types.SourceCodeInfo = source_code_info_fields
 fields_of types.Location = location_fields
-
--- the record may be written, and has none of the numbers
-abbrev pub is_other : List ℕ → Rec → Bool
-is_other known r = is_numbered r && not (any (λ n. number_of r == n) known)
 
 -- no number is below n, nor below the one before it
 abbrev pub ascend : ℕ → List Rec → Bool

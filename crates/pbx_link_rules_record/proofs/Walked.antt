@@ -1,10 +1,9 @@
 -- Walks over lists that end at the first place that is found.
-use Rattle.std.proofs.Common.{◌≡◌, ◌∙◌, ℕ, ◌+◌, ◌<◌, List, [], ◌∷◌, ◌++◌, map, length, drop, get_or, cond, ◌&&◌, Bool, true, false, Option, Some, None, refl, ap, sym, subst, arith}
+use Rattle.std.proofs.Common.{◌≡◌, ◌∙◌, ℕ, ◌+◌, ◌<◌, List, [], ◌∷◌, ◌++◌, map, length, drop, get_or, cond, Bool, true, false, Option, Some, None, refl, ap, sym, subst, arith}
 use Rattle.std.specs.Prelude.{Contains}
 use Rattle.std.specs.List.{flat_map, filter}
 use Rattle.std.proofs.lemmas.List.{at_drop_more}
 use Rattle.std.proofs.lemmas.List.Elements.{Contains-append_left}
-use Rattle.pbx_wire.specs.Text.{all_true}
 use Rattle.pbx_link_definitions.specs.Definitions.{Place}
 use Rattle.pbx_link_definitions.specs.Places.{places_where, IsAmong}
 
@@ -39,10 +38,3 @@ pub flat_next : {X : Type 0} (F : X → List Place) (xs : List X) (i : ℕ) (x :
 flat_next {X} F xs i x whole o so_far lt is among none =
     let empty : F x ≡ [] = subst (IsAmong (F x)) none among in
     so_far ∙ left_at (flat_map F) xs i x lt is ∙ ap (λ (ps : List Place). ps ++ flat_map F (drop (i + 1) xs)) empty
-
--- ---- a test of all items
-
-pub all_next : {X : Type 0} (test : X → Bool) (xs : List X) (i : ℕ) (x : X) (whole : Bool) → whole ≡ all_true (map test (drop i xs)) → i < length xs → x ≡ get_or xs i x → test x ≡ true
-    → whole ≡ all_true (map test (drop (i + 1) xs))
-all_next {X} test xs i x whole so_far lt is passes =
-    so_far ∙ left_at (λ (ys : List X). all_true (map test ys)) xs i x lt is ∙ ap (λ (b : Bool). b && all_true (map test (drop (i + 1) xs))) passes

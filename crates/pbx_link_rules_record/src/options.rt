@@ -1,6 +1,6 @@
 // What options and unknown records say.
 ghost use Rattle.std.specs.Prelude.{◌≡◌, ◌==◌, ◌&&◌, IfOk};
-ghost use Rattle.pbx_wire.specs.Text.{is_record_number as is_record_number_of, is_numbered as is_numbered_of, are_numbered as are_numbered_of};
+ghost use Rattle.pbx_wire.specs.Text.{is_numbered as is_numbered_of};
 ghost use Rattle.pbx_content.specs.Records.{number_of};
 ghost use Rattle.pbx_link_definitions.specs.Says.{has_record as has_record_of, has_option as has_option_of, is_uninterpreted as is_uninterpreted_of};
 ghost use Rattle.pbx_link_definitions.specs.Places.{IsAmong};
@@ -11,55 +11,11 @@ use pbx_link_definitions::FileParts;
 use pbx_wire::{List, NoMemory, Rec, Recs};
 use std::alloc::Global;
 
-fn is_record_number(number: u32) -> bool
-    ensures { result ≡ is_record_number_of number }
-{
-    0 < number && number < 536870912
-}
-
-/// Whether the numbers of the record, and of those in its groups, may be written.
-#[cycle(numbered)]
-fn is_numbered(rec: &Rec) -> bool
-    ensures { result ≡ is_numbered_of rec.now }
-{
-    match rec {
-        Rec::Varint(number, _)
-        | Rec::Fixed64(number, _)
-        | Rec::Bytes(number, _)
-        | Rec::Fixed32(number, _) => is_record_number(*number),
-        Rec::Group(number, recs) => is_record_number(*number) && are_numbered(recs),
-    }
-}
-
-#[cycle(numbered)]
-fn are_numbered(recs: &Recs) -> bool
-    ensures { result ≡ are_numbered_of recs.now }
-{
-    for rec in recs.as_slice() {
-        if !is_numbered(rec) {
-            return false;
-        }
-    }
-    true
-}
-
-fn record_number(rec: &Rec) -> u32
-    ensures { result ≡ number_of rec.now }
-{
-    match rec {
-        Rec::Varint(number, _)
-        | Rec::Fixed64(number, _)
-        | Rec::Bytes(number, _)
-        | Rec::Group(number, _)
-        | Rec::Fixed32(number, _) => *number,
-    }
-}
-
 /// Whether the record may be written, and has the number.
 fn is_record(rec: &Rec, number: u32) -> bool
     ensures { result ≡ (is_numbered_of rec.now && number_of rec.now == number) }
 {
-    record_number(rec) == number && is_numbered(rec)
+    rec.number() == number && rec.is_numbered()
 }
 
 /// Whether one of the records, which may be written, has the number.

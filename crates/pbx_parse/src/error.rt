@@ -5,11 +5,13 @@ ghost use Rattle.std.specs.Option.{option_copied};
 ghost use Rattle.pbx_parse.specs.Errors.{error_file, error_line, error_column};
 
 use pbx_wire::{NoMemory, Text};
+use thiserror::Error;
 
 /// Why a source has no record.
-#[derive(Debug, Drop)]
+#[derive(Debug, Drop, Error)]
 pub enum ParseError {
     /// The source is not in the language.
+    #[error("{file}:{line}:{column}: expected {expected}, but found {found}")]
     Syntax {
         /// The name of the file.
         file: Text,
@@ -22,6 +24,8 @@ pub enum ParseError {
         /// What stands there, in single quotes, or `end of file`.
         found: Text,
     },
+    /// Memory ran out.
+    #[error("out of memory")]
     NoMemory,
 }
 

@@ -39,8 +39,7 @@ fn add_value(
             None => Ok(()),
         },
         (OptionKind::Text, Constant::String(literal)) => {
-            let bytes = unescape(alloc, literal.text)?;
-            let payload = Blob::from_slice(alloc, bytes.as_slice())?;
+            let payload = Blob::from_vec(unescape(alloc, literal.text)?);
             recs.add(Rec::from_payload(option.number, payload)?)
         }
         _ => Ok(()),

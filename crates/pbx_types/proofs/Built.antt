@@ -22,7 +22,7 @@ use Rattle.pbx_desc_shapes.specs.TypesShape.{types_shape}
 use Rattle.pbx_types.specs.Building.{put_in, Puts, Holds}
 use Rattle.pbx_types.specs.FieldContent.{fields_from, record_content}
 use Rattle.pbx_types.specs.Sound.{Fits, MayHave, AreValues, some_field}
-use Rattle.pbx_types.specs.Unknown.{is_writable_beside}
+use Rattle.pbx_wire.specs.Number.{is_writable_beside}
 use Rattle.pbx_types.proofs.Fields.{numbers, AreRead, kept_is, content_sound}
 
 -- number and names of a field are no part of what it may have

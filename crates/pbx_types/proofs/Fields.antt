@@ -16,7 +16,7 @@ use Rattle.pbx_desc_shapes.proofs.WellKnownProper.{types_shape_proper}
 use Rattle.pbx_types.specs.FieldContent.{writable, fields_from, record_content}
 use Rattle.pbx_types.specs.Sound.{Fits, MayHave, AreValues}
 use Rattle.pbx_types.specs.Taking.{IsAt}
-use Rattle.pbx_types.specs.Unknown.{has_one_of, is_writable_beside}
+use Rattle.pbx_wire.specs.Number.{has_one_of, is_writable_beside}
 
 abbrev pub numbers : List FieldShape → List ℕ
 numbers gs = map (λ (g : FieldShape). g.number) gs

@@ -1,6 +1,5 @@
 pub mod TextOrder
 pub mod TextPlaces
-pub mod Unread
 pub mod Types
 pub mod Fields
 pub mod Sound

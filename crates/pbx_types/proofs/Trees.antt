@@ -9,7 +9,7 @@ use Rattle.pbx_content_codec.specs.View.{content_of}
 use Rattle.pbx_desc_shapes.specs.TypesShape.{value_fields}
 use Rattle.pbx_types.specs.Building.{Holds}
 use Rattle.pbx_types.specs.FieldContent.{fields_from}
-use Rattle.pbx_types.specs.Unknown.{is_writable_beside}
+use Rattle.pbx_wire.specs.Number.{is_writable_beside}
 use Rattle.pbx_types.proofs.Built.{made}
 use Rattle.pbx_types.proofs.Types.{value_type}
 use Rattle.pbx_types.specs.declared.tree.ListValue.{ListValue, out-ListValue, fold_out-ListValue}

@@ -1,6 +1,5 @@
 pub mod Texts
 pub mod formers
-pub mod Unknown
 pub mod FieldContent
 pub mod Sound
 pub mod Building

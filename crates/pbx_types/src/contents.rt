@@ -10,13 +10,12 @@ ghost use Rattle.pbx_content_codec.specs.View.{content_of, val_of, pair_of};
 ghost use Rattle.pbx_content.specs.declared.shape.Cardinality.TheVariants.{Singular, Repeated, Map};
 ghost use Rattle.pbx_desc_shapes.specs.TypesShape.{types_shape};
 ghost use Rattle.pbx_types.specs.Building.{Puts, Holds};
-ghost use Rattle.pbx_types.specs.Unknown.{is_writable_beside};
+ghost use Rattle.pbx_wire.specs.Number.{is_writable_beside};
 
-use crate::unknown::writable;
 use bytes::Bytes;
 use pbx_content_codec::{Contents, Held, Pair};
 use pbx_content_map::NumberMap;
-use pbx_wire::{List, NoMemory, Recs, Text, Texts};
+use pbx_wire::{List, NoMemory, Recs, Text, Texts, writable_beside};
 use std::alloc::Global;
 
 /// A record that has a content as a message of one of the well-known types.
@@ -44,7 +43,7 @@ pub(crate) fn kept_contents(
         content_of contents ≡ content no_fields (filter (is_writable_beside known.now) unknown.now)) }
     ensures fit { OnOk result (are_fit (filter (is_writable_beside known.now) unknown.now) ≡ true) }
 {
-    let kept = writable(alloc, unknown, known)?;
+    let kept = writable_beside(alloc, unknown, known)?;
     Ok(Contents {
         fields: NumberMap::new(alloc),
         kept,

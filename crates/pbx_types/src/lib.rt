@@ -15,7 +15,6 @@ mod taking;
 mod text_map;
 mod time;
 mod tree;
-mod unknown;
 
 pub use any::{Any, Empty};
 pub(crate) use contents::{

@@ -15,13 +15,16 @@ use std::alloc::Global;
 use std::marker::Model;
 
 /// What an error is.
-#[derive(Debug, Drop)]
+#[derive(Debug, Drop, thiserror::Error)]
 pub enum ErrorKind {
     /// A source is not in the language.
+    #[error("{0}")]
     Parse(ParseError),
     /// A file does not keep a rule of linking, or does not decode.
+    #[error("{0}")]
     Check(DescriptorError),
     /// Reading failed.
+    #[error("error opening file '{path}': {fault}")]
     OpenFile {
         /// The name of the file.
         name: Text,
@@ -31,21 +34,25 @@ pub enum ErrorKind {
         fault: Text,
     },
     /// A source has more than 2,147,483,647 bytes.
+    #[error("file '{name}' is too large")]
     FileTooLarge {
         /// The name of the file.
         name: Text,
     },
     /// A source is not UTF-8.
+    #[error("file '{name}' is not valid utf-8")]
     FileInvalidUtf8 {
         /// The name of the file.
         name: Text,
     },
     /// No file has the name.
+    #[error("file '{name}' not found")]
     FileNotFound {
         /// The name of the file.
         name: Text,
     },
     /// No file has the name of an import.
+    #[error("import '{name}' of file '{file}' not found")]
     ImportNotFound {
         /// The name of the file that imports it.
         file: Text,
@@ -57,6 +64,7 @@ pub enum ErrorKind {
         name: Text,
     },
     /// A file imports itself, maybe through others.
+    #[error("import cycle detected: {cycle}")]
     CircularImport {
         /// The name of the file that is imported again.
         name: Text,
@@ -64,11 +72,13 @@ pub enum ErrorKind {
         cycle: Text,
     },
     /// A path stands in no include folder.
+    #[error("file '{path}' is not in any include path")]
     FileNotIncluded {
         /// The path.
         path: Text,
     },
     /// A file of the same name stands in an earlier include folder.
+    #[error("path '{path}' is shadowed by '{shadow}' in the include paths")]
     FileShadowed {
         /// The name of the file.
         name: Text,
@@ -78,6 +88,7 @@ pub enum ErrorKind {
         shadow: Text,
     },
     /// A file lists an import twice.
+    #[error("import '{name}' of file '{file}' was listed twice")]
     DuplicateImport {
         /// The name of the file that imports it.
         file: Text,
@@ -89,6 +100,7 @@ pub enum ErrorKind {
         name: Text,
     },
     /// What a resolver says of its own.
+    #[error("{text}")]
     Custom {
         /// The text.
         text: Text,
@@ -96,6 +108,7 @@ pub enum ErrorKind {
         is_io: bool,
     },
     /// A resolver gave a file of another name.
+    #[error("file '{asked}' declares the name '{declared}'")]
     NameMismatch {
         /// The name that was asked for.
         asked: Text,
@@ -103,21 +116,25 @@ pub enum ErrorKind {
         declared: Text,
     },
     /// There are too many files.
+    #[error("more than {limit} files")]
     FileLimit {
         /// How many there may be.
         limit: u32,
     },
     /// A file nests more than 100 levels, or has options that do not decode, so that no reader would take its set.
+    #[error("file '{file}' does not decode under the built-in schema")]
     Undecodable {
         /// The name of the file.
         file: Text,
     },
     /// Memory ran out.
+    #[error("out of memory")]
     NoMemory,
 }
 
 /// Why a file is not found, not read or not taken. No want of memory stands inside of another error.
-#[derive(Debug, Drop)]
+#[derive(Debug, Drop, thiserror::Error)]
+#[error("{kind}")]
 pub struct Error {
     kind: ErrorKind,
 }

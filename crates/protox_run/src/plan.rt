@@ -216,7 +216,6 @@ fn plan_transcoding<'w, D: Disk, S: Source>(
 
 /// The set of the files of a compiler, where a path is given for it.
 fn write_set<'w, R: FileResolver>(
-    alloc: Global,
     path: Option<&'w str>,
     compiler: &Compiler<R>,
 ) -> Result<Ready<'w>, Error>
@@ -233,17 +232,16 @@ fn write_set<'w, R: FileResolver>(
             line: None,
         });
     };
-    let bytes = match compiler.encode_file_descriptor_set() {
-        Ok(bytes) => bytes,
-        Err(error) => return Err(error),
-    };
-    match Blob::from_slice(alloc, bytes.as_slice()) {
+    match compiler.encode_file_descriptor_set() {
         Ok(bytes) => Ok(Ready {
-            set: Some(Write { path, bytes }),
+            set: Some(Write {
+                path,
+                bytes: Blob::from_vec(bytes),
+            }),
             wire: None,
             line: None,
         }),
-        Err(NoMemory) => Err(Error::from(NoMemory)),
+        Err(error) => Err(error),
     }
 }
 
@@ -267,7 +265,7 @@ fn compile_files<'w, R: FileResolver>(
     };
     let _ = compiler.include_imports(args.include_imports);
     let _ = compiler.include_source_info(args.include_source_info);
-    let result = match write_set(alloc, args.output, &compiler) {
+    let result = match write_set(args.output, &compiler) {
         Ok(ready) => Ok(ready),
         Err(error) => Err(file_error(error)),
     };

@@ -11,11 +11,13 @@ use protox_file_sources::{Error, ErrorKind};
 use std::alloc::Global;
 
 /// Why files, a type's name and a tree are refused.
-#[derive(Debug, Drop)]
+#[derive(Debug, Drop, thiserror::Error)]
 pub enum TopError {
     /// A file is not found, not read or not taken.
+    #[error("{0}")]
     File(Error),
     /// A key of a message's JSON has two meanings.
+    #[error("message '{message}' has clashing JSON name '{key}'")]
     JsonNames {
         /// The full name of the message.
         message: Text,
@@ -23,20 +25,25 @@ pub enum TopError {
         key: Text,
     },
     /// A message has the name of a well-known type, and not the shape that the name's public file declares.
+    #[error("message '{message}' has not its well-known shape")]
     WellKnownShape {
         /// The full name of the message.
         message: Text,
     },
     /// No message has the full name.
+    #[error("type '{name}' not found")]
     TypeNotFound {
         /// The name.
         name: Text,
     },
     /// The tree stands for no message of the type, as it breaks a rule of the JSON mapping at a place.
+    #[error("{0}")]
     Json(JsonError),
     /// The message nests more than 100 levels, or the payload of a `google.protobuf.Any` in it does, or does not decode.
+    #[error("message nests more than 100 levels")]
     TooDeep,
     /// Memory ran out.
+    #[error("out of memory")]
     NoMemory,
 }
 

@@ -57,10 +57,7 @@ pub(crate) fn set_of(alloc: Global, pool: &DescriptorPool) -> Result<Blob, TopEr
         return Err(TopError::NoMemory);
     };
     match encode_decodable(alloc, set) {
-        Ok(Some(bytes)) => match Blob::from_slice(alloc, bytes.as_slice()) {
-            Ok(set) => Ok(set),
-            Err(NoMemory) => Err(TopError::NoMemory),
-        },
+        Ok(Some(bytes)) => Ok(Blob::from_vec(bytes)),
         Ok(None) => Err(first_error(alloc, pool)),
         Err(NoMemory) => Err(TopError::NoMemory),
     }

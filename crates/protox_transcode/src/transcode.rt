@@ -67,7 +67,7 @@ fn wire_of(alloc: Global, message: &DynamicMessage) -> Result<Blob, NoMemory>
     ensures { IfOk result (IsWire message.now) }
 {
     let bytes = message.encode_to_vec(alloc)?;
-    Blob::from_slice(alloc, bytes.as_slice())
+    Ok(Blob::from_vec(bytes))
 }
 
 /// The wire bytes of the message, and its canonical tree.

@@ -13,11 +13,11 @@ returns-in-Some-clause-found c =
     subst (λ rs. IsKeptFloat (declared_of c.args.schema.now c.args.type_at) rs c.in-Some.found.now) c.as_slice-rec-items.ensures
     (kept_here (declared_of c.args.schema.now c.args.type_at) c.as_slice-rec-items.result.now c.loop-rec.rec-index c.rec-item.result c.in-Some.found.now
     c.loop-rec-test.true c.rec-item.is
-    (ap (λ n. field_of n (declared_of c.args.schema.now c.args.type_at)) (sym c.record_number.ensures) ∙ c.in-Some.ensures.found.0)
+    (ap (λ n. field_of n (declared_of c.args.schema.now c.args.type_at)) (sym c.number.ensures) ∙ c.in-Some.ensures.found.0)
     c.in-Some.ensures.found.1)
 
 pub loop-rec-preserved : goal.loop-rec-preserved
 loop-rec-preserved c =
     keeps_more (declared_of c.args.schema.now c.args.type_at) c.as_slice-rec-items.result.now c.loop-rec.rec-index c.rec-item.result
     c.loop-rec-test.true c.rec-item.is c.loop-rec.invariant
-    (ap (is_float_number (declared_of c.args.schema.now c.args.type_at)) (sym c.record_number.ensures) ∙ c.in_default.ensures.absent)
+    (ap (is_float_number (declared_of c.args.schema.now c.args.type_at)) (sym c.number.ensures) ∙ c.in_default.ensures.absent)

@@ -1,6 +1,6 @@
 use Rattle.std.proofs.Common.{◌≡◌, drop, take, IsTrue}
 use Rattle.pbx_wire.specs.Text.{are_numbered, are_fit}
-use Rattle.pbx_types.proofs.unknown.+numbered.Given as goal
+use Rattle.pbx_wire.proofs.rec.+numbered.Given as goal
 
 abbrev pub invariant-are_numbered-loop-rec : goal.invariant-are_numbered-loop-rec
 invariant-are_numbered-loop-rec l = record {

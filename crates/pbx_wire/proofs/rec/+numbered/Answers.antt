@@ -1,7 +1,8 @@
 use Rattle.std.proofs.Common.{◌≡◌, true, sym, ◌∙◌, rules}
 use Rattle.pbx_wire.specs.Text.{is_numbered, is_fit}
-use Rattle.pbx_desc_encoding.proofs.Unread.{all_more, all_rest}
-use Rattle.pbx_desc_encoding.proofs.unknown.+numbered.Goals as goal
+use Rattle.pbx_wire.proofs.Written.{all_more}
+use Rattle.pbx_wire.proofs.Walks.{all_rest}
+use Rattle.pbx_wire.proofs.rec.+numbered.Goals as goal
 
 pub are_numbered-loop-rec-preserved : goal.are_numbered-loop-rec-preserved
 are_numbered-loop-rec-preserved t c =
