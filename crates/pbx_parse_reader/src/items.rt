@@ -8,7 +8,8 @@ ghost use Rattle.pbx_parse_token.specs.declared.token.Span.{Span};
 ghost use Rattle.pbx_parse_tree.specs.declared.tree.Version.{Version};
 ghost use Rattle.pbx_parse_tree.specs.declared.options.OptionPlace.TheVariants as places;
 ghost use Rattle.pbx_parse_tree.specs.Tree as tree;
-ghost use Rattle.pbx_parse_tree.specs.Grammar.{marked, map_then, oneof_then, enum_then, extend_then, extensions_then, count_then, reserved_then, statement_then};
+ghost use Rattle.pbx_parse_tree.specs.Grammar.{marked, map_then, oneof_then, enum_then, extend_then, extensions_then, count_then, reserved_then};
+ghost use Rattle.pbx_parse_tree.specs.Grammar.{statement_then};
 ghost use Rattle.pbx_parse_tree.specs.Conditions.{map_fits, oneof_fits, enum_fits, extend_fits, extensions_fit, is_range_number, reserved_fits, option_fits};
 ghost use Rattle.pbx_parse_tree.specs.Fits.{may_follow};
 ghost use Rattle.pbx_parse_tree.specs.View.{setting_of, plain, item_of};
@@ -29,7 +30,8 @@ use std::alloc::Global;
 pub fn empty_item<'a>(cursor: &mut Cursor<'_, 'a>) -> Result<Item<'a>, ReadError>
     ensures found { IfOk result (λ i. left cursor.old ≡ body_item_then (item_of i) (left cursor.new)) }
     ensures fits { (v : Version) (ss : List tree.Setting) → IfOk result (λ i. (levels : ℕ) → body_item_behind v levels ss (item_of i) ≡ true) }
-    ensures only { (s : Span) (rest : List tokens.Token) → left cursor.old ≡ marked 59 s ∷ rest → Reaches item_of (plain (tree.empty_item s)) rest result (left cursor.new) }
+    ensures only { (s : Span) (rest : List tokens.Token) → left cursor.old ≡ marked 59 s ∷ rest →
+        Reaches item_of (plain (tree.empty_item s)) rest result (left cursor.new) }
     ensures shorter { TakesSome result (left cursor.old) (left cursor.new) }
 {
     match cursor.mark(b';') {
@@ -43,7 +45,8 @@ pub fn empty_item<'a>(cursor: &mut Cursor<'_, 'a>) -> Result<Item<'a>, ReadError
 pub fn map_item<'a>(alloc: Global, cursor: &mut Cursor<'_, 'a>) -> Result<Item<'a>, ReadError>
     ensures found { IfOk result (λ i. left cursor.old ≡ body_item_then (item_of i) (left cursor.new)) }
     ensures fits { (v : Version) (ss : List tree.Setting) → IfOk result (λ i. (levels : ℕ) → body_item_behind v levels ss (item_of i) ≡ true) }
-    ensures only { (m : tree.MapField) (rest : List tokens.Token) → map_fits m ≡ true → left cursor.old ≡ map_then m rest → Reaches item_of (plain (tree.item_map m)) rest result (left cursor.new) }
+    ensures only { (m : tree.MapField) (rest : List tokens.Token) → map_fits m ≡ true → left cursor.old ≡ map_then m rest →
+        Reaches item_of (plain (tree.item_map m)) rest result (left cursor.new) }
     ensures shorter { TakesSome result (left cursor.old) (left cursor.new) }
 {
     match map_field(alloc, cursor) {
@@ -61,7 +64,8 @@ pub fn oneof_item<'a>(
 ) -> Result<Item<'a>, ReadError>
     ensures found { IfOk result (λ i. left cursor.old ≡ body_item_then (item_of i) (left cursor.new)) }
     ensures fits { (v : Version) (ss : List tree.Setting) → IfOk result (λ i. (levels : ℕ) → body_item_behind v levels ss (item_of i) ≡ true) }
-    ensures only { (o : tree.Oneof) (rest : List tokens.Token) → oneof_fits o ≡ true → left cursor.old ≡ oneof_then o rest → Reaches item_of (plain (tree.item_oneof o)) rest result (left cursor.new) }
+    ensures only { (o : tree.Oneof) (rest : List tokens.Token) → oneof_fits o ≡ true → left cursor.old ≡ oneof_then o rest →
+        Reaches item_of (plain (tree.item_oneof o)) rest result (left cursor.new) }
     ensures shorter { TakesSome result (left cursor.old) (left cursor.new) }
 {
     match oneof(alloc, cursor, version) {
@@ -79,7 +83,8 @@ pub fn enum_item<'a>(
 ) -> Result<Item<'a>, ReadError>
     ensures found { IfOk result (λ i. left cursor.old ≡ body_item_then (item_of i) (left cursor.new)) }
     ensures fits { (v : Version) (ss : List tree.Setting) → IfOk result (λ i. (levels : ℕ) → body_item_behind v levels ss (item_of i) ≡ true) }
-    ensures only { (e : tree.Enum) (rest : List tokens.Token) → enum_fits e ≡ true → left cursor.old ≡ enum_then e rest → Reaches item_of (plain (tree.item_enum e)) rest result (left cursor.new) }
+    ensures only { (e : tree.Enum) (rest : List tokens.Token) → enum_fits e ≡ true → left cursor.old ≡ enum_then e rest →
+        Reaches item_of (plain (tree.item_enum e)) rest result (left cursor.new) }
     ensures shorter { TakesSome result (left cursor.old) (left cursor.new) }
 {
     match enumeration(alloc, cursor, version) {
@@ -97,7 +102,8 @@ pub fn extend_item<'a>(
 ) -> Result<Item<'a>, ReadError>
     ensures found { IfOk result (λ i. left cursor.old ≡ body_item_then (item_of i) (left cursor.new)) }
     ensures fits { (ss : List tree.Setting) → IfOk result (λ i. (levels : ℕ) → body_item_behind version levels ss (item_of i) ≡ true) }
-    ensures only { (e : tree.Extend) (rest : List tokens.Token) → extend_fits version e ≡ true → left cursor.old ≡ extend_then e rest → Reaches item_of (plain (tree.item_extend e)) rest result (left cursor.new) }
+    ensures only { (e : tree.Extend) (rest : List tokens.Token) → extend_fits version e ≡ true → left cursor.old ≡ extend_then e rest →
+        Reaches item_of (plain (tree.item_extend e)) rest result (left cursor.new) }
     ensures shorter { TakesSome result (left cursor.old) (left cursor.new) }
 {
     match extend(alloc, cursor, version) {
@@ -114,7 +120,8 @@ pub fn extensions_item<'a>(
 ) -> Result<Item<'a>, ReadError>
     ensures found { IfOk result (λ i. left cursor.old ≡ body_item_then (item_of i) (left cursor.new)) }
     ensures fits { (v : Version) (ss : List tree.Setting) → IfOk result (λ i. (levels : ℕ) → body_item_behind v levels ss (item_of i) ≡ true) }
-    ensures only { (e : tree.Extensions) (rest : List tokens.Token) → extensions_fit e ≡ true → left cursor.old ≡ extensions_then e rest → Reaches item_of (plain (tree.item_extensions e)) rest result (left cursor.new) }
+    ensures only { (e : tree.Extensions) (rest : List tokens.Token) → extensions_fit e ≡ true → left cursor.old ≡ extensions_then e rest →
+        Reaches item_of (plain (tree.item_extensions e)) rest result (left cursor.new) }
     ensures shorter { TakesSome result (left cursor.old) (left cursor.new) }
 {
     match extensions(alloc, cursor) {
@@ -128,7 +135,8 @@ pub fn extensions_item<'a>(
 pub fn reserved_item<'a>(alloc: Global, cursor: &mut Cursor<'_, 'a>) -> Result<Item<'a>, ReadError>
     ensures found { IfOk result (λ i. left cursor.old ≡ body_item_then (item_of i) (left cursor.new)) }
     ensures fits { (v : Version) (ss : List tree.Setting) → IfOk result (λ i. (levels : ℕ) → body_item_behind v levels ss (item_of i) ≡ true) }
-    ensures only { (r : tree.Reserved tree.Count) (rest : List tokens.Token) → reserved_fits is_range_number r ≡ true → left cursor.old ≡ reserved_then count_then r rest → Reaches item_of (plain (tree.item_reserved r)) rest result (left cursor.new) }
+    ensures only { (r : tree.Reserved tree.Count) (rest : List tokens.Token) → reserved_fits is_range_number r ≡ true →
+        left cursor.old ≡ reserved_then count_then r rest → Reaches item_of (plain (tree.item_reserved r)) rest result (left cursor.new) }
     ensures shorter { TakesSome result (left cursor.old) (left cursor.new) }
 {
     match reserved(alloc, cursor) {
@@ -145,7 +153,9 @@ pub fn option_item<'a>(
 ) -> Result<Item<'a>, ReadError>
     ensures found { IfOk result (λ i. left cursor.old ≡ body_item_then (item_of i) (left cursor.new)) }
     ensures fits { (v : Version) → IfOk result (λ i. (levels : ℕ) → body_item_behind v levels (map setting_of seen.now) (item_of i) ≡ true) }
-    ensures only { (s : tree.Statement) (rest : List tokens.Token) → may_follow (option_fits places.Message) (map setting_of seen.now) s.setting ≡ true → left cursor.old ≡ statement_then s rest → Reaches item_of (plain (tree.item_option s)) rest result (left cursor.new) }
+    ensures only { (s : tree.Statement) (rest : List tokens.Token) →
+        may_follow (option_fits places.Message) (map setting_of seen.now) s.setting ≡ true → left cursor.old ≡ statement_then s rest →
+        Reaches item_of (plain (tree.item_option s)) rest result (left cursor.new) }
     ensures shorter { TakesSome result (left cursor.old) (left cursor.new) }
 {
     match statement(cursor, Expected::Keyword, OptionPlace::Message, seen) {

@@ -85,7 +85,8 @@ fn plain_item<'a>(
     requires { sees_word (codes "message") (left cursor.old) ≡ false }
     ensures found { IfOk result (λ i. left cursor.old ≡ body_item_then (item_of i) (left cursor.new)) }
     ensures fits { IfOk result (λ i. (levels : ℕ) → body_item_behind version levels (map setting_of seen.now) (item_of i) ≡ true) }
-    ensures only { (i : tree.Item) (rest : List tokens.Token) → item_behind version (map setting_of seen.now) i ≡ true → left cursor.old ≡ item_then i rest → Reaches item_of (plain i) rest result (left cursor.new) }
+    ensures only { (i : tree.Item) (rest : List tokens.Token) → item_behind version (map setting_of seen.now) i ≡ true →
+        left cursor.old ≡ item_then i rest → Reaches item_of (plain i) rest result (left cursor.new) }
     ensures shorter { TakesSome result (left cursor.old) (left cursor.new) }
 {
     match first_item(cursor) {
@@ -145,7 +146,8 @@ fn one_item<'a>(
 ) -> Result<Item<'a>, ReadError>
     ensures found { IfOk result (λ i. left cursor.old ≡ body_item_then (item_of i) (left cursor.new)) }
     ensures fits { IfOk result (λ i. body_item_behind version levels (map setting_of seen.now) (item_of i) ≡ true) }
-    ensures only { (p : BodyItem) (rest : List tokens.Token) → body_item_behind version levels (map setting_of seen.now) p ≡ true → left cursor.old ≡ body_item_then p rest → Reaches item_of p rest result (left cursor.new) }
+    ensures only { (p : BodyItem) (rest : List tokens.Token) → body_item_behind version levels (map setting_of seen.now) p ≡ true →
+        left cursor.old ≡ body_item_then p rest → Reaches item_of p rest result (left cursor.new) }
     ensures shorter { TakesSome result (left cursor.old) (left cursor.new) }
 {
     if !cursor.sees_word("message") {
@@ -169,7 +171,8 @@ fn items<'a>(
 ) -> Result<Vec<Item<'a>>, ReadError>
     ensures found { IfOk result (λ x. left cursor.old ≡ body_then (body_of x.items) (left cursor.new)) }
     ensures fits { IfOk result (λ x. message_fits version levels (body_of x.items) ≡ true) }
-    ensures only { (b : tree.Body) (rest : List tokens.Token) → message_fits version levels b ≡ true → ends_block rest ≡ true → left cursor.old ≡ body_then b rest → Reaches (λ x. body_of x.items) b rest result (left cursor.new) }
+    ensures only { (b : tree.Body) (rest : List tokens.Token) → message_fits version levels b ≡ true → ends_block rest ≡ true →
+        left cursor.old ≡ body_then b rest → Reaches (λ x. body_of x.items) b rest result (left cursor.new) }
     ensures shorter { TakesAny result (left cursor.old) (left cursor.new) }
 {
     let mut items = Vec::new(alloc);
@@ -192,7 +195,8 @@ pub fn message<'a>(
 ) -> Result<Message<'a>, ReadError>
     ensures found { IfOk result (λ m. left cursor.old ≡ top_then (message_of m) (left cursor.new)) }
     ensures fits { IfOk result (λ m. message_fits version levels (body_of m.items.items) ≡ true) }
-    ensures only { (h : tree.Head) (b : tree.Body) (close : Span) (rest : List tokens.Token) → message_fits version levels b ≡ true → left cursor.old ≡ top_then (tree.top_message h b close) rest → Reaches message_of (tree.top_message h b close) rest result (left cursor.new) }
+    ensures only { (h : tree.Head) (b : tree.Body) (close : Span) (rest : List tokens.Token) → message_fits version levels b ≡ true →
+        left cursor.old ≡ top_then (tree.top_message h b close) rest → Reaches message_of (tree.top_message h b close) rest result (left cursor.new) }
     ensures shorter { TakesSome result (left cursor.old) (left cursor.new) }
 {
     let head = head(cursor)?;

@@ -6,7 +6,8 @@ ghost use Rattle.pbx_parse_token.specs.declared.token.Span.{Span};
 ghost use Rattle.pbx_parse_tree.specs.declared.tree.Version.{Version};
 ghost use Rattle.pbx_parse_tree.specs.Tree as tree;
 ghost use Rattle.pbx_parse_tree.specs.declared.options.OptionPlace.TheVariants as places;
-ghost use Rattle.pbx_parse_tree.specs.Grammar.{marked, syntax_then, first_then, package_then, import_then, enum_then, extend_then, service_then, statement_then, top_then};
+ghost use Rattle.pbx_parse_tree.specs.Grammar.{marked, syntax_then, first_then, package_then, import_then, enum_then, extend_then, service_then};
+ghost use Rattle.pbx_parse_tree.specs.Grammar.{statement_then, top_then};
 ghost use Rattle.pbx_parse_tree.specs.Conditions.{version_of, syntax_version, import_fits, enum_fits, extend_fits, service_fits, option_fits};
 ghost use Rattle.pbx_parse_tree.specs.Fits.{may_follow};
 ghost use Rattle.pbx_parse_tree.specs.View.{literal_of, syntax_of, package_of, import_of, top_of};
@@ -46,7 +47,8 @@ fn version_named(literal: &Literal<'_>) -> Option<Version>
 fn some_syntax<'a>(cursor: &mut Cursor<'_, 'a>) -> Result<(Syntax<'a>, Version), ReadError>
     ensures found { IfOk result (λ x. left cursor.old ≡ syntax_then (syntax_of x.0) (left cursor.new)) }
     ensures fits { IfOk result (λ x. syntax_version (syntax_of x.0) ≡ Some x.1) }
-    ensures only { (s : tree.Syntax) (v : Version) (rest : List tokens.Token) → syntax_version s ≡ Some v → left cursor.old ≡ syntax_then s rest → Reaches (λ x. syntax_of x.0) s rest result (left cursor.new) }
+    ensures only { (s : tree.Syntax) (v : Version) (rest : List tokens.Token) → syntax_version s ≡ Some v → left cursor.old ≡ syntax_then s rest →
+        Reaches (λ x. syntax_of x.0) s rest result (left cursor.new) }
     ensures shorter { TakesSome result (left cursor.old) (left cursor.new) }
 {
     let keyword = cursor.keyword("syntax", Expected::Keyword)?;
@@ -71,7 +73,9 @@ fn some_syntax<'a>(cursor: &mut Cursor<'_, 'a>) -> Result<(Syntax<'a>, Version),
 pub fn syntax<'a>(cursor: &mut Cursor<'_, 'a>) -> Result<(Option<Syntax<'a>>, Version), ReadError>
     ensures found { IfOk result (λ x. left cursor.old ≡ first_then (option_map syntax_of x.0) (left cursor.new)) }
     ensures fits { IfOk result (λ x. version_of (option_map syntax_of x.0) ≡ Some x.1) }
-    ensures only { (s : Option tree.Syntax) (v : Version) (rest : List tokens.Token) → version_of s ≡ Some v → sees_word (codes "syntax") rest ≡ false → left cursor.old ≡ first_then s rest → Reaches (λ x. option_map syntax_of x.0) s rest result (left cursor.new) }
+    ensures only { (s : Option tree.Syntax) (v : Version) (rest : List tokens.Token) → version_of s ≡ Some v →
+        sees_word (codes "syntax") rest ≡ false → left cursor.old ≡ first_then s rest →
+        Reaches (λ x. option_map syntax_of x.0) s rest result (left cursor.new) }
     ensures shorter { TakesAny result (left cursor.old) (left cursor.new) }
 {
     if cursor.sees_word("syntax") {
@@ -90,7 +94,8 @@ fn package<'a>(
 ) -> Result<Package<'a>, ReadError>
     ensures found { IfOk result (λ p. left cursor.old ≡ package_then (package_of p) (left cursor.new)) }
     ensures fits { OnOk result (not named ≡ true) }
-    ensures only { (p : tree.Package) (rest : List tokens.Token) → not named ≡ true → left cursor.old ≡ package_then p rest → Reaches package_of p rest result (left cursor.new) }
+    ensures only { (p : tree.Package) (rest : List tokens.Token) → not named ≡ true → left cursor.old ≡ package_then p rest →
+        Reaches package_of p rest result (left cursor.new) }
     ensures shorter { TakesSome result (left cursor.old) (left cursor.new) }
 {
     if named {
@@ -105,7 +110,8 @@ fn package<'a>(
 fn import<'a>(cursor: &mut Cursor<'_, 'a>) -> Result<Import<'a>, ReadError>
     ensures found { IfOk result (λ i. left cursor.old ≡ import_then (import_of i) (left cursor.new)) }
     ensures fits { IfOk result (λ i. import_fits (import_of i) ≡ true) }
-    ensures only { (i : tree.Import) (rest : List tokens.Token) → import_fits i ≡ true → left cursor.old ≡ import_then i rest → Reaches import_of i rest result (left cursor.new) }
+    ensures only { (i : tree.Import) (rest : List tokens.Token) → import_fits i ≡ true → left cursor.old ≡ import_then i rest →
+        Reaches import_of i rest result (left cursor.new) }
     ensures shorter { TakesSome result (left cursor.old) (left cursor.new) }
 {
     let keyword = cursor.keyword("import", Expected::Keyword)?;
@@ -161,7 +167,8 @@ fn first_top(cursor: &Cursor<'_, '_>) -> FirstTop
 fn empty_top<'a>(cursor: &mut Cursor<'_, 'a>) -> Result<Top<'a>, ReadError>
     ensures found { IfOk result (λ t. left cursor.old ≡ top_then (top_of t) (left cursor.new)) }
     ensures fits { (v : Version) (b : Before) → IfOk result (λ t. top_behind v b (top_of t) ≡ true) }
-    ensures only { (s : Span) (rest : List tokens.Token) → left cursor.old ≡ marked 59 s ∷ rest → Reaches top_of (tree.empty_top s) rest result (left cursor.new) }
+    ensures only { (s : Span) (rest : List tokens.Token) → left cursor.old ≡ marked 59 s ∷ rest →
+        Reaches top_of (tree.empty_top s) rest result (left cursor.new) }
     ensures shorter { TakesSome result (left cursor.old) (left cursor.new) }
 {
     match cursor.mark(b';') {
@@ -178,7 +185,8 @@ fn message_top<'a>(
 ) -> Result<Top<'a>, ReadError>
     ensures found { IfOk result (λ t. left cursor.old ≡ top_then (top_of t) (left cursor.new)) }
     ensures fits { (b : Before) → IfOk result (λ t. top_behind version b (top_of t) ≡ true) }
-    ensures only { (h : tree.Head) (b : tree.Body) (close : Span) (rest : List tokens.Token) → message_fits version 30 b ≡ true → left cursor.old ≡ top_then (tree.top_message h b close) rest → Reaches top_of (tree.top_message h b close) rest result (left cursor.new) }
+    ensures only { (h : tree.Head) (b : tree.Body) (close : Span) (rest : List tokens.Token) → message_fits version 30 b ≡ true →
+        left cursor.old ≡ top_then (tree.top_message h b close) rest → Reaches top_of (tree.top_message h b close) rest result (left cursor.new) }
     ensures shorter { TakesSome result (left cursor.old) (left cursor.new) }
 {
     match message(alloc, cursor, version, INNER_LEVELS) {
@@ -195,7 +203,8 @@ fn enum_top<'a>(
 ) -> Result<Top<'a>, ReadError>
     ensures found { IfOk result (λ t. left cursor.old ≡ top_then (top_of t) (left cursor.new)) }
     ensures fits { (v : Version) (b : Before) → IfOk result (λ t. top_behind v b (top_of t) ≡ true) }
-    ensures only { (e : tree.Enum) (rest : List tokens.Token) → enum_fits e ≡ true → left cursor.old ≡ enum_then e rest → Reaches top_of (tree.top_enum e) rest result (left cursor.new) }
+    ensures only { (e : tree.Enum) (rest : List tokens.Token) → enum_fits e ≡ true → left cursor.old ≡ enum_then e rest →
+        Reaches top_of (tree.top_enum e) rest result (left cursor.new) }
     ensures shorter { TakesSome result (left cursor.old) (left cursor.new) }
 {
     match enumeration(alloc, cursor, version) {
@@ -208,7 +217,8 @@ fn enum_top<'a>(
 fn import_top<'a>(cursor: &mut Cursor<'_, 'a>) -> Result<Top<'a>, ReadError>
     ensures found { IfOk result (λ t. left cursor.old ≡ top_then (top_of t) (left cursor.new)) }
     ensures fits { (v : Version) (b : Before) → IfOk result (λ t. top_behind v b (top_of t) ≡ true) }
-    ensures only { (i : tree.Import) (rest : List tokens.Token) → import_fits i ≡ true → left cursor.old ≡ import_then i rest → Reaches top_of (tree.top_import i) rest result (left cursor.new) }
+    ensures only { (i : tree.Import) (rest : List tokens.Token) → import_fits i ≡ true → left cursor.old ≡ import_then i rest →
+        Reaches top_of (tree.top_import i) rest result (left cursor.new) }
     ensures shorter { TakesSome result (left cursor.old) (left cursor.new) }
 {
     match import(cursor) {
@@ -225,7 +235,8 @@ fn package_top<'a>(
 ) -> Result<Top<'a>, ReadError>
     ensures found { IfOk result (λ t. left cursor.old ≡ top_then (top_of t) (left cursor.new)) }
     ensures fits { (v : Version) (b : Before) → b.named ≡ named → IfOk result (λ t. top_behind v b (top_of t) ≡ true) }
-    ensures only { (p : tree.Package) (rest : List tokens.Token) → not named ≡ true → left cursor.old ≡ package_then p rest → Reaches top_of (tree.top_package p) rest result (left cursor.new) }
+    ensures only { (p : tree.Package) (rest : List tokens.Token) → not named ≡ true → left cursor.old ≡ package_then p rest →
+        Reaches top_of (tree.top_package p) rest result (left cursor.new) }
     ensures shorter { TakesSome result (left cursor.old) (left cursor.new) }
 {
     match package(alloc, cursor, named) {
@@ -242,7 +253,8 @@ fn extend_top<'a>(
 ) -> Result<Top<'a>, ReadError>
     ensures found { IfOk result (λ t. left cursor.old ≡ top_then (top_of t) (left cursor.new)) }
     ensures fits { (b : Before) → IfOk result (λ t. top_behind version b (top_of t) ≡ true) }
-    ensures only { (e : tree.Extend) (rest : List tokens.Token) → extend_fits version e ≡ true → left cursor.old ≡ extend_then e rest → Reaches top_of (tree.top_extend e) rest result (left cursor.new) }
+    ensures only { (e : tree.Extend) (rest : List tokens.Token) → extend_fits version e ≡ true → left cursor.old ≡ extend_then e rest →
+        Reaches top_of (tree.top_extend e) rest result (left cursor.new) }
     ensures shorter { TakesSome result (left cursor.old) (left cursor.new) }
 {
     match extend(alloc, cursor, version) {
@@ -259,7 +271,8 @@ fn service_top<'a>(
 ) -> Result<Top<'a>, ReadError>
     ensures found { IfOk result (λ t. left cursor.old ≡ top_then (top_of t) (left cursor.new)) }
     ensures fits { (v : Version) (b : Before) → IfOk result (λ t. top_behind v b (top_of t) ≡ true) }
-    ensures only { (s : tree.Service) (rest : List tokens.Token) → service_fits s ≡ true → left cursor.old ≡ service_then s rest → Reaches top_of (tree.top_service s) rest result (left cursor.new) }
+    ensures only { (s : tree.Service) (rest : List tokens.Token) → service_fits s ≡ true → left cursor.old ≡ service_then s rest →
+        Reaches top_of (tree.top_service s) rest result (left cursor.new) }
     ensures shorter { TakesSome result (left cursor.old) (left cursor.new) }
 {
     match service(alloc, cursor, version) {
@@ -272,12 +285,19 @@ fn service_top<'a>(
 fn option_top<'a>(cursor: &mut Cursor<'_, 'a>, seen: &Seen<'a>) -> Result<Top<'a>, ReadError>
     ensures found { IfOk result (λ t. left cursor.old ≡ top_then (top_of t) (left cursor.new)) }
     ensures fits { (v : Version) → IfOk result (λ t. top_behind v (before_of seen.now) (top_of t) ≡ true) }
-    ensures only { (s : tree.Statement) (rest : List tokens.Token) → may_follow (option_fits places.File) (before_of seen.now).settings s.setting ≡ true → left cursor.old ≡ statement_then s rest → Reaches top_of (tree.top_option s) rest result (left cursor.new) }
+    ensures only { (s : tree.Statement) (rest : List tokens.Token) →
+        may_follow (option_fits places.File) (before_of seen.now).settings s.setting ≡ true → left cursor.old ≡ statement_then s rest →
+        Reaches top_of (tree.top_option s) rest result (left cursor.new) }
     ensures shorter { TakesSome result (left cursor.old) (left cursor.new) }
 {
+    let expected = if cursor.sees_word("edition") {
+        Expected::NoEdition
+    } else {
+        Expected::Top
+    };
     match statement(
         cursor,
-        Expected::Top,
+        expected,
         OptionPlace::File,
         seen.settings.as_slice(),
     ) {
