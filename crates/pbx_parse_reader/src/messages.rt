@@ -13,14 +13,13 @@ ghost use Rattle.pbx_parse_reader.specs.View.{left, sees_word, ends_block, Fails
 
 use crate::blocks::add;
 use crate::cursor::Cursor;
+use crate::enums::enumeration;
 use crate::error::ReadError;
-use crate::fields::field;
-use crate::items::{
-    empty_item, enum_item, extend_item, extensions_item, map_item, oneof_item, option_item,
-    reserved_item,
-};
+use crate::fields::{extend, field, map_field, oneof};
+use crate::parts::statement;
+use crate::ranges::{extensions, reserved};
 use pbx_parse_token::Word;
-use pbx_parse_tree::{Expected, Head, Item, Message, Setting, Version};
+use pbx_parse_tree::{Expected, Head, Item, Message, OptionPlace, Setting, Version};
 use std::alloc::Global;
 
 fn head<'a>(cursor: &mut Cursor<'_, 'a>) -> Result<Head<'a>, ReadError>
@@ -90,14 +89,38 @@ fn plain_item<'a>(
     ensures shorter { TakesSome result (left cursor.old) (left cursor.new) }
 {
     match first_item(cursor) {
-        First::Empty => empty_item(cursor),
-        First::Map => map_item(alloc, cursor),
-        First::Oneof => oneof_item(alloc, cursor, version),
-        First::Enum => enum_item(alloc, cursor, version),
-        First::Extend => extend_item(alloc, cursor, version),
-        First::Extensions => extensions_item(alloc, cursor),
-        First::Reserved => reserved_item(alloc, cursor),
-        First::Option => option_item(cursor, seen),
+        First::Empty => match cursor.mark(b';') {
+            Ok(part) => Ok(Item::Empty(part)),
+            Err(error) => Err(error),
+        },
+        First::Map => match map_field(alloc, cursor) {
+            Ok(part) => Ok(Item::Map(part)),
+            Err(error) => Err(error),
+        },
+        First::Oneof => match oneof(alloc, cursor, version) {
+            Ok(part) => Ok(Item::Oneof(part)),
+            Err(error) => Err(error),
+        },
+        First::Enum => match enumeration(alloc, cursor, version) {
+            Ok(part) => Ok(Item::Enum(part)),
+            Err(error) => Err(error),
+        },
+        First::Extend => match extend(alloc, cursor, version) {
+            Ok(part) => Ok(Item::Extend(part)),
+            Err(error) => Err(error),
+        },
+        First::Extensions => match extensions(alloc, cursor) {
+            Ok(part) => Ok(Item::Extensions(part)),
+            Err(error) => Err(error),
+        },
+        First::Reserved => match reserved(alloc, cursor) {
+            Ok(part) => Ok(Item::Reserved(part)),
+            Err(error) => Err(error),
+        },
+        First::Option => match statement(cursor, Expected::Keyword, OptionPlace::Message, seen) {
+            Ok(part) => Ok(Item::Option(part)),
+            Err(error) => Err(error),
+        },
         First::Field => match field(alloc, cursor, version) {
             Ok(part) => Ok(Item::Field(part)),
             Err(error) => Err(error),

@@ -30,7 +30,7 @@ plain_digit n h = grind (arith, nat_tests)
 -- characters below 128 are their bytes, and no control characters
 record Is (text : List ℕ) : Type 0 where
   bytes : text ≡ encodes text
-  chars : scalars text ≡ true
+  sound : scalars text ≡ true
   plain : list_any is_control text ≡ false
 
 and_true : (a b : Bool) → a ≡ true → b ≡ true → (a && b) ≡ true
@@ -40,13 +40,13 @@ or_false : (a b : Bool) → a ≡ false → b ≡ false → (a || b) ≡ false
 or_false a b p q = ap (λ x. x || b) p ∙ q
 
 nothing : Is []
-nothing = record { bytes = refl; chars = refl; plain = refl }
+nothing = record { bytes = refl; sound = refl; plain = refl }
 
 with_char : (n : ℕ) (text : List ℕ) → n < 128 → is_control n ≡ false → Is text → Is (n ∷ text)
-with_char n text low no is = record {
+with_char n text low seen is = record {
   bytes = ap (λ l. n ∷ l) is.bytes ∙ sym (ap (λ x. x ++ encodes text) (encode_ascii n low));
-  chars = and_true (scalar n) (scalars text) (low_scalar n (omega arith)) is.chars;
-  plain = or_false (is_control n) (list_any is_control text) no is.plain;
+  sound = and_true (scalar n) (scalars text) (low_scalar n (omega arith)) is.sound;
+  plain = or_false (is_control n) (list_any is_control text) seen is.plain;
 }
 
 with_digit : (n : ℕ) (text : List ℕ) → n < 16 → Is text → Is (hexadecimal n ∷ text)
@@ -63,7 +63,7 @@ escape_is : (c : ℕ) → Is (escape c)
 escape_is c = at (c == 10) (c == 13) (c == 9) (nat_lt c 65536)
   where
     two : (n : ℕ) (text : List ℕ) → n < 128 → is_control n ≡ false → Is text → Is (92 ∷ n ∷ text)
-    two n text low no is = with_char 92 _ (omega arith) refl (with_char n text low no is)
+    two n text low seen is = with_char 92 _ (omega arith) refl (with_char n text low seen is)
 
     at : (a b d e : Bool) → Is (if a then codes "\\n" else (if b then codes "\\r" else (if d then codes "\\t" else (if e then codes "\\u" ++ hexadecimals c else codes "\\U" ++ hexadecimals (c / 65536) ++ hexadecimals c))))
     at true b d e = two 110 [] (omega arith) refl nothing
@@ -85,20 +85,20 @@ as_scalars : (c : ℕ) → scalar c ≡ true → scalars (shown_as c) ≡ true
 as_scalars c h = at (is_invisible c)
   where
     at : (v : Bool) → scalars (if v then escape c else c ∷ []) ≡ true
-    at true = (escape_is c).chars
+    at true = (escape_is c).sound
     at false = ap (λ x. x && true) h
 
 -- a character that is not invisible is no control character
-seen : (a b : Bool) → (a || b) ≡ false → a ≡ false
-seen true b e = e
-seen false b e = refl
+left_false : (a b : Bool) → (a || b) ≡ false → a ≡ false
+left_false true b e = e
+left_false false b e = refl
 
 as_plain : (c : ℕ) → list_any is_control (shown_as c) ≡ false
 as_plain c = at (is_invisible c) refl
   where
     at : (v : Bool) → is_invisible c ≡ v → list_any is_control (if v then escape c else c ∷ []) ≡ false
     at true e = (escape_is c).plain
-    at false e = ap (λ x. x || false) (seen (is_control c) _ e)
+    at false e = ap (λ x. x || false) (left_false (is_control c) _ e)
 
 -- ---- what stands for a text
 
