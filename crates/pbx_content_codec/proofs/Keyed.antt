@@ -251,6 +251,14 @@ order_down xs i a b more le e h =
     (sym (ap (λ (n : ℕ). drop n xs) here ∙ one ∙ ap (λ (ys : List Pair). get_or xs (i - 2) a ∷ ys) two))
     (order_more (pair_of (get_or xs (i - 2) a)).0 (pair_of (get_or xs (i - 2) a)).1 (pair_of (get_or xs (i - 1) b)) tail e behind)
 
+-- neighbours of pairs in order are so
+pub order_at : (xs : List Pair) (i : ℕ) (a b : Pair) → suc i < length xs → AreInOrder (map pair_of xs)
+    → key_before (pair_of (get_or xs i a)).0 (pair_of (get_or xs (suc i) b)).0 ≡ true
+order_at [] i a b lt h = absurd (omega arith)
+order_at (x ∷ []) i a b lt h = absurd (omega arith)
+order_at (x ∷ y ∷ ys) zero a b lt h = h.0.0
+order_at (x ∷ y ∷ ys) (suc i) a b lt h = order_at (y ∷ ys) i a b (omega arith) h.1
+
 map_at : {A B : Type 0} (f : A → B) (xs : List A) (i : ℕ) (d : A) → get_or (map f xs) i (f d) ≡ f (get_or xs i d)
 map_at f [] i d = refl
 map_at f (x ∷ xs) zero d = refl

@@ -6,6 +6,7 @@
 mod contents;
 mod copying;
 mod decoding;
+mod defaults;
 mod encoding;
 mod fields;
 mod key;
@@ -21,7 +22,9 @@ mod writing;
 
 pub use contents::{Contents, Held, Pair};
 pub use decoding::{decode, decode_parts, decode_within, merge};
+pub use defaults::{first_value, is_default, kind_default, unless_default};
 pub use encoding::content_records;
 pub use key::MapKey;
 pub use levels::depth;
+pub use pairs::{are_in_order, put_pair};
 pub use writing::encode;

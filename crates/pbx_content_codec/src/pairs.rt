@@ -7,11 +7,10 @@ ghost use Rattle.pbx_content_codec.specs.View.{content_of, val_of, key_of, pair_
 ghost use Rattle.pbx_content_codec.specs.Keyed.{number_in, AreInOrder, IsPlaceOf, stands_at as stands_at_of};
 
 use crate::contents::{Contents, Held, Pair};
+use crate::defaults::kind_default;
 use crate::key::MapKey;
-use crate::scalars::zero_number;
-use bytes::Bytes;
 use pbx_content::{Kind, Schema};
-use pbx_wire::{List, NoMemory, Text};
+use pbx_wire::{List, NoMemory};
 use std::alloc::Global;
 
 /// The number that a key is; of a key that is none 0.
@@ -84,8 +83,9 @@ fn stands_at(pairs: &[Pair], place: usize, key: &MapKey) -> bool
     !is_before(key, &pairs[place].key)
 }
 
-/// The pairs with this one at its key, in the place of the one that is there.
-fn put_pair(pairs: &mut List<Pair>, key: MapKey, held: Held) -> Result<(), NoMemory>
+/// Puts the pair at its key, in the place of the one that is there: log n comparisons, and the pairs of greater keys move
+/// down where the key is new. The only error is want of memory, and what the list then holds is left open.
+pub fn put_pair(pairs: &mut List<Pair>, key: MapKey, held: Held) -> Result<(), NoMemory>
     requires { AreInOrder (map pair_of pairs.old) }
     ensures { OnOk result (pairs_of (map pair_of pairs.new) ≡ by_key_of (map pair_of pairs.old ++ (key_of key, val_of held) ∷ [])) }
 {
@@ -114,8 +114,9 @@ fn replace_pair(pairs: &mut List<Pair>, place: usize, pair: Pair) -> Result<(), 
 }
 
 /// Whether each key comes before the next.
-pub(crate) fn are_in_order(pairs: &[Pair]) -> bool
-    ensures { result ≡ true → AreInOrder (map pair_of pairs.now) }
+pub fn are_in_order(pairs: &[Pair]) -> bool
+    ensures order { result ≡ true → AreInOrder (map pair_of pairs.now) }
+    ensures always { AreInOrder (map pair_of pairs.now) → result ≡ true }
 {
     let mut place = pairs.len();
     while place > 1 {
@@ -164,30 +165,13 @@ fn key_held(held: Held) -> MapKey
     }
 }
 
-/// The default of a kind.
-fn zero(alloc: Global, schema: &Schema, kind: Kind) -> Result<Held, NoMemory>
-    ensures { IfOk result (λ held. val_of held ≡ zero_of schema.now kind) }
-{
-    match kind {
-        Kind::Bool => Ok(Held::Bool(false)),
-        Kind::String => Ok(Held::Text(Text::from_str(alloc, "")?)),
-        Kind::Bytes => Ok(Held::Bytes(Bytes::copy_from_slice(alloc, &[])?)),
-        Kind::Message(_) => Ok(Held::Message(Contents::new(alloc))),
-        Kind::Enum(_) => Ok(Held::I32(zero_number(schema, kind))),
-        Kind::Int64 | Kind::Sint64 | Kind::Sfixed64 => Ok(Held::I64(0)),
-        Kind::Uint32 | Kind::Fixed32 => Ok(Held::U32(0)),
-        Kind::Uint64 | Kind::Fixed64 => Ok(Held::U64(0)),
-        _ => Ok(Held::I32(0)),
-    }
-}
-
 /// The value, or the default of the kind where there is none.
 fn or_zero(alloc: Global, schema: &Schema, kind: Kind, held: Option<Held>) -> Result<Held, NoMemory>
     ensures { IfOk result (λ value. val_of value ≡ or_else (option_map val_of held) (zero_of schema.now kind)) }
 {
     match held {
         Some(held) => Ok(held),
-        None => zero(alloc, schema, kind),
+        None => kind_default(alloc, schema, kind),
     }
 }
 

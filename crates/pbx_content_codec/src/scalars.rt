@@ -1,17 +1,13 @@
-ghost use Rattle.std.specs.Prelude.{◌≡◌, map, Some, option_map};
+ghost use Rattle.std.specs.Prelude.{◌≡◌, map, option_map};
 ghost use Rattle.pbx_wire.specs.View.{rec_of};
-ghost use Rattle.pbx_content.specs.Shape.{form_of, as_varint, as_four, as_eight, first_number, first_of as first_of_values};
-ghost use Rattle.std.specs.Ordering.{int_eq};
-ghost use Rattle.std.specs.Int.{w32};
-ghost use Rattle.std.specs.Int.RustNames.{FitsSigned};
-ghost use Rattle.std.specs.Prelude.{pos};
-ghost use Rattle.pbx_content.specs.Meaning.{numeric, number_in, unzigzag, zero_number as zero_number_of, is_default as is_default_of, shown as shown_of};
+ghost use Rattle.pbx_content.specs.Shape.{form_of, as_varint, as_four, as_eight};
+ghost use Rattle.pbx_content.specs.Meaning.{numeric, number_in, unzigzag};
 ghost use Rattle.pbx_content.specs.Onto.{elements as elements_of};
 ghost use Rattle.pbx_content_codec.specs.View.{val_of};
 
 use crate::contents::Held;
 use crate::fields::{Form, form_of_kind};
-use pbx_content::{EnumShape, Kind, Schema};
+use pbx_content::Kind;
 use pbx_wire::{List, RecRef};
 use std::alloc::Global;
 
@@ -86,81 +82,6 @@ pub(crate) fn number_alone(kind: Kind, rec: &RecRef<'_>) -> Option<Held>
             _ => None,
         },
         Form::Payload => None,
-    }
-}
-
-/// The number of the default of a kind.
-pub(crate) fn zero_number(schema: &Schema, kind: Kind) -> i32
-    ensures { result ≡ zero_number_of schema.now kind }
-{
-    match kind {
-        Kind::Enum(enum_at) => first_value(schema, enum_at),
-        _ => 0,
-    }
-}
-
-/// The number of the first value.
-fn first_of(shape: &EnumShape) -> i32
-    ensures is { result ≡ first_of_values shape.now.values }
-    ensures fits { FitsSigned w32 result }
-{
-    match shape.values.as_slice().first() {
-        Some(value) => value.number,
-        None => 0,
-    }
-}
-
-/// The number of an enum's first value.
-fn first_value(schema: &Schema, enum_at: usize) -> i32
-    ensures { result ≡ first_number schema.now enum_at }
-{
-    let enums = schema.shape().enums.as_slice();
-    if enum_at >= enums.len() {
-        return 0;
-    }
-    first_of(&enums[enum_at])
-}
-
-/// Whether the value is the kind's default.
-#[tactic(auto, using(crate::proofs::Tree::default_many, crate::proofs::Tree::default_pairs))]
-fn is_default(schema: &Schema, kind: Kind, held: &Held) -> bool
-    ensures { result ≡ is_default_of schema.now kind (val_of held.now) }
-{
-    match held {
-        Held::I32(value) => *value == zero_number(schema, kind),
-        Held::I64(value) => *value == i64::from(zero_number(schema, kind)),
-        Held::U32(value) => i64::from(*value) == i64::from(zero_number(schema, kind)),
-        Held::U64(value) => is_zero(zero_number(schema, kind), *value),
-        Held::Bool(value) => !*value,
-        Held::Text(text) => text.as_str().is_empty(),
-        Held::Bytes(bytes) => bytes.is_empty(),
-        Held::Message(_) => false,
-        Held::Many(many) => many.as_slice().is_empty(),
-        Held::Pairs(pairs) => pairs.as_slice().is_empty(),
-    }
-}
-
-/// Whether the numbers are equal.
-fn is_zero(zero: i32, value: u64) -> bool
-    ensures { result ≡ int_eq (pos value) zero }
-{
-    match u64::try_from(zero) {
-        Ok(zero) => zero == value,
-        Err(_) => false,
-    }
-}
-
-/// The value, where it is shown: without presence a default is no value.
-pub(crate) fn shown(schema: &Schema, presence: bool, kind: Kind, held: Held) -> Option<Held>
-    ensures { option_map val_of result ≡ shown_of schema.now presence kind (Some (val_of held)) }
-{
-    if presence {
-        Some(held)
-    } else if is_default(schema, kind, &held) {
-        drop(held);
-        None
-    } else {
-        Some(held)
     }
 }
 

@@ -10,9 +10,10 @@ ghost use Rattle.pbx_content_codec.specs.Fields.{field_like};
 ghost use Rattle.pbx_content_codec.specs.Stability.{stabilized_at, stabilized_by, HasStable, IsStableAt, IsStableTo, IsStabilizedFrom, IsStabilizedUnless};
 
 use crate::contents::{Contents, Held};
+use crate::defaults::unless_default;
 use crate::fields::{FieldView, Owner, is_float, view_in};
 use crate::pairs::{are_in_order, by_key, pairs_held};
-use crate::scalars::{list_held, shown};
+use crate::scalars::list_held;
 use pbx_content::{Cardinality, Kind, Schema};
 use pbx_content_map::NumberMap;
 use pbx_wire::NoMemory;
@@ -116,11 +117,11 @@ fn stabilized_value(
         Cardinality::Singular => Ok(Some(held)),
         Cardinality::Repeated => {
             let many = list_held(alloc, Some(held));
-            Ok(shown(schema, false, view.kind, Held::Many(many)))
+            Ok(unless_default(schema, false, view.kind, Held::Many(many)))
         }
         Cardinality::Map(_) => {
             let pairs = by_key(alloc, pairs_held(alloc, Some(held)))?;
-            Ok(shown(schema, false, view.kind, Held::Pairs(pairs)))
+            Ok(unless_default(schema, false, view.kind, Held::Pairs(pairs)))
         }
     }
 }

@@ -15,8 +15,9 @@ ghost use Rattle.pbx_content_codec.specs.View.{val_of};
 ghost use Rattle.pbx_content_codec.specs.Breaks.{front_number, AloneFails, PackedFails, SpreadFails};
 
 use crate::contents::Held;
+use crate::defaults::unless_default;
 use crate::fields::{Form, form_of_kind, is_packable};
-use crate::scalars::{from_eight, from_four, from_varint, list_held, number_alone, shown};
+use crate::scalars::{from_eight, from_four, from_varint, list_held, number_alone};
 use bytes::Bytes;
 use pbx_content::{Kind, Schema};
 use pbx_wire::{DecodeError, List, RecRef, Text, read_varint};
@@ -265,7 +266,7 @@ pub(crate) fn set_value(
 {
     match alone(alloc, kind, at, rec) {
         Ok(new) => {
-            *held = shown(schema, presence, kind, new);
+            *held = unless_default(schema, presence, kind, new);
             Ok(())
         }
         Err(fault) => Err(fault),
@@ -289,7 +290,7 @@ pub(crate) fn add_values(
 {
     match push_values(alloc, kind, at, rec, list_held(alloc, held.take())) {
         Ok(many) => {
-            *held = shown(schema, false, kind, Held::Many(many));
+            *held = unless_default(schema, false, kind, Held::Many(many));
             Ok(())
         }
         Err(fault) => Err(fault),

@@ -1,12 +1,13 @@
 //! The text of a content, written as it is read off the tree: no record is made where none has to be put in order.
 
 ghost use Rattle.std.specs.Prelude.{◌≡◌, [], ◌∷◌, ◌++◌, ◌^◌, ◌<◌, map, Some, IfOk, OnOk};
+ghost use Rattle.pbx_wire.specs.declared.rec.Rec.TheVariants as rec;
 ghost use Rattle.pbx_wire.specs.Text.{text as text_of_rec, text_of};
 ghost use Rattle.pbx_content_map.specs.Entries.{IsAscending};
 ghost use Rattle.pbx_content.specs.Content.{vals_of, pairs_of};
 ghost use Rattle.pbx_content.specs.Shape.{fields_of, form_of, as_four};
 ghost use Rattle.pbx_content.specs.Encoding.{encoded, fields_recs, field_recs, vals_recs, pairs_recs, val_rec};
-ghost use Rattle.pbx_content.specs.Encoding.{key_rec, keys_of, payload, number_rec, numeral as numeral_of};
+ghost use Rattle.pbx_content.specs.Encoding.{key_rec, keys_of, payload, number_rec, packed_text, numeral as numeral_of};
 ghost use Rattle.pbx_content_codec.specs.View.{val_of, content_of, entry_of, pair_of, key_of, fields_in};
 
 use crate::contents::{Contents, Held, Pair};
@@ -51,6 +52,28 @@ fn put_key(out: &mut Blob, kind: Kind, key: &MapKey) -> Result<(), NoMemory>
         MapKey::U64(value) => put_number(out, 1, kind, unsigned_number(kind, *value)),
         MapKey::String(text) => put_bytes_rec(out, 1, text.as_str().as_bytes()),
     }
+}
+
+/// The text of the key alone, in which that of the value is to follow.
+fn key_text(alloc: Global, kind: Kind, key: &MapKey) -> Result<Blob, NoMemory>
+    ensures { IfOk result (λ text. text ≡ text_of_rec (key_rec kind (key_of key.now))) }
+{
+    let mut text = Blob::with_capacity(alloc, SHORT)?;
+    put_key(&mut text, kind, key)?;
+    Ok(text)
+}
+
+/// The one record of a list of numbers.
+fn put_packed(
+    out: &mut Blob,
+    alloc: Global,
+    field: &FieldShape,
+    many: &List<Held>,
+) -> Result<(), NoMemory>
+    ensures { OnOk result (out.new ≡ out.old ++ text_of_rec (rec.Bytes field.now.number (packed_text field.now.kind (vals_of (map val_of many.now))))) }
+{
+    let payload = packed_payload(alloc, field.kind, many.as_slice())?;
+    put_bytes_rec(out, field.number, payload.as_slice())
 }
 
 /// A number or truth value at a number; of another value 0.
@@ -114,10 +137,11 @@ fn put_pair(
     ensures { OnOk result (out.new ≡ out.old
         ++ text_of_rec (payload number (key_rec key (pair_of pair.now).0 ∷ val_rec schema.now 2 value (pair_of pair.now).1 ∷ []))) }
 {
-    let mut entry = Blob::with_capacity(alloc, SHORT)?;
-    put_key(&mut entry, key, &pair.key)?;
-    put_held(&pair.held, alloc, schema, 2, value, room, &mut entry)?;
-    put_bytes_rec(out, number, entry.as_slice())
+    let mut entry = key_text(alloc, key, &pair.key)?;
+    match put_held(&pair.held, alloc, schema, 2, value, room, &mut entry) {
+        Ok(()) => put_bytes_rec(out, number, entry.as_slice()),
+        Err(error) => Err(error),
+    }
 }
 
 /// A record for each value of a list.
@@ -182,8 +206,7 @@ fn put_value(
     match held {
         Held::Many(many) => {
             if is_packed(field) {
-                let payload = packed_payload(alloc, field.kind, many.as_slice())?;
-                put_bytes_rec(out, field.number, payload.as_slice())
+                put_packed(out, alloc, field, many)
             } else {
                 put_many(many, alloc, schema, field, room, out)
             }

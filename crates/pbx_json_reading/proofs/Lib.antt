@@ -2,7 +2,6 @@ pub mod Numbers
 pub mod Found
 pub mod EntryKeys
 pub mod Moved
-pub mod Pairs
 pub mod Tree
 pub mod Names
 pub mod Empty

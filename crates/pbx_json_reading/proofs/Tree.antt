@@ -20,20 +20,6 @@ val_of-Many hs = search (rules, the_lemmas)
 pub val_of-Pairs : (ps : List Pair) → val_of (held.Pairs ps) ≡ keyed (pairs_of (map pair_of ps))
 val_of-Pairs ps = search (rules, the_lemmas)
 
-pub default_many : (shape : Shape) (k : Kind) (hs : List Held) → is_default shape k (val_of (held.Many hs)) ≡ (length hs == 0)
-default_many shape k hs = rw (val_of-Many hs) (at hs)
-  where
-    at : (hs : List Held) → is_default shape k (many (vals_of (map val_of hs))) ≡ (length hs == 0)
-    at [] = refl
-    at (h ∷ hs) = sym (eqb-suc-zero (length hs))
-
-pub default_pairs : (shape : Shape) (k : Kind) (ps : List Pair) → is_default shape k (val_of (held.Pairs ps)) ≡ (length ps == 0)
-default_pairs shape k ps = rw (val_of-Pairs ps) (at ps)
-  where
-    at : (ps : List Pair) → is_default shape k (keyed (pairs_of (map pair_of ps))) ≡ (length ps == 0)
-    at [] = refl
-    at (p ∷ ps) = sym (eqb-suc-zero (length ps))
-
 pub val_of_text : (t : Text) → val_of (held.Text t) ≡ text t
 val_of_text t = search (rules, the_lemmas)
 

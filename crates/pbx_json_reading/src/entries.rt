@@ -1,14 +1,14 @@
 // What is kept while the keys of an object of entries are read.
-ghost use Rattle.std.specs.Prelude.{◌≡◌, ◌++◌, ◌∷◌, [], Some, true, OnOk, IfOk, IfSome, option_map, map, ◌≤◌, ◌<◌, length, insert, remove};
+ghost use Rattle.std.specs.Prelude.{◌≡◌, Some, OnOk, IfOk, IfSome, option_map, map};
 ghost use Rattle.std.specs.Int.{w128};
 ghost use Rattle.std.specs.Int.RustNames.{FitsSigned};
-ghost use Rattle.pbx_content.specs.Content.{key_before, bytes_before as bytes_before_of, by_key as by_key_of, pairs_of};
+ghost use Rattle.pbx_content.specs.Content.{by_key as by_key_of, pairs_of};
 ghost use Rattle.pbx_content_codec.specs.View.{val_of, key_of, pair_of};
-ghost use Rattle.pbx_content_codec.specs.Keyed.{number_in, AreInOrder, IsPlaceOf, stands_at as stands_at_of};
+ghost use Rattle.pbx_content_codec.specs.Keyed.{number_in};
 ghost use Rattle.pbx_json_walk.specs.Walk.{no_entries, is_used as is_used_of, number_of_key, with_used, with_pair_of, with_entry, map_value};
 ghost use Rattle.pbx_json_reading.specs.States.{entries_of};
 
-use pbx_content_codec::{Held, MapKey, Pair};
+use pbx_content_codec::{Held, MapKey, Pair, are_in_order, put_pair};
 use pbx_wire::{List, NoMemory};
 use std::alloc::Global;
 use std::collections::BTreeSet;
@@ -108,113 +108,6 @@ fn number_or_zero(key: &MapKey) -> i128
         Some(number) => number,
         None => 0,
     }
-}
-
-/// Whether the first bytes come before the others.
-fn bytes_before(a: &[u8], b: &[u8]) -> bool
-    ensures { result ≡ bytes_before_of a.now b.now }
-{
-    a < b
-}
-
-/// Whether the first key comes before the other.
-fn is_before(a: &MapKey, b: &MapKey) -> bool
-    ensures { result ≡ key_before (key_of a.now) (key_of b.now) }
-{
-    match a {
-        MapKey::Bool(x) => match b {
-            MapKey::Bool(y) => !*x && *y,
-            _ => true,
-        },
-        MapKey::String(x) => match b {
-            MapKey::String(y) => bytes_before(x.as_str().as_bytes(), y.as_str().as_bytes()),
-            _ => false,
-        },
-        _ => match b {
-            MapKey::Bool(_) => false,
-            MapKey::String(_) => true,
-            _ => number_or_zero(a) < number_or_zero(b),
-        },
-    }
-}
-
-/// How many keys come before this one: by one comparison where all do, and by log n where not.
-fn place_of(pairs: &[Pair], key: &MapKey) -> usize
-    requires { AreInOrder (map pair_of pairs.now) }
-    ensures { IsPlaceOf (key_of key.now) result (map pair_of pairs.now) }
-{
-    let mut low = 0;
-    let mut high = pairs.len();
-    while low < high {
-        let middle = low + (high - low) / 2;
-        if is_before(&pairs[middle].key, key) {
-            low = middle + 1;
-        } else {
-            high = middle;
-        }
-    }
-    low
-}
-
-/// Whether the key stands at the place, where those before it come before the key.
-fn stands_at(pairs: &[Pair], place: usize, key: &MapKey) -> bool
-    ensures { result ≡ stands_at_of (key_of key.now) place (map pair_of pairs.now) }
-{
-    if place >= pairs.len() {
-        return false;
-    }
-    !is_before(key, &pairs[place].key)
-}
-
-/// The pairs with this one at its key, in the place of the one that is there.
-fn put_pair(pairs: &mut List<Pair>, key: MapKey, held: Held) -> Result<(), NoMemory>
-    requires { AreInOrder (map pair_of pairs.old) }
-    ensures { OnOk result (pairs_of (map pair_of pairs.new) ≡ by_key_of (map pair_of pairs.old ++ (key_of key, val_of held) ∷ [])) }
-{
-    let place = place_of(pairs.as_slice(), &key);
-    if stands_at(pairs.as_slice(), place, &key) {
-        return replace_pair(pairs, place, Pair { key, held });
-    }
-    insert_pair(pairs, place, Pair { key, held })
-}
-
-/// The pairs with this one at the place.
-fn insert_pair(pairs: &mut List<Pair>, place: usize, pair: Pair) -> Result<(), NoMemory>
-    requires { place ≤ length pairs.old }
-    ensures { OnOk result (pairs.new ≡ insert pairs.old place pair) }
-{
-    pairs.insert(place, pair)
-}
-
-/// The pairs with this one in the place of another.
-fn replace_pair(pairs: &mut List<Pair>, place: usize, pair: Pair) -> Result<(), NoMemory>
-    requires { place < length pairs.old }
-    ensures { OnOk result (pairs.new ≡ insert (remove pairs.old place) place pair) }
-{
-    drop_pair(pairs, place);
-    pairs.insert(place, pair)
-}
-
-/// Drops the pair at the place.
-fn drop_pair(pairs: &mut List<Pair>, place: usize)
-    requires { place < length pairs.old }
-    ensures { pairs.new ≡ remove pairs.old place }
-{
-    pairs.remove(place);
-}
-
-/// Whether each key comes before the next.
-fn are_in_order(pairs: &[Pair]) -> bool
-    ensures { result ≡ true → AreInOrder (map pair_of pairs.now) }
-{
-    let mut place = pairs.len();
-    while place > 1 {
-        if !is_before(&pairs[place - 2].key, &pairs[place - 1].key) {
-            return false;
-        }
-        place -= 1;
-    }
-    true
 }
 
 /// The pairs by the numbers that their keys are, and those of one number in their order.

@@ -17,7 +17,7 @@ ghost use Rattle.pbx_json_schema.specs.Index.{AreNamesIn};
 ghost use Rattle.pbx_json_reading.specs.Holders.{has_any_parts, own_of};
 ghost use Rattle.pbx_json_reading.specs.Entries.{entry_at};
 
-use crate::defaults::shown;
+use crate::defaults::unless_field_default;
 use crate::holders::{Holder, Own, read_value_tree};
 use crate::payload::read_any_tree;
 use crate::{contents_with, read_scalar};
@@ -46,7 +46,7 @@ fn shown_at(schema: &Schema, place: usize, number: u32, held: Held) -> Option<He
     ensures { option_map val_of result ≡ shown_at_of schema.now (field_of number (fields_of schema.now place)) (val_of held) }
 {
     match schema.field_of(place, number) {
-        Some(field) => shown(schema, field, Some(held)),
+        Some(field) => unless_field_default(schema, field, Some(held)),
         None => {
             drop(held);
             None

@@ -10,7 +10,7 @@ ghost use Rattle.pbx_json_meaning.specs.declared.kind.JsonKind.TheVariants.{NoMe
 ghost use Rattle.pbx_json_reading.specs.Holders.{own_of, held_in};
 
 use crate::at_tree;
-use crate::defaults::unless_default;
+use crate::defaults::unless_kind_default;
 use crate::forms::holding;
 use pbx_content::{Kind, Schema};
 use pbx_content_codec::{Contents, Held};
@@ -194,7 +194,12 @@ pub(crate) fn hold(
     ensures ok { IfOk result (λ c. content_of c ≡ held_in schema.now holder (shown schema.now false kind (option_map val_of held))) }
     ensures err { IfErr result (λ e. e.kind ≡ OutOfMemory) }
 {
-    match held_contents(alloc, schema, holder, unless_default(schema, kind, held)) {
+    match held_contents(
+        alloc,
+        schema,
+        holder,
+        unless_kind_default(schema, kind, held),
+    ) {
         Ok(contents) => Ok(contents),
         Err(_) => Err(at_tree(alloc, JsonKind::NoMemory)),
     }

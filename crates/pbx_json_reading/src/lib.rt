@@ -18,7 +18,7 @@ mod state;
 mod steps;
 mod told;
 
-pub(crate) use defaults::shown;
+pub(crate) use defaults::unless_field_default;
 pub(crate) use entries::MapEntries;
 pub(crate) use fault::{at_key, at_tree, below_index, below_key};
 pub(crate) use forms::{read_own, skips_keys};

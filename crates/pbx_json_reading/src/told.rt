@@ -19,7 +19,7 @@ ghost use Rattle.pbx_json_reading.specs.Results.{IsResultOf};
 use crate::reading::Reading;
 use crate::{
     Holder, MapEntries, ObjectState, Packing, add_entry, add_value, at_key, at_tree, below_index,
-    below_key, hold, is_type_key, note_at, pack, read_scalar, shown,
+    below_key, hold, is_type_key, note_at, pack, read_scalar, unless_field_default,
 };
 use pbx_content::{FieldShape, Kind};
 use pbx_content_codec::{Contents, Held, MapKey};
@@ -103,7 +103,7 @@ pub(crate) fn shown_read(
         → IsResultOf (option_map val_of) (answer_map (shown_of reading.now.schema.now (has_presence field.now) field.now.kind) a) result }
 {
     match read {
-        Ok(held) => Ok(shown(reading.schema, field, held)),
+        Ok(held) => Ok(unless_field_default(reading.schema, field, held)),
         Err(error) => Err(error),
     }
 }

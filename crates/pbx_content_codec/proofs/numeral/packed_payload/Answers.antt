@@ -1,7 +1,6 @@
 use Rattle.std.proofs.Common.{◌≡◌, ℕ, List, map, IfOk, subst, sym, ap, ◌∙◌}
 use Rattle.std.specs.List.{concat}
 use Rattle.std.specs.Int.{w32, w64, to_le_bytes}
-use Rattle.pbx_wire.specs.Varint.{varint}
 use Rattle.pbx_content.specs.Shape.{as_varint, as_four, as_eight}
 use Rattle.pbx_content_codec.specs.Fields.{form_in}
 use Rattle.pbx_content_codec.proofs.EncodedNumbers.{packed_as, nothing_packed}

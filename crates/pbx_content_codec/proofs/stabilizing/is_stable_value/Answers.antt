@@ -14,4 +14,4 @@ pub returns-then-not-is_empty : goal.returns-then-not-is_empty
 returns-then-not-is_empty c = λ ordered shape.
     rw (c.in-Map.is, c.in-Pairs.is)
     (pairs_stay shape (field_like c.args.view) c.in-Map.field-0 c.in-Pairs.pairs
-    (not_empty c.is_empty-in-Pairs.result c.in-Pairs.pairs c.is_empty-in-Pairs.ensures c.if-not-is_empty.true) (rw c.as_slice.ensures at c.are_in_order.ensures ordered))
+    (not_empty c.is_empty-in-Pairs.result c.in-Pairs.pairs c.is_empty-in-Pairs.ensures c.if-not-is_empty.true) (rw c.as_slice.ensures at c.are_in_order.ensures.order ordered))

@@ -10,5 +10,5 @@ pub returns-in_ok-pairs-in-Map : goal.returns-in_ok-pairs-in-Map
 returns-in_ok-pairs-in-Map c =
     let sorted : pairs_of (map pair_of c.in_ok-pairs-in-Map.pairs) ≡ by_key (pairs_held (Some (val_of c.args.held))) =
     c.in_ok-pairs-in-Map.ensures ∙ ap by_key c.pairs_held.ensures in
-    rw c.in-Map.is (c.shown-in-Map.ensures
+    rw c.in-Map.is (c.unless_default-in-Map.ensures
     ∙ ap (λ (v : Val). shown c.args.schema.now false c.args.view.kind (Some v)) (val_of-Pairs c.in_ok-pairs-in-Map.pairs ∙ ap keyed sorted))

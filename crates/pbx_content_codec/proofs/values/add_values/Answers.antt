@@ -17,4 +17,4 @@ returns-in-Ok-clause-found c =
     (spread c.args.schema.now no_inner c.args.kind (rec_of c.args.rec.now))
     (rw c.list_held.ensures at c.in-Ok.ensures.found c.args.schema.now)
     ∙ ap (λ (x : Option Val). Some x)
-    (sym (c.shown.ensures ∙ ap (λ (x : Val). shown c.args.schema.now false c.args.kind (Some x)) (val_of-Many c.in-Ok.many)))
+    (sym (c.unless_default.ensures ∙ ap (λ (x : Val). shown c.args.schema.now false c.args.kind (Some x)) (val_of-Many c.in-Ok.many)))

@@ -5,7 +5,7 @@ use Rattle.pbx_content.specs.declared.shape.EnumShape.{EnumShape}
 use Rattle.pbx_content.specs.declared.shape.Shape.{Shape}
 use Rattle.pbx_content.specs.Shape.{first_of, enum_values_at}
 use Rattle.pbx_content_codec.proofs.Tree.{values_here, no_values}
-use Rattle.pbx_content_codec.proofs.scalars.first_value.Goals as goal
+use Rattle.pbx_content_codec.proofs.defaults.first_value.Goals as goal
 
 pub returns-then-enum_at-enums : goal.returns-then-enum_at-enums
 returns-then-enum_at-enums c =
