@@ -91,7 +91,18 @@ class Pool:
 
     def service(self, name):
         service = self.pool.FindServiceByName(name)
-        return name + "".join(f"({method.name} {method.input_type.full_name} {method.output_type.full_name})" for method in service.methods)
+        return name + "".join(self.method(method) for method in service.methods)
+
+    def method(self, method):
+        takes = "stream " * method.client_streaming + method.input_type.full_name
+        gives = "stream " * method.server_streaming + method.output_type.full_name
+        return f"({method.name} {takes} {gives})"
+
+    def declared(self, name):
+        """What a file declares outside of messages, by kind, each in declared order."""
+        file = self.pool.FindFileByName(name)
+        told = [("message", file.message_types_by_name), ("enum", file.enum_types_by_name), ("extension", file.extensions_by_name), ("service", file.services_by_name)]
+        return "".join(f"({kind} {part.full_name})" for kind, parts in told for part in parts.values())
 
     def names(self, kind):
         """The full names of the messages, or of the parts of another kind, in the order of the records."""

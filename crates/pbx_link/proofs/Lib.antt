@@ -14,3 +14,4 @@ pub mod Extended
 pub mod Members
 pub mod Placed
 pub mod Added
+pub mod Tops

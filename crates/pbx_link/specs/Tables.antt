@@ -1,5 +1,5 @@
 -- What a pool and its descriptors hold. Only bodies and their private contracts speak of it.
-use Rattle.std.specs.Prelude.{ℕ, ℤ, pos, negsuc, List, [], map, filter, drop, Option, None, Some, slice_index_or}
+use Rattle.std.specs.Prelude.{ℕ, ℤ, pos, negsuc, ◌==◌, List, [], length, map, filter, drop, Bool, Option, None, Some, slice_index_or}
 use Rattle.std.specs.List.{flat_map}
 use Rattle.pbx_desc_records.specs.declared.enumeration.EnumDescriptorProto.{EnumDescriptorProto}
 use Rattle.pbx_desc_records.specs.declared.enumeration.EnumValueDescriptorProto.{EnumValueDescriptorProto}
@@ -11,13 +11,13 @@ use Rattle.pbx_desc_records.specs.declared.service.MethodDescriptorProto.{Method
 use Rattle.pbx_desc_records.specs.declared.service.ServiceDescriptorProto.{ServiceDescriptorProto}
 use Rattle.pbx_link_definitions.specs.Names.{is_named, dotted}
 use Rattle.pbx_link_definitions.specs.Says.{is_number}
-use Rattle.pbx_link_definitions.specs.Definitions.{Part, messages, extensions}
-use Rattle.pbx_link_meaning.specs.Descriptors.{Described, described, fields_of_message}
+use Rattle.pbx_link_definitions.specs.Definitions.{Part, messages, extensions, services}
+use Rattle.pbx_link_meaning.specs.Descriptors.{FileDescribed, Described, described, in_file, fields_of_message}
 
 -- the files of a pool that is there, and none where there is no pool
-abbrev pub held : Option (List FileDescriptorProto) → List FileDescriptorProto
-held None = []
-held (Some files) = files
+abbrev pub files_of : Option (List FileDescriptorProto) → List FileDescriptorProto
+files_of None = []
+files_of (Some files) = files
 
 -- the part at an index, and an empty one where there is none
 abbrev pub part_at : {X : Type 0} → X → List (Part X) → ℕ → Part X
@@ -40,6 +40,18 @@ messages_from pool file index = told_from messages pool file index
 -- the extensions
 abbrev pub extensions_from : List FileDescriptorProto → ℕ → ℕ → List (Described FieldDescriptorProto)
 extensions_from pool file index = told_from extensions pool file index
+
+-- the services
+abbrev pub services_from : List FileDescriptorProto → ℕ → ℕ → List (Described ServiceDescriptorProto)
+services_from pool file index = told_from services pool file index
+
+-- the message stands in no other: its place is a field number and an index
+abbrev pub is_top : Part DescriptorProto → Bool
+is_top p = length p.place == 2
+
+-- the messages of a file from an index on that stand in no other
+abbrev pub tops_from : FileDescriptorProto → ℕ → List (Part DescriptorProto)
+tops_from f index = filter is_top (drop index (messages f))
 
 -- those that extend the message of this full name
 abbrev pub extending : List ℕ → List (Described FieldDescriptorProto) → List (Described FieldDescriptorProto)

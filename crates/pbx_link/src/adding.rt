@@ -6,9 +6,9 @@ ghost use Rattle.pbx_link_rules.specs.Breaches.{keeps_rules};
 ghost use Rattle.pbx_link_rules.specs.Pool.{with_file};
 ghost use Rattle.pbx_link_pool.specs.Refused.{IsRefused as IsRefusedByPool};
 ghost use Rattle.pbx_link.specs.Pool.{IsRefused};
-ghost use Rattle.pbx_link.specs.Tables.{held};
+ghost use Rattle.pbx_link.specs.Tables.{files_of};
 
-use crate::held::HeldPool;
+use crate::handle::PoolHandle;
 use crate::pool::DescriptorPool;
 use pbx_desc_records::FileDescriptorProto;
 use pbx_link_definitions::{DescriptorError, text_or_empty};
@@ -18,8 +18,15 @@ use pbx_shared::{Shared, Unique};
 use pbx_wire::{NoMemory, Text};
 use std::alloc::Global;
 
-/// The refusal of the file of this name.
-fn told(file: Text, refusal: Refusal) -> DescriptorError
+/// A pool, and what came of adding a file to it.
+#[derive(Drop)]
+struct Addition<P> {
+    pool: P,
+    outcome: Result<(), Refusal>,
+}
+
+/// The error of a pool that refuses the file of this name.
+fn descriptor_error(file: Text, refusal: Refusal) -> DescriptorError
     ensures { (files : ListOf FileRecord) (f : FileRecord) → file ≡ text_or_empty_of f.name → IsRefusedByPool files f refusal → IsRefused files f result }
 {
     match refusal {
@@ -32,19 +39,22 @@ fn told(file: Text, refusal: Refusal) -> DescriptorError
 }
 
 /// Adds the file to a pool that nothing else holds.
-fn added_alone(pool: Unique<Pool>, file: FileDescriptorProto) -> (Shared<Pool>, Result<(), Refusal>)
-    ensures added { OnOk result.1 (result.0 ≡ with_file pool file) }
-    ensures accepted { OnOk result.1 (keeps_rules pool file ≡ true) }
-    ensures refused { IfErr result.1 (IsRefusedByPool pool file) }
-    ensures unchanged { OnErr result.1 (result.0 ≡ pool) }
+fn add_in_place(pool: Unique<Pool>, file: FileDescriptorProto) -> Addition<Shared<Pool>>
+    ensures added { OnOk result.outcome (result.pool ≡ with_file pool file) }
+    ensures accepted { OnOk result.outcome (keeps_rules pool file ≡ true) }
+    ensures refused { IfErr result.outcome (IsRefusedByPool pool file) }
+    ensures unchanged { OnErr result.outcome (result.pool ≡ pool) }
 {
     let mut pool = pool;
-    let done = pool.get_mut().add(file);
-    (pool.share(), done)
+    let outcome = pool.get_mut().add(file);
+    Addition {
+        pool: pool.share(),
+        outcome,
+    }
 }
 
-/// The pool with the file, shared.
-fn shared_with(
+/// Adds the file to the pool, and shares the pool.
+fn add_and_share(
     alloc: Global,
     pool: Pool,
     file: FileDescriptorProto,
@@ -64,8 +74,8 @@ fn shared_with(
     }
 }
 
-/// A copy of the pool with the file.
-fn added_beside(
+/// Adds the file to a copy of the pool.
+fn add_to_copy(
     alloc: Global,
     pool: &Pool,
     file: FileDescriptorProto,
@@ -75,7 +85,7 @@ fn added_beside(
     ensures refused { IfErr result (IsRefusedByPool pool.now file) }
 {
     match pool.copy(alloc) {
-        Ok(copy) => shared_with(alloc, copy, file),
+        Ok(copy) => add_and_share(alloc, copy, file),
         Err(_) => {
             drop(file);
             Err(Refusal::NoMemory)
@@ -84,96 +94,115 @@ fn added_beside(
 }
 
 /// Adds the file in place where nothing else holds the pool, and to a copy otherwise. Where it is refused the pool is as it was.
-fn added_shared(
+fn add_to_shared(
     alloc: Global,
     pool: Shared<Pool>,
     file: FileDescriptorProto,
-) -> (Shared<Pool>, Result<(), Refusal>)
-    ensures added { OnOk result.1 (result.0 ≡ with_file pool file) }
-    ensures accepted { OnOk result.1 (keeps_rules pool file ≡ true) }
-    ensures refused { IfErr result.1 (IsRefusedByPool pool file) }
-    ensures unchanged { OnErr result.1 (result.0 ≡ pool) }
+) -> Addition<Shared<Pool>>
+    ensures added { OnOk result.outcome (result.pool ≡ with_file pool file) }
+    ensures accepted { OnOk result.outcome (keeps_rules pool file ≡ true) }
+    ensures refused { IfErr result.outcome (IsRefusedByPool pool file) }
+    ensures unchanged { OnErr result.outcome (result.pool ≡ pool) }
 {
     match pool.into_unique() {
-        Ok(alone) => added_alone(alone, file),
-        Err(shared) => match added_beside(alloc, shared.as_ref(), file) {
-            Ok(more) => (more, Ok(())),
-            Err(refusal) => (shared, Err(refusal)),
+        Ok(alone) => add_in_place(alone, file),
+        Err(shared) => match add_to_copy(alloc, shared.as_ref(), file) {
+            Ok(more) => Addition {
+                pool: more,
+                outcome: Ok(()),
+            },
+            Err(refusal) => Addition {
+                pool: shared,
+                outcome: Err(refusal),
+            },
         },
     }
 }
 
-/// Adds the file to the pool, and lets go the shape that is kept. It goes first: what is kept has a handle of the pool.
-fn added_held(
-    alloc: Global,
-    held: HeldPool,
-    file: FileDescriptorProto,
-) -> (HeldPool, Result<(), Refusal>)
-    ensures added { OnOk result.1 (result.0 ≡ with_file held file) }
-    ensures accepted { OnOk result.1 (keeps_rules held file ≡ true) }
-    ensures refused { IfErr result.1 (IsRefusedByPool held file) }
-    ensures unchanged { OnErr result.1 (result.0 ≡ held) }
-{
-    let HeldPool { pool, shape } = held;
-    match shape.emptied(alloc) {
-        Ok(shape) => {
-            let (pool, done) = added_shared(alloc, pool, file);
-            (HeldPool { pool, shape }, done)
-        }
-        Err(shape) => {
-            drop(file);
-            (HeldPool { pool, shape }, Err(Refusal::NoMemory))
+impl PoolHandle {
+    /// Adds the file to the pool, and lets go the shape that is kept. It goes first: what is kept has a handle of the pool.
+    fn add(self, alloc: Global, file: FileDescriptorProto) -> Addition<PoolHandle>
+        ensures added { OnOk result.outcome (result.pool ≡ with_file self file) }
+        ensures accepted { OnOk result.outcome (keeps_rules self file ≡ true) }
+        ensures refused { IfErr result.outcome (IsRefusedByPool self file) }
+        ensures unchanged { OnErr result.outcome (result.pool ≡ self) }
+    {
+        let PoolHandle { pool, shape } = self;
+        match shape.emptied(alloc) {
+            Ok(shape) => {
+                let Addition { pool, outcome } = add_to_shared(alloc, pool, file);
+                Addition {
+                    pool: PoolHandle { pool, shape },
+                    outcome,
+                }
+            }
+            Err(shape) => {
+                drop(file);
+                Addition {
+                    pool: PoolHandle { pool, shape },
+                    outcome: Err(Refusal::NoMemory),
+                }
+            }
         }
     }
 }
 
-/// The first file of a pool.
-fn first_held(alloc: Global, file: FileDescriptorProto) -> Result<HeldPool, Refusal>
+/// Adds the first file of a pool.
+fn add_first(alloc: Global, file: FileDescriptorProto) -> Result<PoolHandle, Refusal>
     ensures added { IfOk result (λ first. first ≡ with_file [] file) }
     ensures accepted { OnOk result (keeps_rules [] file ≡ true) }
     ensures refused { IfErr result (IsRefusedByPool [] file) }
 {
-    let pool = shared_with(alloc, Pool::new(alloc), file)?;
-    match HeldPool::new(alloc, pool) {
-        Ok(held) => Ok(held),
+    let pool = add_and_share(alloc, Pool::new(alloc), file)?;
+    match PoolHandle::new(alloc, pool) {
+        Ok(first) => Ok(first),
         Err(NoMemory) => Err(Refusal::NoMemory),
     }
 }
 
 /// Adds the file to the pool, or to one without files where there is none.
-fn added(
+fn add_to_pool(
     alloc: Global,
-    pool: Option<HeldPool>,
+    pool: Option<PoolHandle>,
     file: FileDescriptorProto,
-) -> (Option<HeldPool>, Result<(), Refusal>)
-    ensures added { OnOk result.1 (held result.0 ≡ with_file (held pool) file) }
-    ensures accepted { OnOk result.1 (keeps_rules (held pool) file ≡ true) }
-    ensures refused { IfErr result.1 (IsRefusedByPool (held pool) file) }
-    ensures unchanged { OnErr result.1 (held result.0 ≡ held pool) }
+) -> Addition<Option<PoolHandle>>
+    ensures added { OnOk result.outcome (files_of result.pool ≡ with_file (files_of pool) file) }
+    ensures accepted { OnOk result.outcome (keeps_rules (files_of pool) file ≡ true) }
+    ensures refused { IfErr result.outcome (IsRefusedByPool (files_of pool) file) }
+    ensures unchanged { OnErr result.outcome (files_of result.pool ≡ files_of pool) }
 {
     match pool {
         Some(pool) => {
-            let (pool, done) = added_held(alloc, pool, file);
-            (Some(pool), done)
+            let Addition { pool, outcome } = pool.add(alloc, file);
+            Addition {
+                pool: Some(pool),
+                outcome,
+            }
         }
-        None => match first_held(alloc, file) {
-            Ok(first) => (Some(first), Ok(())),
-            Err(refusal) => (None, Err(refusal)),
+        None => match add_first(alloc, file) {
+            Ok(first) => Addition {
+                pool: Some(first),
+                outcome: Ok(()),
+            },
+            Err(refusal) => Addition {
+                pool: None,
+                outcome: Err(refusal),
+            },
         },
     }
 }
 
 impl DescriptorPool {
-    /// Adds the file as `added` does.
+    /// Adds the file as `add_to_pool` does.
     fn add(&mut self, file: FileDescriptorProto) -> Result<(), Refusal>
         ensures added { OnOk result (self.new ≡ with_file self.old file) }
         ensures accepted { OnOk result (keeps_rules self.old file ≡ true) }
         ensures refused { IfErr result (IsRefusedByPool self.old file) }
         ensures unchanged { OnErr result (self.new ≡ self.old) }
     {
-        let (pool, done) = added(self.alloc, self.pool.take(), file);
+        let Addition { pool, outcome } = add_to_pool(self.alloc, self.pool.take(), file);
         self.pool = pool;
-        done
+        outcome
     }
 
     /// Links the record among the files of the pool and adds it, where it breaks no rule among them. The first rule that it breaks is told
@@ -196,7 +225,7 @@ impl DescriptorPool {
         };
         match self.add(file) {
             Ok(()) => Ok(()),
-            Err(refusal) => Err(told(name, refusal)),
+            Err(refusal) => Err(descriptor_error(name, refusal)),
         }
     }
 }

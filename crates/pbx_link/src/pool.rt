@@ -1,11 +1,11 @@
 // A pool of linked files.
 ghost use Rattle.std.specs.Prelude.{◌≡◌, ◌<◌, [], length, option_copied, slice_index_or, IfOk, ⊤};
 ghost use Rattle.pbx_link_rules.specs.Pool.{ArePooled};
-ghost use Rattle.pbx_link.specs.Tables.{held};
+ghost use Rattle.pbx_link.specs.Tables.{files_of};
 ghost use Rattle.pbx_link_meaning.specs.Descriptors.{all_files, all_messages};
 
 use crate::file::PoolFiles;
-use crate::held::HeldPool;
+use crate::handle::PoolHandle;
 use crate::pool_messages::PoolMessages;
 use pbx_link_pool::Pool;
 use pbx_link_tables::FileTable;
@@ -19,7 +19,7 @@ use std::marker::Model;
 /// A copy stays as it is when the pool that it was made of grows, and so do descriptors.
 #[derive(Drop)]
 pub struct DescriptorPool {
-    pub(crate) pool: Option<HeldPool>,
+    pub(crate) pool: Option<PoolHandle>,
     pub(crate) alloc: Global,
 }
 
@@ -29,15 +29,15 @@ impl Model for DescriptorPool {
     ghost use Rattle.pbx_desc_records.specs.declared.file.FileDescriptorProto.{FileDescriptorProto};
     ghost use Rattle.pbx_desc_records.specs.contracts.file.FileDescriptorProto as proto;
     ghost use Rattle.pbx_link_rules.specs.Pool.{ArePooled};
-    ghost use Rattle.pbx_link.specs.Tables.{held};
+    ghost use Rattle.pbx_link.specs.Tables.{files_of};
 
     ghost Value = { List FileDescriptorProto };
 
     ghost coded = { coded_list proto.the_row.coded };
 
-    ghost view = { λ p. held p.pool };
+    ghost view = { λ p. files_of p.pool };
 
-    ghost invariant = { λ p. ArePooled [] (held p.pool) };
+    ghost invariant = { λ p. ArePooled [] (files_of p.pool) };
 }
 
 impl DescriptorPool {
@@ -65,7 +65,7 @@ impl DescriptorPool {
 
     /// The files with their look-ups, where there are files.
     pub(crate) fn linked(&self) -> Option<&Pool>
-        ensures { held (option_copied result) ≡ self.now }
+        ensures { files_of (option_copied result) ≡ self.now }
     {
         match &self.pool {
             Some(pool) => Some(pool.as_ref()),

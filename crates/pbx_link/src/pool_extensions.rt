@@ -14,7 +14,7 @@ use std::marker::Model;
 
 /// The extensions of a pool. Contracts see the list of those that are left.
 #[derive(Drop)]
-pub(crate) struct PoolExtensions<'a> {
+pub struct PoolExtensions<'a> {
     pool: &'a DescriptorPool,
     file: usize,
     index: usize,
@@ -37,7 +37,7 @@ impl<'a> Model for PoolExtensions<'a> {
 
 impl DescriptorPool {
     /// Every extension, file by file, in the order of places in each file.
-    pub(crate) fn all_extensions(&self) -> PoolExtensions<'_>
+    pub fn all_extensions(&self) -> PoolExtensions<'_>
         ensures { result ≡ all_extensions self.now }
     {
         PoolExtensions {

@@ -4,7 +4,7 @@ ghost use Rattle.std.specs.Iterator.{YieldsFirst, item_count};
 ghost use Rattle.pbx_link_definitions.specs.Names.{text_or_empty as text_or_empty_of};
 ghost use Rattle.pbx_link_definitions.specs.Definitions.{services, service_name, methods_in};
 ghost use Rattle.pbx_link_rules.specs.Pool.{ArePooled};
-ghost use Rattle.pbx_link_meaning.specs.Descriptors.{described, message_referred, methods_of_service};
+ghost use Rattle.pbx_link_meaning.specs.Descriptors.{described, message_referred, methods_of_service, takes_stream, gives_stream};
 ghost use Rattle.pbx_link.specs.Tables.{part_at, no_method};
 
 use crate::message::MessageDescriptor;
@@ -185,6 +185,20 @@ impl MethodDescriptor {
     {
         let pool = self.service.pool();
         pool.message_referred(&self.record().output_type).unwrap()
+    }
+
+    /// Whether a client sends a stream of messages; else it sends one.
+    pub fn is_client_streaming(&self) -> bool
+        ensures { result ≡ takes_stream self.now }
+    {
+        self.record().client_streaming.unwrap_or(false)
+    }
+
+    /// Whether the server answers with a stream of messages; else it answers with one.
+    pub fn is_server_streaming(&self) -> bool
+        ensures { result ≡ gives_stream self.now }
+    {
+        self.record().server_streaming.unwrap_or(false)
     }
 }
 

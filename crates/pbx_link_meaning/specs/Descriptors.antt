@@ -17,7 +17,8 @@ use Rattle.pbx_desc_records.specs.declared.service.ServiceDescriptorProto.{Servi
 use Rattle.pbx_link_definitions.specs.Names.{is_named, dotted}
 use Rattle.pbx_link_definitions.specs.Definitions.{Part, message_name, enum_name, service_name, field_name, fields_in, oneofs_in}
 use Rattle.pbx_link_definitions.specs.Definitions.{values_in, methods_in, messages, fields, oneofs, enums, extensions, services}
-use Rattle.pbx_link_definitions.specs.Says.{is_number, are_equal, is_repeated, is_proto3, is_entry, number_or_zero, option_bool}
+use Rattle.pbx_link_definitions.specs.Definitions.{top_messages, top_enums, top_extensions}
+use Rattle.pbx_link_definitions.specs.Says.{is_number, are_equal, is_repeated, is_proto3, is_entry, is_set, number_or_zero, option_bool}
 use Rattle.pbx_link_definitions.specs.Codes.{part_code}
 
 -- ---- values of descriptors
@@ -74,6 +75,28 @@ all_extensions pool = all_parts extensions pool
 -- every service
 abbrev pub all_services : List FileDescriptorProto → List (Described ServiceDescriptorProto)
 all_services pool = all_parts services pool
+
+-- ---- what a file declares outside of messages, in declared order
+
+-- parts of the file
+abbrev pub in_file : {X : Type 0} → FileDescribed → List (Part X) → List (Described X)
+in_file d ps = map (described d.pool d.file) ps
+
+-- its messages that no other holds
+abbrev pub messages_of_file : FileDescribed → List (Described DescriptorProto)
+messages_of_file d = in_file d (top_messages d.file)
+
+-- its enums that no message holds
+abbrev pub enums_of_file : FileDescribed → List (Described EnumDescriptorProto)
+enums_of_file d = in_file d (top_enums d.file)
+
+-- its extensions that stand in no message
+abbrev pub extensions_of_file : FileDescribed → List (Described FieldDescriptorProto)
+extensions_of_file d = in_file d (top_extensions d.file)
+
+-- its services
+abbrev pub services_of_file : FileDescribed → List (Described ServiceDescriptorProto)
+services_of_file d = in_file d (services d.file)
 
 -- ---- by exact names
 
@@ -230,6 +253,14 @@ value_with_name vs name = find (λ (v : Described EnumValueDescriptorProto). is_
 -- its methods in declared order
 abbrev pub methods_of_service : Described ServiceDescriptorProto → List (Described MethodDescriptorProto)
 methods_of_service d = beside d (methods_in d.part)
+
+-- whether the method takes a stream of messages; one where the record says nothing (Protocol Buffers `descriptor.proto`: MethodDescriptorProto)
+abbrev pub takes_stream : Described MethodDescriptorProto → Bool
+takes_stream d = is_set d.part.item.client_streaming
+
+-- whether it gives a stream of messages
+abbrev pub gives_stream : Described MethodDescriptorProto → Bool
+gives_stream d = is_set d.part.item.server_streaming
 
 -- ---- codes, as those of tuples of the fields
 

@@ -16,8 +16,8 @@ use pbx_link_visible::VisibleFiles;
 use pbx_wire::NoMemory;
 use std::alloc::Global;
 
-/// The linked record, without its source info, of the file that sees these files, or the first of the rules 6 to 16 that it breaks.
-fn linked_seeing(
+/// Links the file that sees these files. Its record without source info, or the first of the rules 6 to 16 that it breaks.
+fn link_visible(
     alloc: Global,
     pool: &Pool,
     seen: &VisibleFiles<'_, Pool>,
@@ -41,8 +41,9 @@ fn linked_seeing(
     }
 }
 
-/// The linked record, without its source info, of the file of these parts, which breaks none of the rules 1 to 5.
-fn linked_behind(
+/// Links the file of these parts, which was checked against the rules 1 to 5 and breaks none of them. Its record without source info, or the
+/// first of the rules 6 to 16 that it breaks.
+fn link_checked(
     alloc: Global,
     pool: &Pool,
     parts: &FileParts<'_>,
@@ -53,13 +54,13 @@ fn linked_behind(
     ensures refused { IfErr result (IsRefused pool.now parts.now) }
 {
     match VisibleFiles::new(alloc, pool, parts) {
-        Ok(seen) => linked_seeing(alloc, pool, &seen, parts),
+        Ok(seen) => link_visible(alloc, pool, &seen, parts),
         Err(_) => Err(Refusal::NoMemory),
     }
 }
 
-/// The linked record, without its source info, of the file of these parts, or the first rule that it breaks.
-fn linked_parts(
+/// Links the file of these parts. Its record without source info, or the first rule that it breaks.
+fn link_parts(
     alloc: Global,
     pool: &Pool,
     parts: &FileParts<'_>,
@@ -70,14 +71,14 @@ fn linked_parts(
 {
     breach_is_first();
     match first_breach_alone(alloc, pool, parts) {
-        Ok(None) => linked_behind(alloc, pool, parts),
+        Ok(None) => link_checked(alloc, pool, parts),
         Ok(Some(breach)) => Err(Refusal::Breach(breach)),
         Err(_) => Err(Refusal::NoMemory),
     }
 }
 
-/// The linked record, without its source info, of the file among those of the pool, or the first rule that it breaks.
-fn linked_but_source_code_info(
+/// Links the file among those of the pool. Its record without source info, or the first rule that it breaks.
+fn link_without_source_code_info(
     alloc: Global,
     pool: &Pool,
     file: &FileDescriptorProto,
@@ -87,7 +88,7 @@ fn linked_but_source_code_info(
     ensures refused { IfErr result (IsRefused pool.now file.now) }
 {
     match FileParts::new(alloc, file) {
-        Ok(parts) => linked_parts(alloc, pool, &parts),
+        Ok(parts) => link_parts(alloc, pool, &parts),
         Err(_) => Err(Refusal::NoMemory),
     }
 }
@@ -126,7 +127,7 @@ pub(crate) fn linked(
     ensures linked { IfOk result (λ linked. linked ≡ linked_record pool.now file) }
     ensures refused { IfErr result (IsRefused pool.now file) }
 {
-    let made = linked_but_source_code_info(alloc, pool, &file);
+    let made = link_without_source_code_info(alloc, pool, &file);
     let FileDescriptorProto {
         source_code_info,
         ..

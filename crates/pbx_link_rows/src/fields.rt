@@ -1,6 +1,6 @@
 //! Fields and extensions of a pool.
 
-use crate::told::Told;
+use crate::told::{Told, where_it};
 use pbx_link::{Cardinality, DescriptorPool, ExtensionDescriptor, FieldDescriptor, Kind};
 
 /// The word of a label.
@@ -42,11 +42,6 @@ fn type_name(kind: &Kind) -> &str {
         Kind::Enum(found) => found.full_name(),
         _ => "",
     }
-}
-
-/// The word, where it holds.
-fn where_it(holds: bool, word: &'static str) -> &'static str {
-    if holds { word } else { "" }
 }
 
 /// What is told alike of a field and of an extension.
@@ -160,5 +155,12 @@ pub(crate) fn extension(told: &mut Told, pool: &DescriptorPool, name: &str) {
     match pool.get_extension_by_name(name) {
         Some(extension) => tell_extension(told, &extension),
         None => told.add("none"),
+    }
+}
+
+/// The full name of each extension.
+pub(crate) fn extensions(told: &mut Told, pool: &DescriptorPool) {
+    for extension in pool.all_extensions() {
+        told.add_all(&["(", extension.full_name(), ")"]);
     }
 }

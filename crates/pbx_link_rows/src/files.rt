@@ -32,6 +32,47 @@ pub(crate) fn file(alloc: Global, told: &mut Told, pool: &DescriptorPool, name: 
     }
 }
 
+/// Tells the full names of the messages that a file declares outside of messages.
+fn tell_messages(told: &mut Told, file: &FileDescriptor) {
+    for message in file.messages() {
+        told.add_all(&["(message ", message.full_name(), ")"]);
+    }
+}
+
+/// Tells those of the enums.
+fn tell_enums(told: &mut Told, file: &FileDescriptor) {
+    for found in file.enums() {
+        told.add_all(&["(enum ", found.full_name(), ")"]);
+    }
+}
+
+/// Tells those of the extensions.
+fn tell_extensions(told: &mut Told, file: &FileDescriptor) {
+    for extension in file.extensions() {
+        told.add_all(&["(extension ", extension.full_name(), ")"]);
+    }
+}
+
+/// Tells those of the services.
+fn tell_services(told: &mut Told, file: &FileDescriptor) {
+    for service in file.services() {
+        told.add_all(&["(service ", service.full_name(), ")"]);
+    }
+}
+
+/// Of a name: what the file of this name declares outside of messages.
+pub(crate) fn declared(told: &mut Told, pool: &DescriptorPool, name: &str) {
+    match pool.get_file_by_name(name) {
+        Some(file) => {
+            tell_messages(told, &file);
+            tell_enums(told, &file);
+            tell_extensions(told, &file);
+            tell_services(told, &file);
+        }
+        None => told.add("none"),
+    }
+}
+
 /// The names of the files of a pool.
 pub(crate) fn tell_names(told: &mut Told, pool: &DescriptorPool) {
     for file in pool.files() {

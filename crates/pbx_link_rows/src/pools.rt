@@ -9,13 +9,13 @@
 
 use crate::adding::{add_from, added, copied, copied_as_bound};
 use crate::enums::enumeration;
-use crate::fields::extension;
-use crate::files::{file, files, linked};
+use crate::fields::{extension, extensions};
+use crate::files::{declared, file, files, linked};
 use crate::from_bytes::{read_back, read_more, set};
 use crate::grown::grown;
 use crate::messages::{message, messages};
 use crate::same::{same, same_grown};
-use crate::services::service;
+use crate::services::{service, services};
 use crate::shapes::shape;
 use crate::told::Told;
 use pbx_link::DescriptorPool;
@@ -27,6 +27,7 @@ fn of_name(alloc: Global, told: &mut Told, pool: &DescriptorPool, row: &Row) {
     let name = row.text(0);
     match row.asked() {
         "file" => file(alloc, told, pool, name),
+        "declared" => declared(told, pool, name),
         "message" => message(told, pool, name),
         "enum" => enumeration(told, pool, name),
         "extension" => extension(told, pool, name),
@@ -43,6 +44,8 @@ fn of_pool(alloc: Global, told: &mut Told, pool: &DescriptorPool, row: &Row) {
         "linked" => linked(alloc, told, pool),
         "files" => files(told, pool),
         "messages" => messages(told, pool),
+        "extensions" => extensions(told, pool),
+        "services" => services(told, pool),
         _ => read_back(alloc, told, pool),
     }
 }
@@ -58,7 +61,7 @@ fn tell(alloc: Global, told: &mut Told, pool: &mut DescriptorPool, row: &Row) {
         "shape-alone" | "shape-late" | "shape-grown" => grown(alloc, told, pool, row),
         "set" => set(alloc, told, row),
         "add-set" | "add-file" => read_more(alloc, told, pool, row),
-        "link" | "linked" | "files" | "messages" | "read-back" => {
+        "link" | "linked" | "files" | "messages" | "extensions" | "services" | "read-back" => {
             if add_from(alloc, told, pool, row, 0) {
                 of_pool(alloc, told, pool, row);
             }

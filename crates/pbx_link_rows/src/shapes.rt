@@ -1,6 +1,6 @@
 //! The shape of the types of a pool.
 
-use crate::told::Told;
+use crate::told::{Told, where_it};
 use pbx_content::{Cardinality, EnumShape, FieldShape, Kind, MessageShape, Schema};
 use pbx_link::DescriptorPool;
 use pbx_link_shapes::message_place;
@@ -25,11 +25,6 @@ fn tell_cardinality(told: &mut Told, cardinality: Cardinality) {
             tell_kind(told, key);
         }
     }
-}
-
-/// The word, where it holds.
-fn where_it(holds: bool, word: &'static str) -> &'static str {
-    if holds { word } else { "" }
 }
 
 /// Tells what else holds of a field, in words.

@@ -5,6 +5,11 @@ use pbx_content::Kind;
 use pbx_wire::{DecodeError, NoMemory};
 use std::alloc::{AllocError, Global};
 
+/// The word, where it holds.
+pub(crate) fn where_it(holds: bool, word: &'static str) -> &'static str {
+    if holds { word } else { "" }
+}
+
 /// What was told so far.
 #[derive(Drop)]
 pub(crate) struct Told {

@@ -1,6 +1,6 @@
 use Rattle.std.proofs.Common.{Some, subst}
 use Rattle.pbx_link_rules.specs.Breaches.{IsFirstOf}
-use Rattle.pbx_link_pool.proofs.linking.linked_seeing.Goals as goal
+use Rattle.pbx_link_pool.proofs.linking.link_visible.Goals as goal
 
 pub returns-in-Ok-Some-clause-refused : goal.returns-in-Ok-Some-clause-refused
 returns-in-Ok-Some-clause-refused c =

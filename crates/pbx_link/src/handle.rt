@@ -14,12 +14,12 @@ use std::marker::Model;
 
 /// A pool that has files, beside the shape of its types where it was asked for. Contracts see the records of the pool.
 #[derive(Drop)]
-pub(crate) struct HeldPool {
+pub(crate) struct PoolHandle {
     pub(crate) pool: Shared<Pool>,
     pub(crate) shape: KeptShape,
 }
 
-impl Model for HeldPool {
+impl Model for PoolHandle {
     ghost use Rattle.std.specs.Prelude.{List};
     ghost use Rattle.std.specs.Coded.{coded_list};
     ghost use Rattle.pbx_desc_records.specs.contracts.file.FileDescriptorProto as proto;
@@ -32,20 +32,20 @@ impl Model for HeldPool {
     ghost view = { λ h. h.pool };
 }
 
-impl HeldPool {
+impl PoolHandle {
     /// The pool, to be held by copies. The only error is want of memory.
-    pub(crate) fn new(alloc: Global, pool: Shared<Pool>) -> Result<HeldPool, NoMemory>
-        ensures { IfOk result (λ held. held ≡ pool) }
+    pub(crate) fn new(alloc: Global, pool: Shared<Pool>) -> Result<PoolHandle, NoMemory>
+        ensures { IfOk result (λ handle. handle ≡ pool) }
     {
         let shape = KeptShape::new(alloc)?;
-        Ok(HeldPool { pool, shape })
+        Ok(PoolHandle { pool, shape })
     }
 
     /// The same pool. It takes no memory.
-    pub(crate) fn copy(&self) -> HeldPool
+    pub(crate) fn copy(&self) -> PoolHandle
         ensures { result ≡ self.now }
     {
-        HeldPool {
+        PoolHandle {
             pool: self.pool.copy(),
             shape: self.shape.copy(),
         }
@@ -59,7 +59,7 @@ impl HeldPool {
     }
 
     /// Whether both are copies of one pool.
-    pub(crate) fn is_copy_of(&self, other: &HeldPool) -> bool
+    pub(crate) fn is_copy_of(&self, other: &PoolHandle) -> bool
         ensures { IsTrue result → self.now ≡ other.now }
     {
         self.pool.ptr_eq(&other.pool)

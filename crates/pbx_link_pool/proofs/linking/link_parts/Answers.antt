@@ -1,7 +1,7 @@
 use Rattle.std.proofs.Common.{subst}
 use Rattle.pbx_link_scope.specs.Scope.{visible}
 use Rattle.pbx_link_rules.specs.Breaches.{IsFirstOf}
-use Rattle.pbx_link_pool.proofs.linking.linked_parts.Goals as goal
+use Rattle.pbx_link_pool.proofs.linking.link_parts.Goals as goal
 
 pub returns-in-Ok-Some-clause-refused : goal.returns-in-Ok-Some-clause-refused
 returns-in-Ok-Some-clause-refused c =
