@@ -7,7 +7,7 @@ use Rattle.protox_io.specs.FileNames.{path_equal}
 use Rattle.protox_file_sources.specs.Told.{Entry, Lookup, NoFile, IsFile, TextFault, Unread}
 use Rattle.protox_compile_walk.specs.Places.{place_of_import}
 use Rattle.protox_compile_walk.specs.Walk.{Done, Fault, Limit, Mismatch, Shadowed, Duplicate, Circular, NotRead, Visited, Finished, Missing, Faulted, imports_of, declared_name, is_done, chain_text, after_visit, visit_imports, finish, unless_shadowed, visit_lookup, visit, visits}
-use Rattle.protox_compile_walk.specs.Opening.{Opened, Accepted, NotIncluded, Refused, IsDecided, path_in, root_of, open_done, open_root, open_name, opening, after_opening, closure, grown}
+use Rattle.protox_compile_walk.specs.Opening.{Ended, Accepted, NotIncluded, Refused, IsDecided, path_in, root_of, open_done, open_root, open_name, opening, after_opening, closure, grown}
 use Rattle.protox_compile_walk.specs.Refusals.{Extends}
 use Rattle.protox_compile_walk.specs.Resume.{IsMore}
 use Rattle.protox_compile_walk.proofs.Extends.{extends_same, after_extends, imports_extend, finish_extends, lookup_extends, visit_extends}
@@ -112,7 +112,7 @@ root_decided name v w (inr c) d = cut v c.0 d
     cut (done, Faulted (NotRead q)) c d = absurd d
     cut _ c d = absurd c
 
-after_decided : (o p : List Done × Opened) (rest later : List Done → List Done × Opened) → (IsDecided o.1 → p ≡ o) → ((d : List Done) → IsDecided (rest d).1 → later d ≡ rest d)
+after_decided : (o p : List Done × Ended) (rest later : List Done → List Done × Ended) → (IsDecided o.1 → p ≡ o) → ((d : List Done) → IsDecided (rest d).1 → later d ≡ rest d)
     → IsDecided (after_opening o rest).1 → after_opening p later ≡ after_opening o rest
 after_decided (d, Accepted) p rest later h k g = ap (λ x. after_opening x later) (h tt) ∙ k d g
 after_decided (d, NotIncluded) p rest later h k g = ap (λ x. after_opening x later) (h tt)

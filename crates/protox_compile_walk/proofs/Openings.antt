@@ -16,7 +16,7 @@ use Rattle.protox_file_sources.specs.Library.{Library}
 use Rattle.protox_io.specs.FileNames.{name_of, path_equal}
 use Rattle.protox_compile_walk.specs.Opens.{IsShadowedBy, IsRoot, Opens, is_settled}
 use Rattle.protox_compile_walk.specs.Refusals.{Walk, Extends, Ends, OrNoMemory, IsToldBy, is_absent, RefusesWith, RefusesOpening, IsLeftOut, EndsWithout, RefusedWithout, Grows, HasRootCause, HasOpeningCause}
-use Rattle.protox_compile_walk.specs.Opening.{Opened, Accepted, NotIncluded, Refused, mark, asked_path, path_in, open_done, open_root, open_name, root_of, opening, grown}
+use Rattle.protox_compile_walk.specs.Opening.{Ended, Accepted, NotIncluded, Refused, mark, asked_path, path_in, open_done, open_root, open_name, root_of, opening, grown}
 use Rattle.protox_compile_walk.proofs.Extends.{extends_same, grows_same}
 use Rattle.protox_compile_walk.proofs.Causes.{asked_is}
 use Rattle.protox_compile_walk.proofs.Right.{nothing, right_nothing}
@@ -39,7 +39,7 @@ missing path n asked walk lookups later answer e (inl memory) = rw (memory, e) (
 missing path n asked walk lookups later answer e (inr same) = rw (same, e) (refl, refl)
 
 -- the root, or an import, has no file
-without_root : (n file : List ℕ) (asked : Option (List ℕ)) (end : Visited) (later : List Done) → EndsWithout n file end → (o : Opened) × (open_root n (later, end) ≡ (later, o)) × RefusedWithout (Some (n, asked)) file o
+without_root : (n file : List ℕ) (asked : Option (List ℕ)) (end : Visited) (later : List Done) → EndsWithout n file end → (o : Ended) × (open_root n (later, end) ≡ (later, o)) × RefusedWithout (Some (n, asked)) file o
 without_root n file asked Missing later h = (NotIncluded, refl, (asked, rw h refl))
 without_root n file asked (Faulted (NoImport f i place m)) later h = (Refused (NoImport f i place m), refl, h)
 without_root n file asked _ later h = absurd h

@@ -15,7 +15,7 @@ use Rattle.protox_file_error.specs.declared.error.ErrorKind.TheVariants.{ImportN
 use Rattle.protox_file_error.specs.declared.error.ErrorKind.TheVariants.{DuplicateImport, Custom, NameMismatch, FileLimit, Undecodable, NoMemory}
 use Rattle.protox_compile_walk.specs.Walk.{Open, Done, Limit, Text, Mismatch, Shadowed, Duplicate, Circular, NoImport, Unlinked, Visited}
 use Rattle.protox_compile_walk.specs.Walk.{Missing, Faulted, records, declared_name, is_done}
-use Rattle.protox_compile_walk.specs.Opening.{Opened, NotIncluded, Refused, root_of, opening, grown}
+use Rattle.protox_compile_walk.specs.Opening.{Ended, NotIncluded, Refused, root_of, opening, grown}
 
 -- a walk, by what looking names up comes to
 abbrev pub Walk : Type 0
@@ -186,21 +186,21 @@ HasOpenCause asked fault (Undecodable file) = ⊥
 HasOpenCause asked fault kind = Unit {0}
 
 -- the opening of what is asked for was refused since the name has no file, which is the name that is asked for or that of an import
-abbrev pub RefusedWithout : Option (List ℕ × Option (List ℕ)) → List ℕ → Opened → Type 0
+abbrev pub RefusedWithout : Option (List ℕ × Option (List ℕ)) → List ℕ → Ended → Type 0
 RefusedWithout root n NotIncluded = (asked : Option (List ℕ)) × (root ≡ Some (n, asked))
 RefusedWithout root n (Refused (NoImport file index place m)) = m ≡ n
 RefusedWithout root n end = ⊥
 
 -- How an opening was refused: reading the name failed. The files are those that are finished where the name has no file.
 pub record FailsAtName (root : Option (List ℕ × Option (List ℕ))) (n : List ℕ) (files : (List ℕ → Lookup) → List Done)
-    (opened : (List ℕ → Lookup) → List Done × Opened) (lookups : List ℕ → Lookup) (later : List Done) : Type 0 where
+    (opened : (List ℕ → Lookup) → List Done × Ended) (lookups : List ℕ → Lookup) (later : List Done) : Type 0 where
   pub front : Extends later (files lookups)
-  pub end : Opened
+  pub end : Ended
   pub exact : opened (without n lookups) ≡ (later, end)
   pub lacking : RefusedWithout root n end
 
 -- the record is not linked among the finished files, for this reason
-pub record RefusesLinking (error : DescriptorError) (opened : List Done × Opened) (later : List Done) : Type 0 where
+pub record RefusesLinking (error : DescriptorError) (opened : List Done × Ended) (later : List Done) : Type 0 where
   pub file : FileDescriptorProto
   pub opened_is : opened ≡ (later, Refused (Unlinked file))
   pub refused : IsRefused (records later) file error
@@ -208,7 +208,7 @@ pub record RefusesLinking (error : DescriptorError) (opened : List Done × Opene
 -- The error that an opening of the path was refused with, and the files that it left: `root` is what the path asks for, `files` are those
 -- that it would finish, `opened` is what it comes to, each by what looking names up comes to.
 abbrev pub RefusesWith : List ℕ → Option (List ℕ × Option (List ℕ)) → ((List ℕ → Lookup) → List Done)
-    → ((List ℕ → Lookup) → List Done × Opened) → (List ℕ → Lookup) → List Done → ErrorKind → Type 0
+    → ((List ℕ → Lookup) → List Done × Ended) → (List ℕ → Lookup) → List Done → ErrorKind → Type 0
 RefusesWith path root files opened lookups later (Parse (parse.Syntax file line column expected found)) = opened lookups ≡ (later, Refused (Text file 1))
 RefusesWith path root files opened lookups later (Parse parse.NoMemory) = ⊥
 RefusesWith path root files opened lookups later (Check error) = RefusesLinking error (opened lookups) later
