@@ -4,7 +4,7 @@ use Rattle.std.specs.Prelude.{Option}
 use Rattle.pbx_parse.specs.declared.error.ParseError.TheVariants as parse
 use Rattle.protox_file_sources.specs.Told.{Told, Lookup, NoFile, IsFile, TextFault, Unread, IsFound, IsLookup, AreLookups, AreComplete}
 use Rattle.protox_file_error.specs.declared.error.ErrorKind.{ErrorKind}
-use Rattle.protox_file_error.specs.declared.error.ErrorKind.TheVariants.{Parse, Check, OpenFile, FileTooLarge, FileInvalidUtf8, FileNotFound, ImportNotFound, CircularImport, FileNotIncluded, FileShadowed, DuplicateImport, Custom, NameMismatch, FileLimit, Undecodable, NoMemory}
+use Rattle.protox_file_error.specs.declared.error.ErrorKind.TheVariants.{Parse, Check, OpenFile, FileTooLarge, FileInvalidUtf8, ImportNotFound, CircularImport, FileNotIncluded, FileShadowed, DuplicateImport, Custom, NameMismatch, FileLimit, NoMemory, ImportEscapes}
 use Rattle.protox_compile_walk.specs.Walk.{Done, NoImport}
 use Rattle.protox_compile_walk.specs.Opening.{Ended, Accepted, NotIncluded, Refused, IsDecided, root_of, opening, closure, grown}
 use Rattle.protox_compile_walk.specs.Refusals.{without, RefusedWithout, RefusesWith, RefusesOpening}
@@ -107,7 +107,6 @@ module _ (some others : List ℕ → Lookup) (more : IsMore some others) (resolv
     }
     refuses_with (FileTooLarge name) h = opens_more path done later _ tt h
     refuses_with (FileInvalidUtf8 name) h = opens_more path done later _ tt h
-    refuses_with (FileNotFound name) h = h
     refuses_with (ImportNotFound file index place name) h = opens_more path done later _ tt h
     refuses_with (CircularImport name cycle) h = opens_more path done later _ tt h
     refuses_with (FileNotIncluded p) h = (h.0, opens_more path done later _ tt h.1)
@@ -116,8 +115,9 @@ module _ (some others : List ℕ → Lookup) (more : IsMore some others) (resolv
     refuses_with (Custom text is_io) h = extends_join h (grown_further some others more limit (root_of resolves path) done)
     refuses_with (NameMismatch asked declared) h = opens_more path done later _ tt h
     refuses_with (FileLimit most) h = opens_more path done later _ tt h
-    refuses_with (Undecodable file) h = h
     refuses_with NoMemory h = extends_join h (grown_further some others more limit (root_of resolves path) done)
+    refuses_with (ImportEscapes file index place name) h = opens_more path done later _ tt h
+    refuses_with _ h = absurd h
 
     -- an opening that was refused so is refused so
     pub refuses_more : (error : ErrorKind) → RefusesOpening some resolves limit path done later error → RefusesOpening others resolves limit path done later error

@@ -1,6 +1,7 @@
 //! The opening of a path.
 
 ghost use Rattle.std.specs.Prelude.{◌≡◌, ◌≤◌, [], IfOk, IfErr, OnOk, OnErr, IsTrue, length, true, false, Some, IfSome};
+ghost use Rattle.std.specs.Option.{option_copied};
 ghost use Rattle.protox_io.specs.Count.{Later};
 ghost use Rattle.protox_file_sources.specs.Causes.{FaultCause};
 ghost use Rattle.protox_io.specs.FileNames.{name_of};
@@ -12,7 +13,7 @@ ghost use Rattle.protox_compile_walk.specs.Refusals.{RefusesWith, RefusesOpening
 ghost use Rattle.protox_compile_walk.specs.Opens.{Opens, IsRoot, IsShadowedBy, is_settled};
 
 use crate::finished::FinishedFiles;
-use crate::opening::shadow_of;
+use crate::opening::shadowed_by;
 use crate::refusal::{not_included, root_error, shadowed};
 use crate::walk::visit_root;
 use pbx_wire::{NoMemory, Text};
@@ -51,21 +52,27 @@ fn root_by<R: FileResolver>(
     }
 }
 
+/// The path that was asked, which is none where the resolver does not know it.
+fn asked_path(resolved: bool, path: &str) -> Option<&str>
+    ensures { option_copied result ≡ asked_path resolved path.now }
+{
+    if resolved { Some(path) } else { None }
+}
+
 /// Marks a file that is finished, unless it has another path than the one that was asked.
 fn open_again(
     alloc: Global,
     done: &mut FinishedFiles,
     name: &str,
-    resolved: bool,
-    path: &str,
+    asked: Option<&str>,
 ) -> Result<Opened, Error>
-    ensures ok { OnOk result (open_done name.now (asked_path resolved path.now) (path_in name.now done.old) done.old ≡ (done.new, Accepted)) }
+    ensures ok { OnOk result (open_done name.now (option_copied asked.entry) (path_in name.now done.old) done.old ≡ (done.new, Accepted)) }
     ensures marked { OnOk result (done.new ≡ mark name.now done.old) }
     ensures report { IfOk result (λ report. report ≡ (if is_opened name.now done.old then Opened.Again else Opened.Import)) }
     ensures err { OnErr result (done.new ≡ done.old) }
-    ensures refused { IfErr result (IsShadowedBy name.now (asked_path resolved path.now) (path_in name.now done.old)) }
+    ensures refused { IfErr result (IsShadowedBy name.now (option_copied asked.entry) (path_in name.now done.old)) }
 {
-    if let Some(shadow) = shadow_of(done.path_of(name), resolved, path) {
+    if let Some((path, shadow)) = shadowed_by(asked, done.path_of(name)) {
         return Err(shadowed(alloc, name, path, shadow));
     }
     let report = if done.is_opened(name) {
@@ -106,10 +113,11 @@ fn open_name<R: FileResolver>(
     ensures later { Later (R.count resolver.old) (R.count resolver.new) }
     ensures keeps { R.library resolver.new ≡ R.library resolver.old }
 {
+    let asked = asked_path(resolved, path);
     if done.contains(name) {
-        return open_again(alloc, done, name, resolved, path);
+        return open_again(alloc, done, name, asked);
     }
-    match visit_root(resolver, alloc, limit, done, name, resolved, path) {
+    match visit_root(resolver, alloc, limit, done, name, asked) {
         Ok(()) => {
             done.mark(name);
             Ok(Opened::Compiled)
