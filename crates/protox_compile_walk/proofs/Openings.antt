@@ -16,8 +16,9 @@ use Rattle.protox_file_sources.specs.Library.{Library}
 use Rattle.protox_io.specs.FileNames.{name_of, path_equal}
 use Rattle.protox_compile_walk.specs.Opens.{IsShadowedBy, IsRoot, Opens, is_settled}
 use Rattle.protox_compile_walk.specs.Refusals.{Walk, Extends, Ends, OrNoMemory, IsToldBy, is_absent, RefusesWith, RefusesOpening, IsLeftOut, EndsWithout, RefusedWithout, Grows, HasRootCause, HasOpeningCause}
-use Rattle.protox_compile_walk.specs.Opening.{Ended, Accepted, NotIncluded, Refused, mark, asked_path, path_in, open_done, open_root, open_name, root_of, opening, grown, report_in, report_of}
+use Rattle.protox_compile_walk.specs.Opening.{Ended, Accepted, NotIncluded, Refused, mark, asked_path, path_in, open_done, open_root, open_name, root_of, opening, grown, is_opened, report_in, report_of}
 use Rattle.protox_compile_walk.specs.declared.root.Opened.{Opened}
+use Rattle.protox_compile_walk.specs.declared.root.Opened.TheVariants.{Compiled, Import, Again}
 use Rattle.protox_compile_walk.proofs.Extends.{extends_same, grows_same}
 use Rattle.protox_compile_walk.proofs.Causes.{asked_is}
 use Rattle.protox_compile_walk.proofs.Right.{nothing, right_nothing}
@@ -227,3 +228,13 @@ pub path_reports : {E : Type 0} (resolves : List ℕ → Option (List ℕ)) (pat
     → IfOk result (λ report. report ≡ report_in name done) → IfOk result (λ report. report_of resolves path done ≡ Some report)
 path_reports resolves path name asked done (Err e) root h = tt
 path_reports resolves path name asked done (Ok report) root h = ap (option_map (λ (r : List ℕ × Option (List ℕ)). report_in r.0 done)) root ∙ ap Some (sym h)
+
+-- what is told of a name that is finished
+pub report_again : {E : Type 0} (name : List ℕ) (done : List Done) (result : Result Opened E) → is_done done name ≡ true
+    → IfOk result (λ report. report ≡ (if is_opened name done then Again else Import)) → IfOk result (λ report. report ≡ report_in name done)
+report_again name done (Err e) there h = tt
+report_again name done (Ok report) there h = rw there h
+
+-- and of one that is not
+pub report_new : (name : List ℕ) (done : List Done) → is_done done name ≡ false → Compiled ≡ report_in name done
+report_new name done new = rw new refl

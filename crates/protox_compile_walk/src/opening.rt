@@ -31,7 +31,8 @@ pub(crate) fn shadowed_by<'a>(
                 Some((asked, own))
             }
         }
-        _ => None,
+        (None, _) => None,
+        (Some(_), None) => None,
     }
 }
 

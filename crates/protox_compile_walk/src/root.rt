@@ -1,6 +1,6 @@
 //! The opening of a path.
 
-ghost use Rattle.std.specs.Prelude.{◌≡◌, ◌≤◌, [], IfOk, IfErr, OnOk, OnErr, IsTrue, length, true, false, Some, IfSome};
+ghost use Rattle.std.specs.Prelude.{◌≡◌, ◌≤◌, [], IfOk, IfErr, OnOk, OnErr, IsTrue, length, true, false, Some, IfSome, if◌then◌else◌};
 ghost use Rattle.std.specs.Option.{option_copied};
 ghost use Rattle.protox_io.specs.Count.{Later};
 ghost use Rattle.protox_file_sources.specs.Causes.{FaultCause};
@@ -59,6 +59,17 @@ fn asked_path(resolved: bool, path: &str) -> Option<&str>
     if resolved { Some(path) } else { None }
 }
 
+/// What is told of a name that was compiled.
+fn compiled_report(is_opened: bool) -> Opened
+    ensures { result ≡ (if is_opened then Opened.Again else Opened.Import) }
+{
+    if is_opened {
+        Opened::Again
+    } else {
+        Opened::Import
+    }
+}
+
 /// Marks a file that is finished, unless it has another path than the one that was asked.
 fn open_again(
     alloc: Global,
@@ -75,11 +86,7 @@ fn open_again(
     if let Some((path, shadow)) = shadowed_by(asked, done.path_of(name)) {
         return Err(shadowed(alloc, name, path, shadow));
     }
-    let report = if done.is_opened(name) {
-        Opened::Again
-    } else {
-        Opened::Import
-    };
+    let report = compiled_report(done.is_opened(name));
     done.mark(name);
     Ok(report)
 }

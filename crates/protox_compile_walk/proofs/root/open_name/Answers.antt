@@ -1,7 +1,7 @@
 use Rattle.std.proofs.Common.{◌∙◌, sym}
 use Rattle.protox_file_sources.specs.Causes.{FaultCause}
 use Rattle.std.specs.Option.{option_copied}
-use Rattle.protox_compile_walk.proofs.Openings.{ok_again, err_again, ok_new, err_new, opening_cause, opens_again, opens_new, longer}
+use Rattle.protox_compile_walk.proofs.Openings.{ok_again, err_again, ok_new, err_new, opening_cause, opens_again, opens_new, longer, report_again, report_new}
 use Rattle.protox_compile_walk.proofs.Causes.{shadowed_cause}
 use Rattle.protox_compile_walk.proofs.root.open_name.Goals as goal
 
@@ -36,3 +36,9 @@ returns-in-Ok-clause-unread g c same =
 
 pub returns-then-contains-clause-cause : goal.returns-then-contains-clause-cause
 returns-then-contains-clause-cause g c = shadowed_cause c.args.limit c.args.name.now c.args.path.now c.args.resolved _ _ (FaultCause (g.R.FileResolver.library c.args.resolver.now) (g.R.FileResolver.count c.args.resolver.now) (g.R.FileResolver.count c.args.resolver.now)) c.open_again.result (rw c.asked_path-asked.ensures at c.open_again.ensures.refused)
+
+pub returns-then-contains-clause-report : goal.returns-then-contains-clause-report
+returns-then-contains-clause-report g c = report_again c.args.name.now c.args.done.now c.open_again.result (sym c.contains.ensures ∙ c.if-contains.true) c.open_again.ensures.report
+
+pub returns-in-Ok-clause-report : goal.returns-in-Ok-clause-report
+returns-in-Ok-clause-report g c = report_new c.args.name.now c.args.done.now (sym c.contains.ensures ∙ c.if-contains.false)
