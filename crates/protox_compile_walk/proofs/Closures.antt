@@ -5,19 +5,19 @@ use Rattle.std.specs.Prelude.{Option}
 use Rattle.protox_file_sources.specs.Told.{Told, Lookup, ByLookups}
 use Rattle.protox_file_error.specs.declared.error.ErrorKind.{ErrorKind}
 use Rattle.protox_compile_walk.specs.Walk.{Done}
-use Rattle.protox_compile_walk.specs.Opening.{Opened, Accepted, NotIncluded, Refused, opening, closure, after_opening}
+use Rattle.protox_compile_walk.specs.Opening.{Ended, Accepted, NotIncluded, Refused, opening, closure, after_opening}
 use Rattle.protox_compile_walk.specs.Refusals.{RefusesOpening, Grows}
 use Rattle.protox_compile_walk.specs.Closures.{StopsAt}
 use Rattle.protox_compile_walk.specs.Opens.{Opens, OpensTimes}
 use Rattle.protox_compile_walk.proofs.Joined.{Once, joined, right_joined, more_first, more_second, opens_more, closes_more, refuses_more}
 
 module _ (lookups : List ℕ → Lookup) (resolves : List ℕ → Option (List ℕ)) (limit : ℕ) where
-  then_push : (opened : List Done × Opened) (longer rest one : List Done → List Done × Opened) → ((d : List Done) → longer d ≡ after_opening (rest d) one) → after_opening opened longer ≡ after_opening (after_opening opened rest) one
+  then_push : (opened : List Done × Ended) (longer rest one : List Done → List Done × Ended) → ((d : List Done) → longer d ≡ after_opening (rest d) one) → after_opening opened longer ≡ after_opening (after_opening opened rest) one
   then_push (d, Accepted) longer rest one e = e d
   then_push (d, NotIncluded) longer rest one e = refl
   then_push (d, Refused fault) longer rest one e = refl
 
-  last : (opened : List Done × Opened) → after_opening opened (λ d. (d, Accepted)) ≡ opened
+  last : (opened : List Done × Ended) → after_opening opened (λ d. (d, Accepted)) ≡ opened
   last (d, Accepted) = refl
   last (d, NotIncluded) = refl
   last (d, Refused fault) = refl

@@ -6,10 +6,10 @@ use Rattle.std.proofs.lemmas.List.{append-nil}
 use Rattle.std.specs.Str.{bytes_eq}
 use Rattle.pbx_link_rules.specs.Breaches.{keeps_rules}
 use Rattle.pbx_link_definitions.specs.Names.{among}
-use Rattle.protox_io.specs.FileNames.{path_equal}
+use Rattle.protox_io.specs.FileNames.{path_equal, escapes}
 use Rattle.protox_file_sources.specs.Told.{Entry, Lookup, NoFile, IsFile, TextFault, Unread}
 use Rattle.protox_compile_walk.specs.Places.{place_of_import}
-use Rattle.protox_compile_walk.specs.Walk.{Done, Fault, Limit, Mismatch, Shadowed, Duplicate, Circular, Unlinked, Visited, Finished, Missing, Faulted, Open, records, imports_of, declared_name, done_as, is_done, chain_text, after_visit, visit_imports, finish, unless_shadowed, visit_lookup, visit, visits}
+use Rattle.protox_compile_walk.specs.Walk.{Done, Fault, Limit, Mismatch, Shadowed, Duplicate, Escapes, Circular, Unlinked, Visited, Finished, Missing, Faulted, Open, records, imports_of, declared_name, done_as, is_done, chain_text, after_visit, visit_imports, finish, unless_shadowed, visit_lookup, visit, visits}
 use Rattle.protox_compile_walk.specs.Resume.{names_of, go_on, resume}
 use Rattle.protox_compile_walk.specs.Refusals.{Extends, Grows, is_imported}
 
@@ -35,10 +35,11 @@ pub imports_extend : (v : List Done → List ℕ → List Done × Visited) → (
 imports_extend v k chain n places seen [] done = extends_same done
 imports_extend v k chain n places seen (m ∷ ms) done =
     extends_cond (among seen m) done (done, Some (Duplicate n (length seen) (places (length seen)) m)) _ (extends_same done)
+    (extends_cond (escapes m) done (done, Some (Escapes n (length seen) (places (length seen)) m)) _ (extends_same done)
     (extends_cond (among chain m) done (done, Some (Circular m (chain_text (reverse (m ∷ chain))))) _ (extends_same done)
     (extends_cond (is_done done m) done (visit_imports v chain n places (seen ++ m ∷ []) ms done) (after_visit n (length seen) (places (length seen)) m (v done m) (visit_imports v chain n places (seen ++ m ∷ []) ms))
     (imports_extend v k chain n places (seen ++ m ∷ []) ms done)
-    (after_extends n (length seen) (places (length seen)) m done (v done m) (visit_imports v chain n places (seen ++ m ∷ []) ms) (k done m) (imports_extend v k chain n places (seen ++ m ∷ []) ms))))
+    (after_extends n (length seen) (places (length seen)) m done (v done m) (visit_imports v chain n places (seen ++ m ∷ []) ms) (k done m) (imports_extend v k chain n places (seen ++ m ∷ []) ms)))))
 
 pub finish_extends : (n : List ℕ) (entry : Entry) (done : List Done) (r : List Done × Option Fault) → Extends done r.0 → Extends done (finish n entry r).0
 finish_extends n entry done (d, None) e = extends_join e (extends_cond (keeps_rules (records d) entry.file) d (d ++ done_as d n entry ∷ [], Finished) (d, Faulted (Unlinked entry.file)) (extends_push d (done_as d n entry)) (extends_same d))

@@ -2,14 +2,14 @@
 use Rattle.std.proofs.Common.{◌≡◌, ◌∙◌, ◌+◌, ◌<◌, ◌++◌, ◌∷◌, ◌||◌, [], ℕ, zero, suc, List, Bool, true, false, refl, sym, ap, length, get_or, arith}
 use Rattle.std.proofs.Math.ListN.{set}
 use Rattle.std.proofs.lemmas.List.{map-append, length-map, length_push}
-use Rattle.std.specs.Prelude.{if◌then◌else◌, Option, Some, None, is_some}
+use Rattle.std.specs.Prelude.{not, if◌then◌else◌, Option, Some, None, is_some}
 use Rattle.std.specs.List.{list_any}
 use Rattle.std.specs.Str.{bytes_eq}
 use Rattle.pbx_link_definitions.specs.Names.{among}
 use Rattle.protox_file_sources.specs.Metadata.{Metadata}
 use Rattle.protox_compile_walk.specs.declared.indexes.Indexes.{Indexes}
 use Rattle.protox_compile_walk.specs.Indexes.{first_index, AreIndexed}
-use Rattle.protox_compile_walk.specs.Compiled.{opened_at, opened_in, path_at, path_known, names_known}
+use Rattle.protox_compile_walk.specs.Compiled.{opened_at, opened_in, path_at, path_known, is_opened_at, is_opened_known, names_known}
 use Rattle.protox_compile_walk.proofs.Indexed.{front, behind, below, found_among}
 
 any_known : (name : List ℕ) (ms : List Metadata) → among (names_known ms) name ≡ list_any (λ (m : Metadata). bytes_eq m.name name) ms
@@ -46,6 +46,25 @@ path_is (x ∷ ms) zero m h = refl
 path_is (x ∷ ms) (suc i) m h = path_is ms i m (omega (arith, h))
 
 -- ---- marks
+
+-- whether the file of this index is marked as opened, if there is one
+abbrev pub is_opened_by : List Metadata → Option ℕ → Bool
+is_opened_by ms None = false
+is_opened_by ms (Some i) = is_opened_at i ms
+
+pub is_opened_found : (name : List ℕ) (ms : List Metadata) → is_opened_known name ms ≡ is_opened_by ms (first_index name (names_known ms))
+is_opened_found name [] = refl
+is_opened_found name (m ∷ ms) = at (bytes_eq m.name name) (first_index name (names_known ms)) (is_opened_found name ms)
+  where
+    at : (b : Bool) (o : Option ℕ) → is_opened_known name ms ≡ is_opened_by ms o → (if b then not m.is_import else is_opened_known name ms) ≡ is_opened_by (m ∷ ms) (if b then front else behind o)
+    at true o h = refl
+    at false None h = h
+    at false (Some i) h = h
+
+pub is_opened_is : (ms : List Metadata) (i : ℕ) (m : Metadata) → i < length ms → not (get_or ms i m).is_import ≡ is_opened_at i ms
+is_opened_is [] i m h = absurd (omega (arith, h))
+is_opened_is (x ∷ ms) zero m h = refl
+is_opened_is (x ∷ ms) (suc i) m h = is_opened_is ms i m (omega (arith, h))
 
 -- the files, that of this index opened, if there is one
 abbrev pub opened_by : List Metadata → Option ℕ → List Metadata

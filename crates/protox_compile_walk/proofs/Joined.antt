@@ -4,9 +4,9 @@ use Rattle.std.specs.Prelude.{Option}
 use Rattle.pbx_parse.specs.declared.error.ParseError.TheVariants as parse
 use Rattle.protox_file_sources.specs.Told.{Told, Lookup, NoFile, IsFile, TextFault, Unread, IsFound, IsLookup, AreLookups, AreComplete}
 use Rattle.protox_file_error.specs.declared.error.ErrorKind.{ErrorKind}
-use Rattle.protox_file_error.specs.declared.error.ErrorKind.TheVariants.{Parse, Check, OpenFile, FileTooLarge, FileInvalidUtf8, FileNotFound, ImportNotFound, CircularImport, FileNotIncluded, FileShadowed, DuplicateImport, Custom, NameMismatch, FileLimit, Undecodable, NoMemory}
+use Rattle.protox_file_error.specs.declared.error.ErrorKind.TheVariants.{Parse, Check, OpenFile, FileTooLarge, FileInvalidUtf8, ImportNotFound, CircularImport, FileNotIncluded, FileShadowed, DuplicateImport, Custom, NameMismatch, FileLimit, NoMemory, ImportEscapes}
 use Rattle.protox_compile_walk.specs.Walk.{Done, NoImport}
-use Rattle.protox_compile_walk.specs.Opening.{Opened, Accepted, NotIncluded, Refused, IsDecided, root_of, opening, closure, grown}
+use Rattle.protox_compile_walk.specs.Opening.{Ended, Accepted, NotIncluded, Refused, IsDecided, root_of, opening, closure, grown}
 use Rattle.protox_compile_walk.specs.Refusals.{without, RefusedWithout, RefusesWith, RefusesOpening}
 use Rattle.protox_compile_walk.specs.Closures.{StopsAt}
 use Rattle.protox_compile_walk.specs.Resume.{IsMore}
@@ -78,20 +78,20 @@ more_all once files some all p q c name = or_all (some name) (all name) (agree o
 
 -- ---- what is known of openings stays by more look-ups
 
-lacking_decided : (root : Option (List ℕ × Option (List ℕ))) (n : List ℕ) (end : Opened) → RefusedWithout root n end → IsDecided end
+lacking_decided : (root : Option (List ℕ × Option (List ℕ))) (n : List ℕ) (end : Ended) → RefusedWithout root n end → IsDecided end
 lacking_decided root n NotIncluded h = tt
 lacking_decided root n (Refused (NoImport file index place m)) h = tt
 lacking_decided root n _ h = absurd h
 
-decided_as : (o p : List Done × Opened) → o ≡ p → IsDecided p.1 → IsDecided o.1
-decided_as o p e d = let P : List Done × Opened → Type 0 = λ x. IsDecided x.1 in subst P (sym e) d
+decided_as : (o p : List Done × Ended) → o ≡ p → IsDecided p.1 → IsDecided o.1
+decided_as o p e d = let P : List Done × Ended → Type 0 = λ x. IsDecided x.1 in subst P (sym e) d
 
 module _ (some others : List ℕ → Lookup) (more : IsMore some others) (resolves : List ℕ → Option (List ℕ)) (limit : ℕ) where
   -- an opening that ended so ends so
-  pub opens_more : (path : List ℕ) (done later : List Done) (end : Opened) → IsDecided end → opening some resolves limit path done ≡ (later, end) → opening others resolves limit path done ≡ (later, end)
+  pub opens_more : (path : List ℕ) (done later : List Done) (end : Ended) → IsDecided end → opening some resolves limit path done ≡ (later, end) → opening others resolves limit path done ≡ (later, end)
   opens_more path done later end d e = opening_decided some others more resolves limit path done (decided_as (opening some resolves limit path done) (later, end) e d) ∙ e
 
-  pub closes_more : (paths : List (List ℕ)) (done later : List Done) (end : Opened) → IsDecided end → closure some resolves limit paths done ≡ (later, end) → closure others resolves limit paths done ≡ (later, end)
+  pub closes_more : (paths : List (List ℕ)) (done later : List Done) (end : Ended) → IsDecided end → closure some resolves limit paths done ≡ (later, end) → closure others resolves limit paths done ≡ (later, end)
   closes_more paths done later end d e = closure_decided some others more resolves limit paths done (decided_as (closure some resolves limit paths done) (later, end) e d) ∙ e
 
   module _ (path : List ℕ) (done later : List Done) where
@@ -107,7 +107,6 @@ module _ (some others : List ℕ → Lookup) (more : IsMore some others) (resolv
     }
     refuses_with (FileTooLarge name) h = opens_more path done later _ tt h
     refuses_with (FileInvalidUtf8 name) h = opens_more path done later _ tt h
-    refuses_with (FileNotFound name) h = h
     refuses_with (ImportNotFound file index place name) h = opens_more path done later _ tt h
     refuses_with (CircularImport name cycle) h = opens_more path done later _ tt h
     refuses_with (FileNotIncluded p) h = (h.0, opens_more path done later _ tt h.1)
@@ -116,8 +115,9 @@ module _ (some others : List ℕ → Lookup) (more : IsMore some others) (resolv
     refuses_with (Custom text is_io) h = extends_join h (grown_further some others more limit (root_of resolves path) done)
     refuses_with (NameMismatch asked declared) h = opens_more path done later _ tt h
     refuses_with (FileLimit most) h = opens_more path done later _ tt h
-    refuses_with (Undecodable file) h = h
     refuses_with NoMemory h = extends_join h (grown_further some others more limit (root_of resolves path) done)
+    refuses_with (ImportEscapes file index place name) h = opens_more path done later _ tt h
+    refuses_with _ h = absurd h
 
     -- an opening that was refused so is refused so
     pub refuses_more : (error : ErrorKind) → RefusesOpening some resolves limit path done later error → RefusesOpening others resolves limit path done later error

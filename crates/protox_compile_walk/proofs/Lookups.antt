@@ -7,7 +7,7 @@ use Rattle.protox_io.specs.FileNames.{path_equal}
 use Rattle.protox_file_sources.specs.Told.{Entry, Told, NoFile, IsFile, TextFault, Unread, IsFound}
 use Rattle.protox_file_sources.specs.Causes.{IsToldRefusal, HasCause}
 use Rattle.protox_file_error.specs.declared.error.ErrorKind.{ErrorKind}
-use Rattle.protox_file_error.specs.declared.error.ErrorKind.TheVariants.{Parse, Check, OpenFile, FileTooLarge, FileInvalidUtf8, FileNotFound, ImportNotFound, CircularImport, FileNotIncluded, FileShadowed, DuplicateImport, Custom, NameMismatch, FileLimit, Undecodable, NoMemory}
+use Rattle.protox_file_error.specs.declared.error.ErrorKind.TheVariants.{Parse, OpenFile, FileTooLarge, FileInvalidUtf8, FileNotFound, FileShadowed, Custom, NameMismatch, NoMemory}
 use Rattle.protox_compile_walk.specs.Walk.{Open, declared_name}
 use Rattle.protox_compile_walk.specs.Refusals.{OrNoMemory, IsOpenOf, StopsOpening}
 use Rattle.protox_compile_walk.specs.Resume.{ByLookup}
@@ -43,18 +43,10 @@ module _ (name : List ℕ) (told : Told) where
     pub stops_refused : (may_fail : List ℕ → ErrorKind → Bool) (rose : Type 0) (error : ErrorKind) → IsToldRefusal name told error → HasCause may_fail name rose error → ByLookup name told (λ lookup. StopsOpening lookup name asked error)
     stops_refused may_fail rose (Parse (parse.Syntax file line column expected found)) t h = (TextFault 1, t, (cc, refl))
     stops_refused may_fail rose (Parse parse.NoMemory) t h = absurd (cc)
-    stops_refused may_fail rose (Check why) t h = absurd h
     stops_refused may_fail rose (OpenFile n path fault) t h = (Unread, tt, h.0)
     stops_refused may_fail rose (FileTooLarge n) t h = (TextFault 4, t, (h, refl))
     stops_refused may_fail rose (FileInvalidUtf8 n) t h = (TextFault 5, t, (h, refl))
     stops_refused may_fail rose (FileNotFound n) t h = (NoFile, t, (h, refl))
-    stops_refused may_fail rose (ImportNotFound file index place n) t h = absurd h
-    stops_refused may_fail rose (CircularImport n cycle) t h = absurd h
-    stops_refused may_fail rose (FileNotIncluded path) t h = absurd h
-    stops_refused may_fail rose (FileShadowed n path shadow) t h = absurd h
-    stops_refused may_fail rose (DuplicateImport file index place n) t h = absurd h
     stops_refused may_fail rose (Custom text is_io) t h = (Unread, tt, tt)
-    stops_refused may_fail rose (NameMismatch n declared) t h = absurd h
-    stops_refused may_fail rose (FileLimit most) t h = absurd h
-    stops_refused may_fail rose (Undecodable file) t h = absurd h
     stops_refused may_fail rose NoMemory t h = (Unread, tt, tt)
+    stops_refused may_fail rose _ t h = absurd h

@@ -3,11 +3,11 @@ use Rattle.std.proofs.Common.{◌≡◌, ◌⊎◌, inl, inr, ◌+◌, ◌-◌, 
 use Rattle.std.specs.Prelude.{nat_lt, if◌then◌else◌, reverse, Option, Some, None}
 use Rattle.std.specs.Str.{bytes_eq}
 use Rattle.pbx_link_definitions.specs.Names.{among}
-use Rattle.protox_io.specs.FileNames.{path_equal}
+use Rattle.protox_io.specs.FileNames.{path_equal, escapes}
 use Rattle.protox_file_sources.specs.Told.{Entry, Lookup, NoFile, IsFile, TextFault, Unread}
 use Rattle.protox_compile_walk.specs.Places.{place_of_import}
-use Rattle.protox_compile_walk.specs.Walk.{Done, Fault, Limit, Mismatch, Shadowed, Duplicate, Circular, NotRead, Visited, Finished, Missing, Faulted, imports_of, declared_name, is_done, chain_text, after_visit, visit_imports, finish, unless_shadowed, visit_lookup, visit, visits}
-use Rattle.protox_compile_walk.specs.Opening.{Opened, Accepted, NotIncluded, Refused, IsDecided, path_in, root_of, open_done, open_root, open_name, opening, after_opening, closure, grown}
+use Rattle.protox_compile_walk.specs.Walk.{Done, Fault, Limit, Mismatch, Shadowed, Duplicate, Escapes, Circular, NotRead, Visited, Finished, Missing, Faulted, imports_of, declared_name, is_done, chain_text, after_visit, visit_imports, finish, unless_shadowed, visit_lookup, visit, visits}
+use Rattle.protox_compile_walk.specs.Opening.{Ended, Accepted, NotIncluded, Refused, IsDecided, path_in, root_of, open_done, open_root, open_name, opening, after_opening, closure, grown}
 use Rattle.protox_compile_walk.specs.Refusals.{Extends}
 use Rattle.protox_compile_walk.specs.Resume.{IsMore}
 use Rattle.protox_compile_walk.proofs.Extends.{extends_same, after_extends, imports_extend, finish_extends, lookup_extends, visit_extends}
@@ -57,11 +57,12 @@ module _ (v w : List Done → List ℕ → List Done × Visited) (k : (d : List 
   imports_further seen [] done = inl refl
   imports_further seen (m ∷ ms) done =
       further_cond_by (among seen m) (done, Some (Duplicate n (length seen) (places (length seen)) m)) _ (done, Some (Duplicate n (length seen) (places (length seen)) m)) _ (inl refl)
+      (further_cond_by (escapes m) (done, Some (Escapes n (length seen) (places (length seen)) m)) _ (done, Some (Escapes n (length seen) (places (length seen)) m)) _ (inl refl)
       (further_cond_by (among chain m) (done, Some (Circular m (chain_text (reverse (m ∷ chain))))) _ (done, Some (Circular m (chain_text (reverse (m ∷ chain))))) _ (inl refl)
       (further_cond_by (is_done done m) (visit_imports v chain n places (seen ++ m ∷ []) ms done) _ (visit_imports w chain n places (seen ++ m ∷ []) ms done) _
       (imports_further (seen ++ m ∷ []) ms done)
       (after_further n (length seen) (places (length seen)) m (v done m) (w done m) (visit_imports v chain n places (seen ++ m ∷ []) ms) (visit_imports w chain n places (seen ++ m ∷ []) ms)
-      (k done m) (imports_further (seen ++ m ∷ []) ms) (imports_extend w x chain n places (seen ++ m ∷ []) ms))))
+      (k done m) (imports_further (seen ++ m ∷ []) ms) (imports_extend w x chain n places (seen ++ m ∷ []) ms)))))
 
 finish_further : (n : List ℕ) (entry : Entry) (r s : List Done × Option Fault) → FurtherBy r s → Further (finish n entry r) (finish n entry s)
 finish_further n entry r s (inl e) = inl (ap (finish n entry) e)
@@ -112,7 +113,7 @@ root_decided name v w (inr c) d = cut v c.0 d
     cut (done, Faulted (NotRead q)) c d = absurd d
     cut _ c d = absurd c
 
-after_decided : (o p : List Done × Opened) (rest later : List Done → List Done × Opened) → (IsDecided o.1 → p ≡ o) → ((d : List Done) → IsDecided (rest d).1 → later d ≡ rest d)
+after_decided : (o p : List Done × Ended) (rest later : List Done → List Done × Ended) → (IsDecided o.1 → p ≡ o) → ((d : List Done) → IsDecided (rest d).1 → later d ≡ rest d)
     → IsDecided (after_opening o rest).1 → after_opening p later ≡ after_opening o rest
 after_decided (d, Accepted) p rest later h k g = ap (λ x. after_opening x later) (h tt) ∙ k d g
 after_decided (d, NotIncluded) p rest later h k g = ap (λ x. after_opening x later) (h tt)

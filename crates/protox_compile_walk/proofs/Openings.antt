@@ -2,12 +2,12 @@
 use Rattle.std.proofs.Common.{◌≡◌, ◌<◌, ◌∷◌, ◌++◌, ◌∙◌, arith, inl, inr, [], ℕ, suc, List, Bool, true, false, refl, sym, ap, subst, length, take, drop, get_or, drop-cons}
 use Rattle.std.proofs.Math.ListN.{set}
 use Rattle.std.proofs.lemmas.List.{set_split, append-nil, length-append}
-use Rattle.std.specs.Prelude.{if◌then◌else◌, Option, Some, None, Result, Ok, Err, IfErr, OnOk, OnErr}
+use Rattle.std.specs.Prelude.{if◌then◌else◌, Option, Some, None, Result, Ok, Err, IfOk, IfErr, OnOk, OnErr, option_map}
 use Rattle.std.specs.Str.{bytes_eq}
 use Rattle.pbx_parse.specs.declared.error.ParseError.TheVariants as parse
 use Rattle.protox_file_sources.specs.Told.{Told, Lookup, ByLookups}
 use Rattle.protox_file_error.specs.declared.error.ErrorKind.{ErrorKind}
-use Rattle.protox_file_error.specs.declared.error.ErrorKind.TheVariants.{Parse, Check, OpenFile, FileTooLarge, FileInvalidUtf8, FileNotFound, ImportNotFound, CircularImport, FileNotIncluded, FileShadowed, DuplicateImport, Custom, NameMismatch, FileLimit, Undecodable, NoMemory}
+use Rattle.protox_file_error.specs.declared.error.ErrorKind.TheVariants.{Parse, Check, OpenFile, FileTooLarge, FileInvalidUtf8, FileNotFound, ImportNotFound, CircularImport, FileNotIncluded, FileShadowed, DuplicateImport, Custom, NameMismatch, FileLimit, NoMemory, ImportEscapes}
 use Rattle.protox_compile_walk.specs.Walk.{Done, Visited, Finished, Missing, Faulted, Shadowed, NoImport, is_done, visits}
 use Rattle.protox_io.specs.Count.{Count, Later}
 use Rattle.protox_io.proofs.Counts.{rose_later}
@@ -16,7 +16,9 @@ use Rattle.protox_file_sources.specs.Library.{Library}
 use Rattle.protox_io.specs.FileNames.{name_of, path_equal}
 use Rattle.protox_compile_walk.specs.Opens.{IsShadowedBy, IsRoot, Opens, is_settled}
 use Rattle.protox_compile_walk.specs.Refusals.{Walk, Extends, Ends, OrNoMemory, IsToldBy, is_absent, RefusesWith, RefusesOpening, IsLeftOut, EndsWithout, RefusedWithout, Grows, HasRootCause, HasOpeningCause}
-use Rattle.protox_compile_walk.specs.Opening.{Opened, Accepted, NotIncluded, Refused, mark, asked_path, path_in, open_done, open_root, open_name, root_of, opening, grown}
+use Rattle.protox_compile_walk.specs.Opening.{Ended, Accepted, NotIncluded, Refused, mark, asked_path, path_in, open_done, open_root, open_name, root_of, opening, grown, is_opened, report_in, report_of}
+use Rattle.protox_compile_walk.specs.declared.root.Opened.{Opened}
+use Rattle.protox_compile_walk.specs.declared.root.Opened.TheVariants.{Compiled, Import, Again}
 use Rattle.protox_compile_walk.proofs.Extends.{extends_same, grows_same}
 use Rattle.protox_compile_walk.proofs.Causes.{asked_is}
 use Rattle.protox_compile_walk.proofs.Right.{nothing, right_nothing}
@@ -39,7 +41,7 @@ missing path n asked walk lookups later answer e (inl memory) = rw (memory, e) (
 missing path n asked walk lookups later answer e (inr same) = rw (same, e) (refl, refl)
 
 -- the root, or an import, has no file
-without_root : (n file : List ℕ) (asked : Option (List ℕ)) (end : Visited) (later : List Done) → EndsWithout n file end → (o : Opened) × (open_root n (later, end) ≡ (later, o)) × RefusedWithout (Some (n, asked)) file o
+without_root : (n file : List ℕ) (asked : Option (List ℕ)) (end : Visited) (later : List Done) → EndsWithout n file end → (o : Ended) × (open_root n (later, end) ≡ (later, o)) × RefusedWithout (Some (n, asked)) file o
 without_root n file asked Missing later h = (NotIncluded, refl, (asked, rw h refl))
 without_root n file asked (Faulted (NoImport f i place m)) later h = (Refused (NoImport f i place m), refl, h)
 without_root n file asked _ later h = absurd h
@@ -54,14 +56,14 @@ other path n asked walk lookups later (FileInvalidUtf8 file) a h = rw h refl
 other path n asked walk lookups later (FileNotFound file) a h = absurd (cc)
 other path n asked walk lookups later (ImportNotFound x i p y) a h = rw h refl
 other path n asked walk lookups later (CircularImport y cycle) a h = rw h refl
-other path n asked walk lookups later (FileNotIncluded p) a h = absurd h
 other path n asked walk lookups later (FileShadowed y p shadow) a h = rw h refl
 other path n asked walk lookups later (DuplicateImport x i p y) a h = rw h refl
 other path n asked walk lookups later (Custom text is_io) a h = h
 other path n asked walk lookups later (NameMismatch y declared) a h = rw h refl
 other path n asked walk lookups later (FileLimit l) a h = rw h refl
-other path n asked walk lookups later (Undecodable file) a h = absurd h
 other path n asked walk lookups later NoMemory a h = h
+other path n asked walk lookups later (ImportEscapes x i p y) a h = rw h refl
+other path n asked walk lookups later _ a h = absurd h
 
 absent_ends : (n : List ℕ) (walk : Walk) (lookups : List ℕ → Lookup) (later : List Done) (error : ErrorKind) → is_absent error ≡ true → Ends n error walk lookups later → walk lookups ≡ (later, Missing)
 absent_ends n walk lookups later (FileNotFound file) a h = h.1
@@ -105,16 +107,10 @@ opening_cause limit path resolved later fault error answer h k = by_case (is_abs
     absence (inr same) = rw same refl
 
     other_kind : (e : ErrorKind) → HasRootCause (asked_path resolved path) limit later fault e → is_absent e ≡ false → HasOpeningCause limit path later fault e
-    other_kind (Check why) x a = x
-    other_kind (OpenFile name p words) x a = x
-    other_kind (Custom text is_io) x a = x
     other_kind (FileNotFound name) x a = absurd (cc)
     other_kind (FileNotIncluded p) x a = absurd x
     other_kind (FileShadowed name p s) x a = (asked_is resolved path p x.0, x.1)
-    other_kind (NameMismatch asked declared) x a = x
-    other_kind (FileLimit most) x a = x
-    other_kind (Undecodable file) x a = absurd x
-    other_kind _ x a = tt
+    other_kind _ x a = x
 
     by_case : (b : Bool) → is_absent error ≡ b → HasOpeningCause limit path later fault answer
     by_case true e = absence (k.absent e)
@@ -226,3 +222,19 @@ root_missing root path found h e = let P : Option (List ℕ × Bool) → Type 0 
 -- its name is finished
 pub settled_found : (root : Option (List ℕ × Option (List ℕ))) (name : List ℕ) (asked : Option (List ℕ)) (done : List Done) → root ≡ Some (name, asked) → is_settled root done ≡ true → is_done done name ≡ true
 settled_found root name asked done e h = let P : Option (List ℕ × Option (List ℕ)) → Type 0 = λ r. is_settled r done ≡ true in subst P e h
+
+-- what is told of the name that was found
+pub path_reports : {E : Type 0} (resolves : List ℕ → Option (List ℕ)) (path name : List ℕ) (asked : Option (List ℕ)) (done : List Done) (result : Result Opened E) → root_of resolves path ≡ Some (name, asked)
+    → IfOk result (λ report. report ≡ report_in name done) → IfOk result (λ report. report_of resolves path done ≡ Some report)
+path_reports resolves path name asked done (Err e) root h = tt
+path_reports resolves path name asked done (Ok report) root h = ap (option_map (λ (r : List ℕ × Option (List ℕ)). report_in r.0 done)) root ∙ ap Some (sym h)
+
+-- what is told of a name that is finished
+pub report_again : {E : Type 0} (name : List ℕ) (done : List Done) (result : Result Opened E) → is_done done name ≡ true
+    → IfOk result (λ report. report ≡ (if is_opened name done then Again else Import)) → IfOk result (λ report. report ≡ report_in name done)
+report_again name done (Err e) there h = tt
+report_again name done (Ok report) there h = rw there h
+
+-- and of one that is not
+pub report_new : (name : List ℕ) (done : List Done) → is_done done name ≡ false → Compiled ≡ report_in name done
+report_new name done new = rw new refl

@@ -20,8 +20,8 @@ use Rattle.pbx_link.specs.Pool.{IsRefused}
 use Rattle.protox_file_error.specs.Errors.{of_descriptor}
 use Rattle.protox_file_sources.specs.Metadata.{Metadata}
 use Rattle.protox_compile_walk.specs.Walk.{Done, Open, is_done, records, done_as, declared_name}
-use Rattle.protox_compile_walk.specs.Opening.{mark, path_in}
-use Rattle.protox_compile_walk.specs.Compiled.{done_by, done_of, AreRecorded, metadata_of, opened_in, path_known, AllDone, IsOrdered, IsUnlinked}
+use Rattle.protox_compile_walk.specs.Opening.{mark, path_in, is_opened}
+use Rattle.protox_compile_walk.specs.Compiled.{done_by, done_of, AreRecorded, metadata_of, opened_in, path_known, is_opened_known, AllDone, IsOrdered, IsUnlinked}
 use Rattle.protox_compile_walk.proofs.Right.{bytes_are}
 
 pub length_done : (ms : List Metadata) (rs : List FileDescriptorProto) → AreRecorded ms rs → length (done_of ms rs) ≡ length ms
@@ -41,6 +41,12 @@ path_in_known [] [] name h = refl
 path_in_known [] (r ∷ rs) name h = absurd h
 path_in_known (m ∷ ms) [] name h = absurd h
 path_in_known (m ∷ ms) (r ∷ rs) name h = ap (λ p. if bytes_eq m.name name then m.path else p) (path_in_known ms rs name h.1)
+
+pub is_opened_in_known : (ms : List Metadata) (rs : List FileDescriptorProto) (name : List ℕ) → AreRecorded ms rs → is_opened name (done_of ms rs) ≡ is_opened_known name ms
+is_opened_in_known [] [] name h = refl
+is_opened_in_known [] (r ∷ rs) name h = absurd h
+is_opened_in_known (m ∷ ms) [] name h = absurd h
+is_opened_in_known (m ∷ ms) (r ∷ rs) name h = ap (λ b. if bytes_eq m.name name then not m.is_import else b) (is_opened_in_known ms rs name h.1)
 
 twice : (b : Bool) → not (not b) ≡ b
 twice true = refl

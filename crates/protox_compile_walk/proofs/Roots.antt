@@ -6,7 +6,7 @@ use Rattle.pbx_link_rules.specs.Breaches.{keeps_rules}
 use Rattle.pbx_parse.specs.declared.error.ParseError.TheVariants as parse
 use Rattle.protox_file_sources.specs.Told.{Entry, Told, Lookup, NoFile, ByLookups}
 use Rattle.protox_file_error.specs.declared.error.ErrorKind.{ErrorKind}
-use Rattle.protox_file_error.specs.declared.error.ErrorKind.TheVariants.{Parse, Check, OpenFile, FileTooLarge, FileInvalidUtf8, FileNotFound, ImportNotFound, CircularImport, FileNotIncluded, FileShadowed, DuplicateImport, Custom, NameMismatch, FileLimit, Undecodable, NoMemory}
+use Rattle.protox_file_error.specs.declared.error.ErrorKind.TheVariants.{Parse, OpenFile, FileTooLarge, FileInvalidUtf8, FileNotFound, FileShadowed, Custom, NameMismatch, FileLimit, NoMemory}
 use Rattle.protox_compile_walk.specs.Places.{place_of_import}
 use Rattle.protox_compile_walk.specs.Walk.{Done, Fault, Open, Visited, Finished, Missing, Faulted, Unlinked, records, imports_of, done_as, visit_imports, finish, unless_shadowed, visits}
 use Rattle.protox_compile_walk.specs.Resume.{resume, go_on, ByLookup, Follows}
@@ -66,21 +66,15 @@ module _ (limit : ℕ) (asked : Option (List ℕ)) (n : List ℕ) (done : List D
     stops : (lookups : List ℕ → Lookup) (error : ErrorKind) → StopsOpening (lookups n) n asked error → Ends n error (root_walk limit asked n done) lookups done
     stops lookups (Parse (parse.Syntax file line column expected found)) s = rw (visits_step, inside, s.1, s.0) refl
     stops lookups (Parse parse.NoMemory) s = s
-    stops lookups (Check error) s = absurd s
     stops lookups (OpenFile file path fault) s = record { front = root_extends lookups; end = Missing; exact = rw s (missing (without n lookups) (absent_there n lookups)); lacking = s }
     stops lookups (FileTooLarge file) s = rw (visits_step, inside, s.1, s.0) refl
     stops lookups (FileInvalidUtf8 file) s = rw (visits_step, inside, s.1, s.0) refl
     stops lookups (FileNotFound file) s = (s.0, rw (visits_step, inside, s.1) refl)
-    stops lookups (ImportNotFound x i p y) s = absurd s
-    stops lookups (CircularImport y cycle) s = absurd s
-    stops lookups (FileNotIncluded path) s = absurd s
     stops lookups (FileShadowed y path shadow) s = rw (visits_step, inside, s.1.lookup_is, s.1.declared, s.1.asked_is, s.1.path_is, s.1.other, s.0) refl
-    stops lookups (DuplicateImport x i p y) s = absurd s
     stops lookups (Custom text is_io) s = root_extends lookups
     stops lookups (NameMismatch x declared) s = rw (visits_step, inside, s.1.lookup_is, s.1.other, s.0, s.1.declared_is) refl
-    stops lookups (FileLimit l) s = absurd s
-    stops lookups (Undecodable file) s = absurd s
     stops lookups NoMemory s = root_extends lookups
+    stops lookups _ s = absurd s
 
     pub root_stops : (files : List ℕ → Told) (error : ErrorKind) → ByLookup n (files n) (λ lookup. StopsOpening lookup n asked error) → ByLookups files (λ lookups. Ends n error (root_walk limit asked n done) lookups done)
     root_stops files error told =

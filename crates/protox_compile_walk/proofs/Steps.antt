@@ -6,9 +6,10 @@ use Rattle.pbx_link.specs.Pool.{IsRefused}
 use Rattle.pbx_link_rules.specs.Breaches.{keeps_rules}
 use Rattle.pbx_link_definitions.specs.Names.{among}
 use Rattle.pbx_parse.specs.declared.error.ParseError.TheVariants as parse
+use Rattle.protox_io.specs.FileNames.{escapes}
 use Rattle.protox_file_sources.specs.Told.{Told, Lookup, NoFile, IsFile, Unread}
 use Rattle.protox_file_error.specs.declared.error.ErrorKind.{ErrorKind}
-use Rattle.protox_file_error.specs.declared.error.ErrorKind.TheVariants.{Parse, Check, OpenFile, FileTooLarge, FileInvalidUtf8, FileNotFound, ImportNotFound, CircularImport, FileNotIncluded, FileShadowed, DuplicateImport, Custom, NameMismatch, FileLimit, Undecodable, NoMemory}
+use Rattle.protox_file_error.specs.declared.error.ErrorKind.TheVariants.{Parse, Check, OpenFile, FileTooLarge, FileInvalidUtf8, FileNotFound, ImportNotFound, CircularImport, FileShadowed, DuplicateImport, Custom, NameMismatch, FileLimit, NoMemory, ImportEscapes}
 use Rattle.std.proofs.lemmas.List.{length-map}
 use Rattle.protox_compile_walk.specs.Places.{place_of_import}
 use Rattle.protox_compile_walk.specs.Walk.{Done, Open, Faulted, NoImport, records, imports_of, done_as, is_done, chain_text}
@@ -16,7 +17,7 @@ use Rattle.protox_compile_walk.specs.Resume.{names_of, resume, past, import_of, 
 use Rattle.protox_compile_walk.specs.Refusals.{Walk, with_lookup, without, Extends, Ends, OrNoMemory, IsToldBy, StopsOpening, IsOpenOf, is_absent}
 use Rattle.protox_compile_walk.proofs.Extends.{resume_extends}
 use Rattle.protox_compile_walk.proofs.Measure.{finishes, stops_unlinked}
-use Rattle.protox_compile_walk.proofs.Resume.{resume_duplicate, resume_circular, resume_skip, resume_limit, resume_missing, resume_text, resume_mismatch, resume_visit}
+use Rattle.protox_compile_walk.proofs.Resume.{resume_duplicate, resume_escapes, resume_circular, resume_skip, resume_limit, resume_missing, resume_text, resume_mismatch, resume_visit}
 use Rattle.protox_compile_walk.proofs.Right.{right_found, found_there, absent_there, more_same, more_found, more_before, more_there, closed_both, closed_found, closed_finished}
 
 pub ends_or : (root : List ℕ) (e told : ErrorKind) (walk : Walk) (lookups : List ℕ → Lookup) (done : List Done) → OrNoMemory e told → Extends done (walk lookups).0 → Ends root told walk lookups done → Ends root e walk lookups done
@@ -61,23 +62,28 @@ module _ (files : List ℕ → Told) (limit : ℕ) where
         let now = by_known (f ∷ fs) done walk follows in
         (follows.known, follows.right, ends_or root e _ walk follows.known done o (front (f ∷ fs) done walk follows.known now) (now ∙ resume_duplicate follows.known limit f fs done m fits (sym is) d))
 
-    pub ends_circular : (e : ErrorKind) → among (take f.next (imports_of f.entry)) m ≡ false → among (names_of (f ∷ fs)) m ≡ true → OrNoMemory e (CircularImport m (chain_text (reverse (m ∷ names_of (f ∷ fs))))) → EndsWalks files limit (f ∷ fs) done e done
-    ends_circular e d k o root walk follows =
+    pub ends_escapes : (e : ErrorKind) → among (take f.next (imports_of f.entry)) m ≡ false → escapes m ≡ true → OrNoMemory e (ImportEscapes f.name f.next (place_of_import f.entry f.next) m) → EndsWalks files limit (f ∷ fs) done e done
+    ends_escapes e d x o root walk follows =
         let now = by_known (f ∷ fs) done walk follows in
-        (follows.known, follows.right, ends_or root e _ walk follows.known done o (front (f ∷ fs) done walk follows.known now) (now ∙ resume_circular follows.known limit f fs done m fits (sym is) d k))
+        (follows.known, follows.right, ends_or root e _ walk follows.known done o (front (f ∷ fs) done walk follows.known now) (now ∙ resume_escapes follows.known limit f fs done m fits (sym is) d x))
 
-    pub skip_leads : among (take f.next (imports_of f.entry)) m ≡ false → among (names_of (f ∷ fs)) m ≡ false → is_done done m ≡ true → LeadsTo files limit (f ∷ fs) done (past f ∷ fs) done
-    skip_leads d k h walk follows = record {
+    pub ends_circular : (e : ErrorKind) → among (take f.next (imports_of f.entry)) m ≡ false → escapes m ≡ false → among (names_of (f ∷ fs)) m ≡ true → OrNoMemory e (CircularImport m (chain_text (reverse (m ∷ names_of (f ∷ fs))))) → EndsWalks files limit (f ∷ fs) done e done
+    ends_circular e d x k o root walk follows =
+        let now = by_known (f ∷ fs) done walk follows in
+        (follows.known, follows.right, ends_or root e _ walk follows.known done o (front (f ∷ fs) done walk follows.known now) (now ∙ resume_circular follows.known limit f fs done m fits (sym is) d x k))
+
+    pub skip_leads : among (take f.next (imports_of f.entry)) m ≡ false → escapes m ≡ false → among (names_of (f ∷ fs)) m ≡ false → is_done done m ≡ true → LeadsTo files limit (f ∷ fs) done (past f ∷ fs) done
+    skip_leads d x k h walk follows = record {
       known = follows.known;
       right = follows.right;
       closed = follows.closed;
-      is = λ lookups more. follows.is lookups more ∙ rw add-one (resume_skip lookups limit f fs done m fits (sym is) d k h);
+      is = λ lookups more. follows.is lookups more ∙ rw add-one (resume_skip lookups limit f fs done m fits (sym is) d x k h);
     }
 
     module _ (visit : IsVisit f fs done m) where
       pub ends_limit : limit ≤ length done + length fs + 1 → EndsWalks files limit (f ∷ fs) done (FileLimit limit) done
       ends_limit h root walk follows =
-          (follows.known, follows.right, by_known (f ∷ fs) done walk follows ∙ resume_limit follows.known limit f fs done m fits (sym is) visit.unseen visit.closed visit.new (rw length-map (omega arith)))
+          (follows.known, follows.right, by_known (f ∷ fs) done walk follows ∙ resume_limit follows.known limit f fs done m fits (sym is) visit.unseen visit.inside visit.closed visit.new (rw length-map (omega arith)))
 
       -- the import was not looked up before
       unread : (walk : Walk) (follows : Follows files walk limit (f ∷ fs) done) → follows.known m ≡ Unread
@@ -97,7 +103,7 @@ module _ (files : List ℕ → Told) (limit : ℕ) where
               closed = closed_found follows.known child (past f ∷ fs) done m told.0 named follows.closed;
               is = λ lookups more.
                   follows.is lookups (more_before follows.known lookups m told.0 (unread walk follows) more)
-                  ∙ rw (e, add-one) (resume_visit lookups limit f fs done m fits (sym is) visit.unseen visit.closed visit.new inside child.entry
+                  ∙ rw (e, add-one) (resume_visit lookups limit f fs done m fits (sym is) visit.unseen visit.inside visit.closed visit.new inside child.entry
                   (more_there follows.known lookups m told.0 (was_read told.0 child.entry o.lookup_is) more ∙ o.lookup_is) o.declared);
             }
 
@@ -112,26 +118,20 @@ module _ (files : List ℕ → Told) (limit : ℕ) where
           failed : walk (without m lookups) ≡ (done, Faulted (NoImport f.name f.next (place_of_import f.entry f.next) m))
           failed =
               follows.is (without m lookups) (more_found follows.known lookups m NoFile (unread walk follows) more)
-              ∙ resume_missing (without m lookups) limit f fs done m fits (sym is) visit.unseen visit.closed visit.new inside (absent_there m lookups)
+              ∙ resume_missing (without m lookups) limit f fs done m fits (sym is) visit.unseen visit.inside visit.closed visit.new inside (absent_there m lookups)
 
           stops : (root : List ℕ) (error : ErrorKind) → is_absent error ≡ false → StopsOpening (lookups m) m None error → Ends root error walk lookups done
-          stops root (Parse (parse.Syntax file line column expected found)) a s = rw s.0 (at_once ∙ resume_text lookups limit f fs done m fits (sym is) visit.unseen visit.closed visit.new inside 1 s.1)
+          stops root (Parse (parse.Syntax file line column expected found)) a s = rw s.0 (at_once ∙ resume_text lookups limit f fs done m fits (sym is) visit.unseen visit.inside visit.closed visit.new inside 1 s.1)
           stops root (Parse parse.NoMemory) a s = s
-          stops root (Check error) a s = absurd s
           stops root (OpenFile file path fault) a s = record { front = begun; end = Faulted (NoImport f.name f.next (place_of_import f.entry f.next) m); exact = rw s failed; lacking = sym s }
-          stops root (FileTooLarge file) a s = rw s.0 (at_once ∙ resume_text lookups limit f fs done m fits (sym is) visit.unseen visit.closed visit.new inside 4 s.1)
-          stops root (FileInvalidUtf8 file) a s = rw s.0 (at_once ∙ resume_text lookups limit f fs done m fits (sym is) visit.unseen visit.closed visit.new inside 5 s.1)
+          stops root (FileTooLarge file) a s = rw s.0 (at_once ∙ resume_text lookups limit f fs done m fits (sym is) visit.unseen visit.inside visit.closed visit.new inside 4 s.1)
+          stops root (FileInvalidUtf8 file) a s = rw s.0 (at_once ∙ resume_text lookups limit f fs done m fits (sym is) visit.unseen visit.inside visit.closed visit.new inside 5 s.1)
           stops root (FileNotFound file) a s = absurd (cc)
-          stops root (ImportNotFound x i p y) a s = absurd s
-          stops root (CircularImport y cycle) a s = absurd s
-          stops root (FileNotIncluded path) a s = absurd s
           stops root (FileShadowed y path shadow) a s = absurd (cc (s.1.asked_is))
-          stops root (DuplicateImport x i p y) a s = absurd s
           stops root (Custom text is_io) a s = begun
-          stops root (NameMismatch asked declared) a s = rw (s.0, s.1.declared_is) (at_once ∙ resume_mismatch lookups limit f fs done m fits (sym is) visit.unseen visit.closed visit.new inside s.1.entry s.1.lookup_is s.1.other)
-          stops root (FileLimit l) a s = absurd s
-          stops root (Undecodable file) a s = absurd s
+          stops root (NameMismatch asked declared) a s = rw (s.0, s.1.declared_is) (at_once ∙ resume_mismatch lookups limit f fs done m fits (sym is) visit.unseen visit.inside visit.closed visit.new inside s.1.entry s.1.lookup_is s.1.other)
           stops root NoMemory a s = begun
+          stops root _ a s = absurd s
 
           absent_told : (error : ErrorKind) → is_absent error ≡ true → StopsOpening (lookups m) m None error → lookups m ≡ NoFile
           absent_told (FileNotFound file) a s = s.1
@@ -143,7 +143,7 @@ module _ (files : List ℕ → Told) (limit : ℕ) where
               by_case : (b : Bool) → is_absent error ≡ b → Ends root answer walk lookups done
               by_case true e =
                   ends_or root answer _ walk lookups done (k.absent e) begun
-                  (at_once ∙ resume_missing lookups limit f fs done m fits (sym is) visit.unseen visit.closed visit.new inside (absent_told error e s))
+                  (at_once ∙ resume_missing lookups limit f fs done m fits (sym is) visit.unseen visit.inside visit.closed visit.new inside (absent_told error e s))
               by_case false e = rw (k.other e) (stops root error e s)
 
         pub ends_import : (error answer : ErrorKind) → IsToldBy (ImportNotFound f.name f.next (place_of_import f.entry f.next) m) error answer → ByLookup m (files m) (λ lookup. StopsOpening lookup m None error) → EndsWalks files limit (f ∷ fs) done answer done

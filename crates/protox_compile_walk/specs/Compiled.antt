@@ -1,5 +1,5 @@
 -- Compiled files: what is known of each, beside the records of a pool.
-use Rattle.std.specs.Prelude.{◌≡◌, ℕ, zero, suc, map, List, [], ◌∷◌, ◌++◌, true, false, not, if◌then◌else◌, Option, Some, None}
+use Rattle.std.specs.Prelude.{◌≡◌, ℕ, zero, suc, map, List, [], ◌∷◌, ◌++◌, Bool, true, false, not, if◌then◌else◌, Option, Some, None}
 use Rattle.std.specs.Str.{bytes_eq}
 use Rattle.pbx_desc_records.specs.declared.file.FileDescriptorProto.{FileDescriptorProto}
 use Rattle.pbx_link_rules.specs.Breaches.{keeps_rules}
@@ -46,6 +46,17 @@ abbrev pub path_at : ℕ → List Metadata → Option (List ℕ)
 path_at i [] = None
 path_at zero (m ∷ ms) = m.path
 path_at (suc i) (m ∷ ms) = path_at i ms
+
+-- whether the one at the index is no import
+abbrev pub is_opened_at : ℕ → List Metadata → Bool
+is_opened_at i [] = false
+is_opened_at zero (m ∷ ms) = not m.is_import
+is_opened_at (suc i) (m ∷ ms) = is_opened_at i ms
+
+-- whether the first of this name is no import
+abbrev pub is_opened_known : List ℕ → List Metadata → Bool
+is_opened_known name [] = false
+is_opened_known name (m ∷ ms) = if bytes_eq m.name name then not m.is_import else is_opened_known name ms
 
 -- the names of the files
 abbrev pub names_known : List Metadata → List (List ℕ)

@@ -3,12 +3,12 @@ use Rattle.std.specs.Prelude.{◌≡◌, ◌⊎◌, ℕ, List, true, Option, Som
 use Rattle.protox_file_sources.specs.Told.{Told, Lookup, AreLookups, AreComplete, ByLookups}
 use Rattle.protox_file_error.specs.declared.error.ErrorKind.{ErrorKind}
 use Rattle.protox_compile_walk.specs.Walk.{Done, Fault, is_done}
-use Rattle.protox_compile_walk.specs.Opening.{Opened, Accepted, Refused, IsDecided, mark, opening, closure, root_of}
+use Rattle.protox_compile_walk.specs.Opening.{Ended, Accepted, Refused, IsDecided, mark, opening, closure, root_of}
 use Rattle.protox_compile_walk.specs.Refusals.{RefusesOpening}
 use Rattle.protox_compile_walk.specs.Closures.{StopsAt}
 
 -- The opening was accepted, and changes the mark of the name alone, or it was refused, and changes nothing.
-abbrev pub IsOpenedAgain : List ℕ → List Done → List Done × Opened → Type 0
+abbrev pub IsOpenedAgain : List ℕ → List Done → List Done × Ended → Type 0
 IsOpenedAgain name done opened = (opened ≡ (mark name done, Accepted)) ⊎ ((fault : Fault) × (opened ≡ (done, Refused fault)))
 
 -- Opening a path whose name is finished changes its mark alone, to opened, or is refused and changes nothing.

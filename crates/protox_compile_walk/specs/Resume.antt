@@ -1,6 +1,7 @@
 -- What is left of a walk whose open files stand on a stack, the innermost first.
 use Rattle.std.specs.Prelude.{◌≡◌, ◌⊎◌, ◌+◌, ◌∷◌, [], ℕ, List, Bool, false, ◌||◌, map, take, drop, slice_index_or, Option, None}
 use Rattle.pbx_link_definitions.specs.Names.{among}
+use Rattle.protox_io.specs.FileNames.{escapes}
 use Rattle.protox_file_sources.specs.Told.{Told, Lookup, Unread, IsLookup, AreLookups, ByLookups}
 use Rattle.protox_compile_walk.specs.Places.{place_of_import}
 use Rattle.protox_compile_walk.specs.Walk.{Done, Fault, Visited, Finished, Missing, Faulted, Open, imports_of, is_done, visit_imports, finish, visits}
@@ -39,6 +40,7 @@ import_of f = slice_index_or (imports_of f.entry) f.next []
 pub record IsVisit (f : Open) (fs : List Open) (done : List Done) (name : List ℕ) : Type 0 where
   pub name_is : name ≡ import_of f
   pub unseen : among (take f.next (imports_of f.entry)) name ≡ false
+  pub inside : escapes name ≡ false
   pub closed : among (names_of (f ∷ fs)) name ≡ false
   pub new : is_done done name ≡ false
 

@@ -7,7 +7,7 @@ use Rattle.pbx_desc_records.specs.declared.file.FileDescriptorProto.{FileDescrip
 use Rattle.pbx_link_definitions.specs.Names.{among, text_or_empty}
 use Rattle.pbx_link_record.specs.Linked.{linked_record}
 use Rattle.pbx_link_rules.specs.Breaches.{keeps_rules}
-use Rattle.protox_io.specs.FileNames.{path_equal}
+use Rattle.protox_io.specs.FileNames.{path_equal, escapes}
 use Rattle.protox_file_sources.specs.Told.{Entry, Lookup, NoFile, IsFile, TextFault, Unread}
 use Rattle.protox_compile_walk.specs.Places.{place_of_import}
 
@@ -47,6 +47,7 @@ pub data Fault : Type 0 where
   Mismatch : List ℕ → List ℕ → Fault
   Shadowed : List ℕ → List ℕ → List ℕ → Fault
   Duplicate : List ℕ → ℕ → Option (ℕ × ℕ) → List ℕ → Fault
+  Escapes : List ℕ → ℕ → Option (ℕ × ℕ) → List ℕ → Fault
   Circular : List ℕ → List ℕ → Fault
   NoImport : List ℕ → ℕ → Option (ℕ × ℕ) → List ℕ → Fault
   Unlinked : FileDescriptorProto → Fault
@@ -85,9 +86,10 @@ abbrev pub visit_imports : (List Done → List ℕ → List Done × Visited) →
 visit_imports visit chain n places seen [] done = (done, None)
 visit_imports visit chain n places seen (m ∷ ms) done =
     if among seen m then (done, Some (Duplicate n (length seen) (places (length seen)) m))
+    else (if escapes m then (done, Some (Escapes n (length seen) (places (length seen)) m))
     else (if among chain m then (done, Some (Circular m (chain_text (reverse (m ∷ chain)))))
     else (if is_done done m then visit_imports visit chain n places (seen ++ m ∷ []) ms done
-    else after_visit n (length seen) (places (length seen)) m (visit done m) (visit_imports visit chain n places (seen ++ m ∷ []) ms)))
+    else after_visit n (length seen) (places (length seen)) m (visit done m) (visit_imports visit chain n places (seen ++ m ∷ []) ms))))
 
 -- after the imports, the file is linked among the finished files and finished as an import, unless it breaks a rule among them
 abbrev pub finish : List ℕ → Entry → List Done × Option Fault → List Done × Visited

@@ -4,7 +4,7 @@ ghost use Rattle.std.specs.Str.{bytes_eq};
 ghost use Rattle.pbx_link_rules.specs.Breaches.{keeps_rules};
 ghost use Rattle.pbx_link_rules.specs.Pool.{ArePooled};
 ghost use Rattle.protox_compile_walk.specs.Walk.{is_done, done_as, records, declared_name};
-ghost use Rattle.protox_compile_walk.specs.Opening.{mark, path_in};
+ghost use Rattle.protox_compile_walk.specs.Opening.{mark, path_in, is_opened};
 ghost use Rattle.protox_compile_walk.specs.Compiled.{IsUnlinked, IsOrdered, metadata_of};
 
 use crate::frame::Frame;
@@ -68,6 +68,13 @@ impl FinishedFiles {
         ensures { option_copied result ≡ path_in name.now self.now }
     {
         self.known.path_of(name)
+    }
+
+    /// Whether the file of this name is marked as opened.
+    pub(crate) fn is_opened(&self, name: &str) -> bool
+        ensures { result ≡ is_opened name.now self.now }
+    {
+        self.known.is_opened(name)
     }
 
     /// What is known of each file, in order; takes no memory.

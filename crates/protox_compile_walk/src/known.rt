@@ -4,7 +4,7 @@ ghost use Rattle.std.specs.Option.{option_copied};
 ghost use Rattle.std.specs.List.{list_any};
 ghost use Rattle.std.specs.Str.{bytes_eq};
 ghost use Rattle.protox_file_sources.specs.Metadata.{Metadata};
-ghost use Rattle.protox_compile_walk.specs.Compiled.{opened_at, opened_in, path_at, path_known};
+ghost use Rattle.protox_compile_walk.specs.Compiled.{opened_at, opened_in, path_at, path_known, is_opened_at, is_opened_known};
 
 use crate::indexes::Indexes;
 use pbx_wire::NoMemory;
@@ -73,6 +73,16 @@ impl Known {
         }
     }
 
+    /// Whether the file of this name is marked as opened.
+    pub(crate) fn is_opened(&self, name: &str) -> bool
+        ensures { result ≡ is_opened_known name.now self.now }
+    {
+        match self.names.get(name) {
+            Some(index) => is_opened_at(self.files.as_slice(), index),
+            None => false,
+        }
+    }
+
     /// Marks the file of this name as opened.
     pub(crate) fn mark(&mut self, name: &str)
         ensures { self.new ≡ opened_in name.now self.old }
@@ -116,6 +126,14 @@ fn path_at(files: &[FileMetadata], index: usize) -> Option<&str>
     ensures { option_copied result ≡ path_at index files.now }
 {
     files[index].path()
+}
+
+/// Whether the file at the index is marked as opened.
+fn is_opened_at(files: &[FileMetadata], index: usize) -> bool
+    requires { index < length files.now }
+    ensures { result ≡ is_opened_at index files.now }
+{
+    !files[index].is_import()
 }
 
 /// Marks the file at the index as opened.

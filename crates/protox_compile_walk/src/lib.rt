@@ -16,4 +16,4 @@ mod walk;
 
 pub use finished::FinishedFiles;
 pub use laws::{opening_again_marks, opens_by_all, opens_once};
-pub use root::open_path;
+pub use root::{Opened, open_path};

@@ -5,7 +5,6 @@ ghost use Rattle.protox_io.specs.Count.{Later};
 ghost use Rattle.protox_file_sources.specs.Causes.{FaultCause};
 ghost use Rattle.protox_io.specs.FileNames.{path_equal};
 ghost use Rattle.protox_compile_walk.specs.Walk.{imports_of, declared_name};
-ghost use Rattle.protox_compile_walk.specs.Opening.{asked_path};
 ghost use Rattle.protox_compile_walk.specs.Refusals.{IsOpenOf, IsUnshadowed, StopsOpening, HasOpenCause};
 ghost use Rattle.protox_compile_walk.specs.Resume.{ByLookup};
 
@@ -16,20 +15,24 @@ use protox_file_sources::{Error, File, FileResolver, path_eq};
 use std::alloc::Global;
 use std::mem::drop;
 
-/// The path of a file, where it is another than the one that was asked.
-pub(crate) fn shadow_of<'a>(own: Option<&'a str>, resolved: bool, path: &str) -> Option<&'a str>
-    ensures { MatchOption result (IsUnshadowed (asked_path resolved path.now) (option_copied own.entry))
-        (λ shadow. (resolved ≡ true) × (option_copied own.entry ≡ Some shadow.now) × (path_equal shadow.now path.now ≡ false)) }
+/// The path that was asked and the path of the file, where these are two.
+pub(crate) fn shadowed_by<'a>(
+    asked: Option<&'a str>,
+    own: Option<&'a str>,
+) -> Option<(&'a str, &'a str)>
+    ensures { MatchOption result (IsUnshadowed (option_copied asked.entry) (option_copied own.entry))
+        (λ paths. (option_copied asked.entry ≡ Some paths.0.now) × (option_copied own.entry ≡ Some paths.1.now) × (path_equal paths.1.now paths.0.now ≡ false)) }
 {
-    match own {
-        Some(own) => {
-            if resolved && !path_eq(own, path) {
-                Some(own)
-            } else {
+    match (asked, own) {
+        (Some(asked), Some(own)) => {
+            if path_eq(own, asked) {
                 None
+            } else {
+                Some((asked, own))
             }
         }
-        None => None,
+        (None, _) => None,
+        (Some(_), None) => None,
     }
 }
 
@@ -39,22 +42,21 @@ fn is_named(file: &File, name: &str) -> bool
     file.name() == name
 }
 
-/// Opens a name, and tests the name that its file declares, and the path of a root that was resolved.
+/// Opens a name, and tests the name that its file declares, and its path against the one that was asked.
 pub(crate) fn open_frame<R: FileResolver>(
     resolver: &mut R,
     alloc: Global,
     name: &str,
-    resolved: bool,
-    path: &str,
+    asked: Option<&str>,
 ) -> Result<Frame, Error>
     ensures opened { IsTrue (R.library resolver.old).tells →
         IfOk result (λ f. ByLookup name.now ((R.library resolver.old).files name.now) (λ lookup. IsOpenOf lookup name.now f)) }
-    ensures unshadowed { IfOk result (λ f. IsUnshadowed (asked_path resolved path.now) f.entry.path) }
+    ensures unshadowed { IfOk result (λ f. IsUnshadowed (option_copied asked.entry) f.entry.path) }
     ensures fresh { IfOk result (λ f. (f.name ≡ name.now) × (f.next ≡ 0) × (length (imports_of f.entry) < 2 ^ 64)) }
     ensures stopped { IsTrue (R.library resolver.old).tells →
         IfErr result (λ e. ByLookup name.now ((R.library resolver.old).files name.now)
-        (λ lookup. StopsOpening lookup name.now (asked_path resolved path.now) e)) }
-    ensures cause { IfErr result (HasOpenCause (asked_path resolved path.now)
+        (λ lookup. StopsOpening lookup name.now (option_copied asked.entry) e)) }
+    ensures cause { IfErr result (HasOpenCause (option_copied asked.entry)
         (FaultCause (R.library resolver.old) (R.count resolver.old) (R.count resolver.new))) }
     ensures later { Later (R.count resolver.old) (R.count resolver.new) }
     ensures keeps { R.library resolver.new ≡ R.library resolver.old }
@@ -68,7 +70,7 @@ pub(crate) fn open_frame<R: FileResolver>(
         drop(file);
         return Err(error);
     }
-    if let Some(shadow) = shadow_of(file.path(), resolved, path) {
+    if let Some((path, shadow)) = shadowed_by(asked, file.path()) {
         let error = shadowed(alloc, name, path, shadow);
         drop(file);
         return Err(error);

@@ -2,6 +2,8 @@
 
 ghost use Rattle.std.specs.Prelude.{◌≡◌, ◌∷◌, ◌++◌, reverse, IfOk, None, string_bytes};
 ghost use Rattle.std.specs.List.{concat};
+ghost use Rattle.protox_file_error.specs.Errors.{IsWhole};
+ghost use Rattle.protox_file_error.specs.declared.error.ErrorKind.{ErrorKind};
 ghost use Rattle.protox_compile_walk.specs.Places.{place_of_import};
 ghost use Rattle.protox_compile_walk.specs.Walk.{chain_text, arrows_before, declared_name};
 ghost use Rattle.protox_compile_walk.specs.Resume.{names_of};
@@ -58,6 +60,17 @@ fn cycle_of(alloc: Global, parents: &Stack, current: &Frame, name: &str) -> Resu
     join_chain(alloc, cycle.as_slice())
 }
 
+/// The error of a kind, or want of memory where there was none for the kind.
+fn error_of(made: Result<ErrorKind, NoMemory>) -> Error
+    requires { IfOk made IsWhole }
+    ensures { (kind : ErrorKind) → IfOk made (λ it. it ≡ kind) → OrNoMemory result kind }
+{
+    match made {
+        Ok(kind) => Error::from_kind(kind),
+        Err(NoMemory) => Error::from(NoMemory),
+    }
+}
+
 fn try_duplicate(alloc: Global, current: &Frame, name: &str) -> Result<ErrorKind, NoMemory>
     ensures { IfOk result (λ e. e ≡ ErrorKind.DuplicateImport current.now.name current.now.next (place_of_import current.now.entry current.now.next) name.now) }
 {
@@ -72,10 +85,7 @@ fn try_duplicate(alloc: Global, current: &Frame, name: &str) -> Result<ErrorKind
 pub(crate) fn duplicate(alloc: Global, current: &Frame, name: &str) -> Error
     ensures { OrNoMemory result (ErrorKind.DuplicateImport current.now.name current.now.next (place_of_import current.now.entry current.now.next) name.now) }
 {
-    match try_duplicate(alloc, current, name) {
-        Ok(kind) => Error::from_kind(kind),
-        Err(NoMemory) => Error::from(NoMemory),
-    }
+    error_of(try_duplicate(alloc, current, name))
 }
 
 fn try_circular(
@@ -95,10 +105,7 @@ fn try_circular(
 pub(crate) fn circular(alloc: Global, parents: &Stack, current: &Frame, name: &str) -> Error
     ensures { OrNoMemory result (ErrorKind.CircularImport name.now (chain_text (reverse (name.now ∷ names_of (current.now ∷ parents.now))))) }
 {
-    match try_circular(alloc, parents, current, name) {
-        Ok(kind) => Error::from_kind(kind),
-        Err(NoMemory) => Error::from(NoMemory),
-    }
+    error_of(try_circular(alloc, parents, current, name))
 }
 
 fn try_import_not_found(alloc: Global, current: &Frame, name: &str) -> Result<ErrorKind, NoMemory>
@@ -115,10 +122,24 @@ fn try_import_not_found(alloc: Global, current: &Frame, name: &str) -> Result<Er
 fn import_not_found(alloc: Global, current: &Frame, name: &str) -> Error
     ensures { OrNoMemory result (ErrorKind.ImportNotFound current.now.name current.now.next (place_of_import current.now.entry current.now.next) name.now) }
 {
-    match try_import_not_found(alloc, current, name) {
-        Ok(kind) => Error::from_kind(kind),
-        Err(NoMemory) => Error::from(NoMemory),
-    }
+    error_of(try_import_not_found(alloc, current, name))
+}
+
+fn try_escaping(alloc: Global, current: &Frame, name: &str) -> Result<ErrorKind, NoMemory>
+    ensures { IfOk result (λ e. e ≡ ErrorKind.ImportEscapes current.now.name current.now.next (place_of_import current.now.entry current.now.next) name.now) }
+{
+    Ok(ErrorKind::ImportEscapes {
+        file: Text::from_str(alloc, current.name())?,
+        index: index_of(current.next())?,
+        place: current.place(),
+        name: Text::from_str(alloc, name)?,
+    })
+}
+
+pub(crate) fn escaping(alloc: Global, current: &Frame, name: &str) -> Error
+    ensures { OrNoMemory result (ErrorKind.ImportEscapes current.now.name current.now.next (place_of_import current.now.entry current.now.next) name.now) }
+{
+    error_of(try_escaping(alloc, current, name))
 }
 
 fn is_absent(error: &Error) -> bool
@@ -169,10 +190,7 @@ fn try_shadowed(alloc: Global, name: &str, path: &str, shadow: &str) -> Result<E
 pub(crate) fn shadowed(alloc: Global, name: &str, path: &str, shadow: &str) -> Error
     ensures { OrNoMemory result (ErrorKind.FileShadowed name.now path.now shadow.now) }
 {
-    match try_shadowed(alloc, name, path, shadow) {
-        Ok(kind) => Error::from_kind(kind),
-        Err(NoMemory) => Error::from(NoMemory),
-    }
+    error_of(try_shadowed(alloc, name, path, shadow))
 }
 
 fn try_mismatch(alloc: Global, name: &str, file: &File) -> Result<ErrorKind, NoMemory>
@@ -187,10 +205,7 @@ fn try_mismatch(alloc: Global, name: &str, file: &File) -> Result<ErrorKind, NoM
 pub(crate) fn mismatch(alloc: Global, name: &str, file: &File) -> Error
     ensures { OrNoMemory result (ErrorKind.NameMismatch name.now (declared_name file.now)) }
 {
-    match try_mismatch(alloc, name, file) {
-        Ok(kind) => Error::from_kind(kind),
-        Err(NoMemory) => Error::from(NoMemory),
-    }
+    error_of(try_mismatch(alloc, name, file))
 }
 
 pub(crate) fn too_many(limit: u32) -> Error

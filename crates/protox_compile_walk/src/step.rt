@@ -11,10 +11,11 @@ ghost use Rattle.protox_compile_walk.specs.Resume.{past, names_of, AdvancesOrVis
 use crate::finished::FinishedFiles;
 use crate::frame::Frame;
 use crate::opening::open_frame;
-use crate::refusal::{circular, duplicate, import_error, too_many};
+use crate::refusal::{circular, duplicate, escaping, import_error, too_many};
 use crate::stack::Stack;
 use pbx_wire::{NoMemory, Text};
 use protox_file_sources::{Error, FileResolver};
+use protox_io::escapes;
 use std::alloc::Global;
 
 /// What an import asks for: nothing, since it is finished, or a visit of this name.
@@ -37,7 +38,7 @@ fn is_open(parents: &Stack, current: &Frame, name: &str) -> bool
     has_name(current, name) || parents.holds(name)
 }
 
-/// Looks at the import that comes next.
+/// Looks at the import that comes next. Nothing is opened for a name that leaves the include folders.
 pub(crate) fn next_import(
     alloc: Global,
     done: &FinishedFiles,
@@ -52,6 +53,9 @@ pub(crate) fn next_import(
     let name = current.import();
     if current.lists_before(name) {
         return Err(duplicate(alloc, current, name));
+    }
+    if escapes(name) {
+        return Err(escaping(alloc, current, name));
     }
     if is_open(parents, current, name) {
         return Err(circular(alloc, parents, current, name));
@@ -92,7 +96,7 @@ pub(crate) fn open_import<R: FileResolver>(
     if done.len() + parents.len() + 1 >= limit as usize {
         return Err(too_many(limit));
     }
-    match open_frame(resolver, alloc, name, false, "") {
+    match open_frame(resolver, alloc, name, None) {
         Ok(child) => Ok(child),
         Err(error) => Err(import_error(alloc, current, name, error)),
     }

@@ -1,9 +1,9 @@
 ghost use Rattle.std.specs.Prelude.{◌≡◌, ◌≤◌, ◌<◌, ◌^◌, ◌+◌, ◌∷◌, [], true, false, IfOk, IfErr, OnOk, OnErr, IsTrue, length, ◌++◌};
+ghost use Rattle.std.specs.Option.{option_copied};
 ghost use Rattle.protox_io.specs.Count.{Later};
 ghost use Rattle.protox_file_sources.specs.Causes.{FaultCause};
 ghost use Rattle.protox_file_sources.specs.Told.{ByLookups};
 ghost use Rattle.protox_compile_walk.specs.Walk.{imports_of, visits, Finished, is_done};
-ghost use Rattle.protox_compile_walk.specs.Opening.{asked_path};
 ghost use Rattle.protox_compile_walk.specs.Refusals.{Walk, Ends, HasStepCause, HasRootCause, Grows};
 ghost use Rattle.protox_compile_walk.specs.Resume.{past, Follows, EndsWalks};
 
@@ -93,15 +93,14 @@ fn finish_all<R: FileResolver>(
     }
 }
 
-/// Visits a name from the files that are finished.
+/// Visits a name from the files that are finished. Its file has the path that was asked, if one was, or none.
 pub(crate) fn visit_root<R: FileResolver>(
     resolver: &mut R,
     alloc: Global,
     limit: u32,
     done: &mut FinishedFiles,
     root: &str,
-    resolved: bool,
-    path: &str,
+    asked: Option<&str>,
 ) -> Result<(), Error>
     requires { is_done done.old root.now ≡ false }
     ensures root { OnErr result (is_done done.new root.now ≡ false) }
@@ -109,19 +108,19 @@ pub(crate) fn visit_root<R: FileResolver>(
     ensures grows { Grows done.old done.new }
     ensures ok { IsTrue (R.library resolver.old).tells →
         OnOk result (ByLookups (R.library resolver.old).files
-        (λ lookups. visits lookups limit [] (asked_path resolved path.now) root.now done.old ≡ (done.new, Finished))) }
+        (λ lookups. visits lookups limit [] (option_copied asked.entry) root.now done.old ≡ (done.new, Finished))) }
     ensures err { IsTrue (R.library resolver.old).tells →
         IfErr result (λ e. ByLookups (R.library resolver.old).files
-        (λ lookups. Ends root.now e (λ ls. visits ls limit [] (asked_path resolved path.now) root.now done.old) lookups done.new)) }
+        (λ lookups. Ends root.now e (λ ls. visits ls limit [] (option_copied asked.entry) root.now done.old) lookups done.new)) }
     ensures cause { IfErr result
-        (HasRootCause (asked_path resolved path.now) limit done.new (FaultCause (R.library resolver.old) (R.count resolver.old) (R.count resolver.new))) }
+        (HasRootCause (option_copied asked.entry) limit done.new (FaultCause (R.library resolver.old) (R.count resolver.old) (R.count resolver.new))) }
     ensures later { Later (R.count resolver.old) (R.count resolver.new) }
     ensures keeps { R.library resolver.new ≡ R.library resolver.old }
 {
     if done.len() >= limit as usize {
         return Err(too_many(limit));
     }
-    match open_frame(resolver, alloc, root, resolved, path) {
+    match open_frame(resolver, alloc, root, asked) {
         Ok(frame) => finish_all(resolver, alloc, limit, done, frame),
         Err(error) => Err(error),
     }

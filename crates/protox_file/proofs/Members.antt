@@ -7,9 +7,7 @@ use Rattle.std.proofs.lemmas.List.{length-map}
 use Rattle.protox_io.specs.Count.{Count, Rose, Later}
 use Rattle.protox_io.proofs.Counts.{rose_later}
 use Rattle.protox_file_error.specs.declared.error.ErrorKind.{ErrorKind}
-use Rattle.protox_file_error.specs.declared.error.ErrorKind.TheVariants.{Parse, Check, OpenFile, FileTooLarge, FileInvalidUtf8, FileNotFound}
-use Rattle.protox_file_error.specs.declared.error.ErrorKind.TheVariants.{ImportNotFound, CircularImport, FileNotIncluded, FileShadowed}
-use Rattle.protox_file_error.specs.declared.error.ErrorKind.TheVariants.{DuplicateImport, Custom, NameMismatch, FileLimit, Undecodable, NoMemory}
+use Rattle.protox_file_error.specs.declared.error.ErrorKind.TheVariants.{Parse, OpenFile, FileTooLarge, FileInvalidUtf8, FileNotFound, Custom, NoMemory}
 use Rattle.protox_file_sources.specs.Causes.{HasCause, IsTold}
 use Rattle.protox_file_sources.specs.Library.{Library}
 use Rattle.protox_file_sources.specs.Told.{Entry, Told, Absent, Recorded, Source, TooLarge, NotText, Lookup, NoFile, IsFile, TextFault, IsFound}
@@ -62,21 +60,13 @@ module _ {X : Type 0} (f : X → Count) where
 cause_follows : {P Q : Type 0} (f g : List ℕ → ErrorKind → Bool) (asked : List ℕ) (kind : ErrorKind) → (P → Q)
     → (IsTrue (f asked kind) → IsTrue (g asked kind)) → HasCause f asked P kind → HasCause g asked Q kind
 cause_follows f g asked (Parse e) k m h = h
-cause_follows f g asked (Check e) k m h = absurd h
 cause_follows f g asked (OpenFile name path words) k m h = (h.0, k h.1, m h.2)
 cause_follows f g asked (FileTooLarge name) k m h = h
 cause_follows f g asked (FileInvalidUtf8 name) k m h = h
 cause_follows f g asked (FileNotFound name) k m h = h
-cause_follows f g asked (ImportNotFound file index place name) k m h = absurd h
-cause_follows f g asked (CircularImport name cycle) k m h = absurd h
-cause_follows f g asked (FileNotIncluded path) k m h = absurd h
-cause_follows f g asked (FileShadowed name path shadow) k m h = absurd h
-cause_follows f g asked (DuplicateImport file index place name) k m h = absurd h
 cause_follows f g asked (Custom text is_io) k m h = (k h.0, m h.1)
-cause_follows f g asked (NameMismatch name declared) k m h = absurd h
-cause_follows f g asked (FileLimit limit) k m h = absurd h
-cause_follows f g asked (Undecodable file) k m h = absurd h
 cause_follows f g asked NoMemory k m h = tt
+cause_follows f g asked _ k m h = absurd h
 
 -- the cause of an answer, where a higher count rose and there are more faults
 pub result_cause : {P Q : Type 0} (f g : List ℕ → ErrorKind → Bool) (asked : List ℕ) (r : Result Entry ErrorKind) → (P → Q)
@@ -144,42 +134,20 @@ pub told_first : (first second : Told) (name : List ℕ) (result : Result Entry 
     → IsTold name first result → IsTold name (or_told first second) result
 told_first first second name (Ok entry) m t = found_first first second name (IsFile entry) (λ e. Prim.cc) t
 told_first first second name (Err (Parse e)) m t = found_first first second name (TextFault 1) (λ e. Prim.cc) t
-told_first first second name (Err (Check e)) m t = absurd t
 told_first first second name (Err (OpenFile n path fault)) m t = tt
 told_first first second name (Err (FileTooLarge n)) m t = found_first first second name (TextFault 4) (λ e. Prim.cc) t
 told_first first second name (Err (FileInvalidUtf8 n)) m t = found_first first second name (TextFault 5) (λ e. Prim.cc) t
 told_first first second name (Err (FileNotFound n)) m t = Prim.cc
-told_first first second name (Err (ImportNotFound file index place n)) m t = absurd t
-told_first first second name (Err (CircularImport n cycle)) m t = absurd t
-told_first first second name (Err (FileNotIncluded path)) m t = absurd t
-told_first first second name (Err (FileShadowed n path shadow)) m t = absurd t
-told_first first second name (Err (DuplicateImport file index place n)) m t = absurd t
 told_first first second name (Err (Custom text is_io)) m t = tt
-told_first first second name (Err (NameMismatch n declared)) m t = absurd t
-told_first first second name (Err (FileLimit limit)) m t = absurd t
-told_first first second name (Err (Undecodable file)) m t = absurd t
 told_first first second name (Err NoMemory) m t = tt
+told_first first second name (Err _) m t = absurd t
 
 -- and where it finds no file, none stands there
 pub told_none : (told : Told) (name : List ℕ) (result : Result Entry ErrorKind) → is_missing result ≡ true → IsTold name told result
     → told ≡ Absent
 told_none told name (Ok entry) m t = Prim.cc
-told_none told name (Err (Parse e)) m t = Prim.cc
-told_none told name (Err (Check e)) m t = Prim.cc
-told_none told name (Err (OpenFile n path fault)) m t = Prim.cc
-told_none told name (Err (FileTooLarge n)) m t = Prim.cc
-told_none told name (Err (FileInvalidUtf8 n)) m t = Prim.cc
 told_none told name (Err (FileNotFound n)) m t = absent_told told name t
-told_none told name (Err (ImportNotFound file index place n)) m t = Prim.cc
-told_none told name (Err (CircularImport n cycle)) m t = Prim.cc
-told_none told name (Err (FileNotIncluded path)) m t = Prim.cc
-told_none told name (Err (FileShadowed n path shadow)) m t = Prim.cc
-told_none told name (Err (DuplicateImport file index place n)) m t = Prim.cc
-told_none told name (Err (Custom text is_io)) m t = Prim.cc
-told_none told name (Err (NameMismatch n declared)) m t = Prim.cc
-told_none told name (Err (FileLimit limit)) m t = Prim.cc
-told_none told name (Err (Undecodable file)) m t = Prim.cc
-told_none told name (Err NoMemory) m t = Prim.cc
+told_none told name (Err _) m t = Prim.cc
 
 -- a member that has the name speaks for those from it on, and one that lacks it hands it on to the next
 pub told_here : (ls : List Library) (i : ℕ) (name : List ℕ) (result : Result Entry ErrorKind) → i < length ls → is_missing result ≡ false

@@ -10,7 +10,7 @@ use Rattle.pbx_link_definitions.specs.declared.error.DescriptorError.TheVariants
 use Rattle.protox_file_error.specs.declared.error.ErrorKind.{ErrorKind}
 use Rattle.protox_file_error.specs.declared.error.ErrorKind.TheVariants.{Parse, Check, OpenFile, FileTooLarge, FileInvalidUtf8, FileNotFound}
 use Rattle.protox_file_error.specs.declared.error.ErrorKind.TheVariants.{ImportNotFound, CircularImport, FileNotIncluded, FileShadowed}
-use Rattle.protox_file_error.specs.declared.error.ErrorKind.TheVariants.{DuplicateImport, Custom, NameMismatch, FileLimit, Undecodable, NoMemory}
+use Rattle.protox_file_error.specs.declared.error.ErrorKind.TheVariants.{DuplicateImport, Custom, NameMismatch, FileLimit, Undecodable, NoMemory, ImportEscapes}
 
 -- the kind of an error of parsing
 abbrev pub of_parse : ParseError → ErrorKind
@@ -38,7 +38,21 @@ of_descriptor check.NoMemory = NoMemory
 abbrev pub IsWhole : ErrorKind → Type 0
 IsWhole (Parse e) = of_parse e ≡ Parse e
 IsWhole (Check e) = of_descriptor e ≡ Check e
-IsWhole kind = Unit {0}
+IsWhole (OpenFile name path fault) = Unit {0}
+IsWhole (FileTooLarge name) = Unit {0}
+IsWhole (FileInvalidUtf8 name) = Unit {0}
+IsWhole (FileNotFound name) = Unit {0}
+IsWhole (ImportNotFound file index place name) = Unit {0}
+IsWhole (CircularImport name cycle) = Unit {0}
+IsWhole (FileNotIncluded path) = Unit {0}
+IsWhole (FileShadowed name path shadow) = Unit {0}
+IsWhole (DuplicateImport file index place name) = Unit {0}
+IsWhole (Custom text is_io) = Unit {0}
+IsWhole (NameMismatch asked declared) = Unit {0}
+IsWhole (FileLimit limit) = Unit {0}
+IsWhole (Undecodable file) = Unit {0}
+IsWhole NoMemory = Unit {0}
+IsWhole (ImportEscapes file index place name) = Unit {0}
 
 -- this kind, unless memory ran out
 abbrev pub UnlessMemory : ErrorKind → ErrorKind → Type 0
@@ -68,6 +82,7 @@ file_of (NameMismatch asked declared) = Some asked
 file_of (FileLimit limit) = None
 file_of (Undecodable file) = Some file
 file_of NoMemory = None
+file_of (ImportEscapes file index place name) = Some file
 
 -- whether a file was not found
 abbrev pub is_absence : ErrorKind → Bool

@@ -8,7 +8,7 @@ use Rattle.pbx_link_definitions.specs.declared.error.DescriptorError.TheVariants
 use Rattle.protox_file_error.specs.declared.error.ErrorKind.{ErrorKind}
 use Rattle.protox_file_error.specs.declared.error.ErrorKind.TheVariants.{Parse, Check, OpenFile, FileTooLarge, FileInvalidUtf8, FileNotFound}
 use Rattle.protox_file_error.specs.declared.error.ErrorKind.TheVariants.{ImportNotFound, CircularImport, FileNotIncluded, FileShadowed}
-use Rattle.protox_file_error.specs.declared.error.ErrorKind.TheVariants.{DuplicateImport, Custom, NameMismatch, FileLimit, Undecodable, NoMemory}
+use Rattle.protox_file_error.specs.declared.error.ErrorKind.TheVariants.{DuplicateImport, Custom, NameMismatch, FileLimit, Undecodable, NoMemory, ImportEscapes}
 
 abbrev pub Pieces : Type 0
 Pieces = List (List ℕ)
@@ -64,6 +64,7 @@ line_of (NameMismatch asked declared) = codes "file '" ∷ asked ∷ codes "' de
 line_of (FileLimit limit) = codes "more than " ∷ decimal limit ∷ codes " files" ∷ []
 line_of (Undecodable file) = codes "file '" ∷ file ∷ codes "' does not decode under the built-in schema" ∷ []
 line_of NoMemory = codes "out of memory" ∷ []
+line_of (ImportEscapes file index place name) = codes "import '" ∷ name ∷ codes "' leaves the include folders" ∷ []
 
 -- a file, before a line
 abbrev pub at_file : List ℕ → Pieces
@@ -93,6 +94,7 @@ before_line (Parse e) = before_parse e
 before_line (Check e) = before_descriptor e
 before_line (ImportNotFound file index place name) = at_import file place
 before_line (DuplicateImport file index place name) = at_import file place
+before_line (ImportEscapes file index place name) = at_import file place
 before_line kind = []
 
 -- what stands behind the line in the long line

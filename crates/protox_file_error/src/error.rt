@@ -130,6 +130,17 @@ pub enum ErrorKind {
     /// Memory ran out.
     #[error("out of memory")]
     NoMemory,
+    /// The name of an import has a root or a `..` component, so that it leaves the include folders.
+    ImportEscapes {
+        /// The name of the file that imports it.
+        file: Text,
+        /// Which of its imports it is, from 0.
+        index: u32,
+        /// The line and the column of the import, both from 1, if they are known.
+        place: Option<(u32, u32)>,
+        /// The name of the import.
+        name: Text,
+    },
 }
 
 /// Why a file is not found, not read or not taken. No want of memory stands inside of another error.
@@ -231,6 +242,7 @@ impl Error {
             ErrorKind::FileLimit { .. } => None,
             ErrorKind::Undecodable { file } => Some(file.as_str()),
             ErrorKind::NoMemory => None,
+            ErrorKind::ImportEscapes { file, .. } => Some(file.as_str()),
         }
     }
 

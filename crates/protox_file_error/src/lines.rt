@@ -198,6 +198,9 @@ pub(crate) fn line(alloc: Global, kind: &ErrorKind) -> Result<Text, NoMemory>
             "' does not decode under the built-in schema",
         ),
         ErrorKind::NoMemory => Text::from_str(alloc, "out of memory"),
+        ErrorKind::ImportEscapes { name, .. } => {
+            Text::between(alloc, "import '", name, "' leaves the include folders")
+        }
     }
 }
 
@@ -259,6 +262,7 @@ fn before_line(alloc: Global, kind: &ErrorKind) -> Result<Text, NoMemory>
         ErrorKind::Check(error) => before_descriptor(alloc, error),
         ErrorKind::ImportNotFound { file, place, .. } => at_import(alloc, file.as_str(), *place),
         ErrorKind::DuplicateImport { file, place, .. } => at_import(alloc, file.as_str(), *place),
+        ErrorKind::ImportEscapes { file, place, .. } => at_import(alloc, file.as_str(), *place),
         ErrorKind::OpenFile { .. }
         | ErrorKind::FileTooLarge { .. }
         | ErrorKind::FileInvalidUtf8 { .. }

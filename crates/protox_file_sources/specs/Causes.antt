@@ -3,9 +3,7 @@ use Rattle.std.specs.Prelude.{◌≡◌, ℕ, List, Bool, IsTrue, Result, Ok, Er
 use Rattle.protox_io.specs.Count.{Count, Rose}
 use Rattle.pbx_parse.specs.Errors.{error_file}
 use Rattle.protox_file_error.specs.declared.error.ErrorKind.{ErrorKind}
-use Rattle.protox_file_error.specs.declared.error.ErrorKind.TheVariants.{Parse, Check, OpenFile, FileTooLarge, FileInvalidUtf8, FileNotFound}
-use Rattle.protox_file_error.specs.declared.error.ErrorKind.TheVariants.{ImportNotFound, CircularImport, FileNotIncluded, FileShadowed}
-use Rattle.protox_file_error.specs.declared.error.ErrorKind.TheVariants.{DuplicateImport, Custom, NameMismatch, FileLimit, Undecodable, NoMemory}
+use Rattle.protox_file_error.specs.declared.error.ErrorKind.TheVariants.{Parse, OpenFile, FileTooLarge, FileInvalidUtf8, FileNotFound, Custom, NoMemory}
 use Rattle.protox_file_sources.specs.Library.{Library}
 use Rattle.protox_file_sources.specs.Told.{Entry, Told, NoFile, IsFile, TextFault, IsFound}
 
@@ -13,21 +11,13 @@ use Rattle.protox_file_sources.specs.Told.{Entry, Told, NoFile, IsFile, TextFaul
 -- may have and has this cause. `may_fail` are the faults that a name may have.
 abbrev pub HasCause : (List ℕ → ErrorKind → Bool) → List ℕ → Type 0 → ErrorKind → Type 0
 HasCause may_fail asked rose (Parse e) = error_file e ≡ Some asked
-HasCause may_fail asked rose (Check e) = ⊥
 HasCause may_fail asked rose (OpenFile name path words) = (name ≡ asked) × rose × IsTrue (may_fail asked (OpenFile name path words))
 HasCause may_fail asked rose (FileTooLarge name) = name ≡ asked
 HasCause may_fail asked rose (FileInvalidUtf8 name) = name ≡ asked
 HasCause may_fail asked rose (FileNotFound name) = name ≡ asked
-HasCause may_fail asked rose (ImportNotFound file index place name) = ⊥
-HasCause may_fail asked rose (CircularImport name cycle) = ⊥
-HasCause may_fail asked rose (FileNotIncluded path) = ⊥
-HasCause may_fail asked rose (FileShadowed name path shadow) = ⊥
-HasCause may_fail asked rose (DuplicateImport file index place name) = ⊥
 HasCause may_fail asked rose (Custom text is_io) = rose × IsTrue (may_fail asked (Custom text is_io))
-HasCause may_fail asked rose (NameMismatch name declared) = ⊥
-HasCause may_fail asked rose (FileLimit limit) = ⊥
-HasCause may_fail asked rose (Undecodable file) = ⊥
 HasCause may_fail asked rose NoMemory = Unit {0}
+HasCause may_fail asked rose kind = ⊥
 
 -- a fault that a name may have, which is the one that it names
 abbrev pub IsNamedFault : (List ℕ → ErrorKind → Bool) → ErrorKind → Type 0
@@ -42,21 +32,13 @@ FaultCause library before now error = Rose before now × IsNamedFault library.ma
 -- The refusal is told of the name. A fault, or want of memory, may come in place of what is told.
 abbrev pub IsToldRefusal : List ℕ → Told → ErrorKind → Type 0
 IsToldRefusal name told (Parse e) = IsFound name told (TextFault 1)
-IsToldRefusal name told (Check e) = ⊥
 IsToldRefusal name told (OpenFile n path fault) = Unit {0}
 IsToldRefusal name told (FileTooLarge n) = IsFound name told (TextFault 4)
 IsToldRefusal name told (FileInvalidUtf8 n) = IsFound name told (TextFault 5)
 IsToldRefusal name told (FileNotFound n) = IsFound name told NoFile
-IsToldRefusal name told (ImportNotFound file index place n) = ⊥
-IsToldRefusal name told (CircularImport n cycle) = ⊥
-IsToldRefusal name told (FileNotIncluded path) = ⊥
-IsToldRefusal name told (FileShadowed n path shadow) = ⊥
-IsToldRefusal name told (DuplicateImport file index place n) = ⊥
 IsToldRefusal name told (Custom text is_io) = Unit {0}
-IsToldRefusal name told (NameMismatch n declared) = ⊥
-IsToldRefusal name told (FileLimit limit) = ⊥
-IsToldRefusal name told (Undecodable file) = ⊥
 IsToldRefusal name told NoMemory = Unit {0}
+IsToldRefusal name told kind = ⊥
 
 -- the answer is what is told of the name
 abbrev pub IsTold : List ℕ → Told → Result Entry ErrorKind → Type 0

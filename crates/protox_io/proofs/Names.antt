@@ -1,9 +1,9 @@
 -- The name that the components of a path give.
 use Rattle.std.proofs.Common.{◌≡◌, ◌<◌, ℕ, ◌==◌, List, [], ◌∷◌, ◌++◌, Bool, true, false, not, cond, length, map, refl, sym, ap, ◌∙◌, arith, append_assoc, length-append, Some, None}
-use Rattle.std.specs.List.{filter, list_all, join_with_byte, slice_split}
+use Rattle.std.specs.List.{filter, list_all, list_any, join_with_byte, slice_split}
 use Rattle.std.proofs.lemmas.Bool.Decides.{nat_tests}
-use Rattle.protox_io.specs.Paths.{Component, Root, Current, Parent, Named, is_rooted, is_dot, start, component, bare}
-use Rattle.protox_io.specs.FileNames.{is_ordinary, name_bytes, joined_names, name_of}
+use Rattle.protox_io.specs.Paths.{Component, Root, Current, Parent, Named, is_current, is_rooted, is_dot, start, component, components, bare}
+use Rattle.protox_io.specs.FileNames.{is_ordinary, name_bytes, joined_names, name_of, leads_out, escapes}
 use Rattle.protox_io.specs.Left.{body, left, named_from}
 use Rattle.protox_io.proofs.Bodies.{other, is_parent, bare-is}
 use Rattle.protox_io.proofs.Split.{is_part}
@@ -72,3 +72,15 @@ name_dotted path dot e dotted =
     let starts : start path ≡ cond (is_rooted path) (Root ∷ []) (Current ∷ []) = e ∙ ap (λ d. cond (is_rooted path) (Root ∷ []) (cond d (Current ∷ []) [])) dotted in
     ap (λ l. joined_names (l ++ body path)) starts
     ∙ elim (is_rooted path) as (λ r. joined_names (cond r (Root ∷ []) (Current ∷ []) ++ body path) ≡ None) [ true ↦ refl | false ↦ refl ]
+
+-- a leading dot leads nowhere
+without_dot : (cs : List Component) → list_any leads_out (filter (λ c. not (is_current c)) cs) ≡ list_any leads_out cs
+without_dot [] = refl
+without_dot (Root ∷ cs) = refl
+without_dot (Current ∷ cs) = without_dot cs
+without_dot (Parent ∷ cs) = refl
+without_dot (Named name ∷ cs) = without_dot cs
+
+-- a name leaves its folder by its components without dots
+pub escapes_begins : (name : List ℕ) (cs : List Component) → cs ≡ bare name → escapes name ≡ list_any leads_out cs
+escapes_begins name cs is = sym (without_dot (components name)) ∙ ap (list_any leads_out) (sym is)

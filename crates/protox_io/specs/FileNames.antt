@@ -1,8 +1,8 @@
 -- What paths say of files: the name of a file, equal paths, a path below a folder, and a name in a folder.
 use Rattle.std.specs.Prelude.{ℕ, ◌==◌, ◌++◌, ◌||◌, List, [], ◌∷◌, map, length, Bool, true, false, Option, Some, None, option_and_then, if◌then◌else◌}
-use Rattle.std.specs.List.{list_all, join_with_byte}
+use Rattle.std.specs.List.{list_all, list_any, join_with_byte}
 use Rattle.std.specs.Io.BufRead.{ends_with_byte}
-use Rattle.protox_io.specs.Paths.{Component, Named, components, bare, component_eq, key_eq, is_rooted}
+use Rattle.protox_io.specs.Paths.{Component, Root, Parent, Named, components, bare, component_eq, key_eq, is_rooted}
 
 -- whether a component is an ordinary one (`std::path::Component::Normal` of Rust's documentation)
 abbrev pub is_ordinary : Component → Bool
@@ -23,6 +23,17 @@ joined_names (c ∷ cs) = if list_all is_ordinary (c ∷ cs) then Some (join_wit
 -- by is relative, and has `/` between its parts).
 abbrev pub name_of : List ℕ → Option (List ℕ)
 name_of path = joined_names (components path)
+
+-- whether a component leads out of a folder: the root, or a `..`
+abbrev pub leads_out : Component → Bool
+leads_out Root = true
+leads_out Parent = true
+leads_out c = false
+
+-- whether a name leaves the folder in which its file is looked up (Protocol Buffers documentation, "Importing Definitions": the name of an
+-- import is relative to the folders that imports are looked up in)
+abbrev pub escapes : List ℕ → Bool
+escapes name = list_any leads_out (components name)
 
 -- whether two paths have the same components, without `.` (as `==` of `std::path::Path` of Rust's documentation)
 abbrev pub path_equal : List ℕ → List ℕ → Bool

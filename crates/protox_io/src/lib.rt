@@ -17,7 +17,7 @@ pub use disk::{Disk, DiskAnswer, DiskError};
 pub use memory_disk::MemoryDisk;
 pub use memory_stream::{MemorySink, MemorySource};
 pub use paths::{
-    join_path, names_name_themselves, path_eq, path_to_file_name, resolved_stand_below,
+    escapes, join_path, names_name_themselves, path_eq, path_to_file_name, resolved_stand_below,
     strip_prefix,
 };
 pub use read::{ReadFault, read_to_end};

@@ -3,7 +3,7 @@
 ghost use Rattle.std.specs.Prelude.{◌≡◌, Some, ℕ, List, IfOk, OnOk, option_map, string_bytes};
 ghost use Rattle.std.specs.Io.BufRead.{ends_with_byte};
 ghost use Rattle.protox_io.specs.Paths.{components};
-ghost use Rattle.protox_io.specs.FileNames.{name_of, path_equal, stripped, joined};
+ghost use Rattle.protox_io.specs.FileNames.{name_of, escapes, path_equal, stripped, joined};
 ghost use Rattle.protox_io.specs.Laws.{NamesNameThemselves, ResolvedStandBelow};
 ghost use Rattle.protox_io.specs.Left.{with_part, named_so_far};
 
@@ -27,6 +27,21 @@ pub fn path_to_file_name(alloc: Global, path: &str) -> Result<Option<Text>, NoMe
             Some(Part::Root) => return Ok(None),
             Some(Part::Parent) => return Ok(None),
             None => return finish(alloc, name.as_str()),
+        }
+    }
+}
+
+/// Whether a name leaves the folder in which its file is looked up: one of its components is a root or a `..`; it takes no
+/// memory.
+pub fn escapes(name: &str) -> bool
+    ensures { result ≡ escapes name.now }
+{
+    let mut parts = Components::new(name);
+    'parts: loop {
+        match parts.next() {
+            Some(Part::Root | Part::Parent) => return true,
+            Some(Part::Named(_)) => {}
+            None => return false,
         }
     }
 }

@@ -18,7 +18,7 @@ use Rattle.protox_file_sources.specs.Told.{Told, Lookup, ByLookups}
 use Rattle.protox_file_error.specs.declared.error.ErrorKind.{ErrorKind}
 use Rattle.protox_file_error.specs.declared.error.ErrorKind.TheVariants as kinds
 use Rattle.protox_compile_walk.specs.Walk.{Done, NotRead, records}
-use Rattle.protox_compile_walk.specs.Opening.{Opened, Accepted, NotIncluded, Refused, IsDecided, opening, closure, after_opening, grown, root_of}
+use Rattle.protox_compile_walk.specs.Opening.{Ended, Accepted, NotIncluded, Refused, IsDecided, opening, closure, after_opening, grown, root_of}
 use Rattle.protox_compile_walk.specs.Refusals.{RefusesWith}
 use Rattle.protox_compile_walk.specs.Closures.{StopsAt}
 use Rattle.protox_compile_walk.specs.Laws.{ClosesOnce}
@@ -30,16 +30,16 @@ use Rattle.protox_transcode.specs.declared.error.TopError.TheVariants as top
 
 -- ---- a refused path keeps the paths from being accepted
 
-abbrev IsStopped : List Done × Opened → Type 0
+abbrev IsStopped : List Done × Ended → Type 0
 IsStopped (done, Accepted) = ⊥
 IsStopped (done, NotIncluded) = Unit {0}
 IsStopped (done, Refused (NotRead name)) = ⊥
 IsStopped (done, Refused fault) = Unit {0}
 
-stopped_by : (o p : List Done × Opened) → o ≡ p → IsStopped p → IsStopped o
-stopped_by o p e h = let P : List Done × Opened → Type 0 = λ x. IsStopped x in subst P (sym e) h
+stopped_by : (o p : List Done × Ended) → o ≡ p → IsStopped p → IsStopped o
+stopped_by o p e h = let P : List Done × Ended → Type 0 = λ x. IsStopped x in subst P (sym e) h
 
-stopped : (path : List ℕ) (root : Option (List ℕ × Option (List ℕ))) (files : (List ℕ → Lookup) → List Done) (o : (List ℕ → Lookup) → List Done × Opened) (lookups : List ℕ → Lookup) (later : List Done) (error : ErrorKind) → is_fault error ≡ false → RefusesWith path root files o lookups later error → IsStopped (o lookups)
+stopped : (path : List ℕ) (root : Option (List ℕ × Option (List ℕ))) (files : (List ℕ → Lookup) → List Done) (o : (List ℕ → Lookup) → List Done × Ended) (lookups : List ℕ → Lookup) (later : List Done) (error : ErrorKind) → is_fault error ≡ false → RefusesWith path root files o lookups later error → IsStopped (o lookups)
 stopped path root files o lookups later (kinds.Parse (parse.Syntax file line column expected found)) f h = stopped_by (o lookups) _ h tt
 stopped path root files o lookups later (kinds.Parse parse.NoMemory) f h = absurd h
 stopped path root files o lookups later (kinds.Check e) f h = stopped_by (o lookups) _ h.opened_is tt
@@ -58,12 +58,12 @@ stopped path root files o lookups later (kinds.FileLimit n) f h = stopped_by (o 
 stopped path root files o lookups later (kinds.Undecodable file) f h = absurd h
 stopped path root files o lookups later kinds.NoMemory f h = absurd (cc)
 
-stays : (o : List Done × Opened) (rest : List Done → List Done × Opened) → IsStopped o → after_opening o rest ≡ o
+stays : (o : List Done × Ended) (rest : List Done → List Done × Ended) → IsStopped o → after_opening o rest ≡ o
 stays (done, Accepted) rest s = absurd s
 stays (done, NotIncluded) rest s = refl
 stays (done, Refused fault) rest s = refl
 
-decided : (o : List Done × Opened) → IsStopped o → IsDecided o.1
+decided : (o : List Done × Ended) → IsStopped o → IsDecided o.1
 decided (done, Accepted) s = absurd s
 decided (done, NotIncluded) s = tt
 decided (done, Refused (NotRead name)) s = absurd s
@@ -74,7 +74,7 @@ module _ (lookups : List ℕ → Lookup) (resolves : List ℕ → Option (List �
   closure_of_both [] rest old = refl
   closure_of_both (p ∷ ps) rest old = at (λ done. closure_of_both ps rest done) (opening lookups resolves n p old)
     where
-      at : ((done : List Done) → closure lookups resolves n (ps ++ rest) done ≡ after_opening (closure lookups resolves n ps done) (closure lookups resolves n rest)) → (o : List Done × Opened) → after_opening o (closure lookups resolves n (ps ++ rest)) ≡ after_opening (after_opening o (closure lookups resolves n ps)) (closure lookups resolves n rest)
+      at : ((done : List Done) → closure lookups resolves n (ps ++ rest) done ≡ after_opening (closure lookups resolves n ps done) (closure lookups resolves n rest)) → (o : List Done × Ended) → after_opening o (closure lookups resolves n (ps ++ rest)) ≡ after_opening (after_opening o (closure lookups resolves n ps)) (closure lookups resolves n rest)
       at later (done, Accepted) = later done
       at later (done, NotIncluded) = refl
       at later (done, Refused fault) = refl
@@ -88,8 +88,8 @@ module _ (lookups : List ℕ → Lookup) (resolves : List ℕ → Option (List �
       ∙ stays (opening lookups resolves n s.path s.middle) (closure lookups resolves n s.after) o in
       stopped_by (closure lookups resolves n paths []) (opening lookups resolves n s.path s.middle) whole o
 
-pub accepted_decided : (o : List Done × Opened) (files : List Done) → o ≡ (files, Accepted) → IsDecided o.1
-accepted_decided o files e = let P : List Done × Opened → Type 0 = λ x. IsDecided x.1 in subst P (sym e) tt
+pub accepted_decided : (o : List Done × Ended) (files : List Done) → o ≡ (files, Accepted) → IsDecided o.1
+accepted_decided o files e = let P : List Done × Ended → Type 0 = λ x. IsDecided x.1 in subst P (sym e) tt
 
 -- where the paths are accepted, none is refused
 pub accepted_alone : ClosesOnce → (told : List ℕ → Told) (resolves : List ℕ → Option (List ℕ)) (paths : List (List ℕ)) (P : List FileDescriptorProto → Type 0) (error : ErrorKind) → is_fault error ≡ false → ForFiles told resolves paths P
@@ -102,7 +102,7 @@ accepted_alone once told resolves paths P error f h r =
 
 -- ---- what is transcoded is refused for no reason
 
-pub same_files : (x y : List Done) (o : List Done × Opened) → o ≡ (x, Accepted) → o ≡ (y, Accepted) → x ≡ y
+pub same_files : (x y : List Done) (o : List Done × Ended) → o ≡ (x, Accepted) → o ≡ (y, Accepted) → x ≡ y
 same_files x y o h k = let e : (x, Accepted) ≡ (y, Accepted) = sym h ∙ k in ap (λ p. p.0) e
 
 same_place : (a b : ℕ) (o : Option ℕ) → o ≡ Some a → o ≡ Some b → a ≡ b

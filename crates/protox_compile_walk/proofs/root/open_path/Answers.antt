@@ -1,7 +1,7 @@
 use Rattle.std.proofs.Common.{◌≡◌}
 use Rattle.std.specs.Prelude.{Some, None}
 use Rattle.protox_compile_walk.specs.Opening.{root_of, asked_path}
-use Rattle.protox_compile_walk.proofs.Openings.{path_accepts, path_refuses, path_unknown, path_memory, root_found, root_missing, settled_found}
+use Rattle.protox_compile_walk.proofs.Openings.{path_accepts, path_refuses, path_unknown, path_memory, path_reports, root_found, root_missing, settled_found}
 use Rattle.protox_compile_walk.proofs.root.open_path.Goals as goal
 
 pub returns-in-Ok-Some-clause-ok : goal.returns-in-Ok-Some-clause-ok
@@ -26,3 +26,8 @@ pub returns-in-Ok-Some-clause-again : goal.returns-in-Ok-Some-clause-again
 returns-in-Ok-Some-clause-again g c tells settled =
     let root : root_of (g.R.FileResolver.library c.args.resolver.now).resolves c.args.path.now ≡ Some (c.as_str.result.now, asked_path c.in-Ok-Some.resolved c.args.path.now) = root_found _ c.args.path.now c.in-Ok-Some.name c.as_str.result.now c.in-Ok-Some.resolved c.in-Ok-Some.field-0 (c.in-Ok-Some.ensures.root tells) (cc) c.as_str.ensures in
     c.open_name.ensures.again (settled_found _ c.as_str.result.now _ c.args.done.now root settled)
+
+pub returns-in-Ok-Some-clause-report : goal.returns-in-Ok-Some-clause-report
+returns-in-Ok-Some-clause-report g c tells =
+    let root : root_of (g.R.FileResolver.library c.args.resolver.now).resolves c.args.path.now ≡ Some (c.as_str.result.now, asked_path c.in-Ok-Some.resolved c.args.path.now) = root_found _ c.args.path.now c.in-Ok-Some.name c.as_str.result.now c.in-Ok-Some.resolved c.in-Ok-Some.field-0 (c.in-Ok-Some.ensures.root tells) (cc) c.as_str.ensures in
+    path_reports (g.R.FileResolver.library c.args.resolver.now).resolves c.args.path.now c.as_str.result.now _ c.args.done.now c.open_name.result root c.open_name.ensures.report
