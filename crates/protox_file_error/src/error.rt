@@ -131,6 +131,7 @@ pub enum ErrorKind {
     #[error("out of memory")]
     NoMemory,
     /// The name of an import has a root or a `..` component, so that it leaves the include folders.
+    #[error("import '{name}' leaves the include folders")]
     ImportEscapes {
         /// The name of the file that imports it.
         file: Text,
