@@ -4,10 +4,9 @@
 //! What is wanted is made and compared with protoc's by checks/built-in-files.
 
 use crate::said::{message_bytes, words};
-use crate::stop::Stop;
 use pbx_wkt_files::wkt_file;
 use std::alloc::Global;
-use test_rows::Row;
+use test_rows::{Row, Stop};
 
 /// What is written for the record of the file of this name.
 fn written(alloc: Global, name: &str) -> Result<String, Stop> {

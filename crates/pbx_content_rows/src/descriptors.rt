@@ -10,7 +10,6 @@
 //! What is wanted is made by checks/descriptor-rows.
 
 use crate::said::{fault_line, shown, words};
-use crate::stop::Stop;
 use bytes::Bytes;
 use pbx_desc::DecodeMessage;
 use pbx_desc_records::{
@@ -22,7 +21,7 @@ use pbx_desc_records::{
 use pbx_types::{Any, Duration, Empty, FieldMask, ListValue, Struct, Timestamp, Value};
 use pbx_wire::{Recs, recs_text};
 use std::alloc::Global;
-use test_rows::Row;
+use test_rows::{Row, Stop};
 
 /// What is written for the record that the bytes are read as, or the fault.
 fn again<R: DecodeMessage + Drop>(alloc: Global, bytes: &[u8]) -> Result<String, Stop> {

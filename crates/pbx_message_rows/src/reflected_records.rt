@@ -1,7 +1,6 @@
 //! Records and dynamic messages as values.
 
 use crate::reflected::reflected;
-use crate::stop::Stop;
 use pbx_desc::DecodeMessage;
 use pbx_desc_encoding::{
     DescriptorProto, EnumDescriptorProto, EnumReservedRange, EnumValueDescriptorProto,
@@ -16,7 +15,7 @@ use pbx_types::{Any, Duration, Empty, FieldMask, ListValue, Struct, Timestamp, V
 use pbx_wkt::make_wkt_descriptor_pool;
 use std::alloc::Global;
 use std::mem::drop;
-use test_rows::Row;
+use test_rows::{Row, Stop};
 
 /// What is told of the record that the row's bytes are read as.
 fn record<R: DecodeMessage + ReflectMessage + Drop>(

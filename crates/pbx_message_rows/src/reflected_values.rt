@@ -3,13 +3,12 @@
 use crate::pool_of;
 use crate::reflected::reflected;
 use crate::reflected_records::well_known;
-use crate::stop::Stop;
 use bytes::Bytes;
 use pbx_link::DescriptorPool;
 use pbx_wkt::make_wkt_descriptor_pool;
 use std::alloc::Global;
 use std::mem::drop;
-use test_rows::Row;
+use test_rows::{Row, Stop};
 
 /// The pool of that word, or of that set of files.
 fn named_pool(alloc: Global, word: &str) -> Result<DescriptorPool, Stop> {

@@ -1,6 +1,5 @@
 //! What is told of a message.
 
-use crate::stop::Done;
 use crate::values::add_value;
 use pbx_desc_encoding::Message;
 use pbx_link::{ExtensionDescriptor, FieldDescriptor, MessageDescriptor};
@@ -8,6 +7,7 @@ use pbx_message_dynamic::{DynamicMessage, Value};
 use pbx_wire::{Blob, write_recs};
 use std::alloc::Global;
 use std::mem::drop;
+use test_rows::Done;
 
 /// The value of a field; `=` before it where the message has one, and else `~` before the default.
 pub(crate) fn add_got(alloc: Global, text: &mut String, has: bool, value: &Option<Value>) -> Done {

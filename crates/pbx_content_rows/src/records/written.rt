@@ -14,7 +14,6 @@ use crate::records::made::Made;
 use crate::records::messages::MessageParts;
 use crate::records::wire::text_of;
 use crate::said::{content_bytes, message_bytes, shown, small, words};
-use crate::stop::Stop;
 use pbx_content::Schema;
 use pbx_content_codec::{Contents, decode, decode_parts, encode};
 use pbx_desc_encoding::{
@@ -24,7 +23,7 @@ use pbx_desc_shapes::descriptor_place as place;
 use pbx_wire::{DecodeError, NoMemory, Recs, rec_len};
 use std::alloc::Global;
 use std::mem::replace;
-use test_rows::Row;
+use test_rows::{Row, Stop};
 
 /// The length of the first record's text.
 fn length(alloc: Global, recs: &Recs) -> Result<String, Stop> {

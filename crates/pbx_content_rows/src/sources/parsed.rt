@@ -2,11 +2,10 @@
 
 use crate::said::{message_bytes, words};
 use crate::sources::words::source;
-use crate::stop::Stop;
 use pbx_desc_encoding::FileDescriptorProto;
 use pbx_parse::{ParseError, parse};
 use std::alloc::Global;
-use test_rows::Row;
+use test_rows::{Row, Stop};
 
 /// What is asked of a source that has a record.
 fn of_record(alloc: Global, word: &str, file: &FileDescriptorProto) -> Result<String, Stop> {
