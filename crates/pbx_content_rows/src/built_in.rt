@@ -6,12 +6,17 @@
 use crate::said::{message_bytes, words};
 use pbx_wkt_files::wkt_file;
 use std::alloc::Global;
+use std::mem::drop;
 use test_rows::{Row, Stop};
 
 /// What is written for the record of the file of this name.
 fn written(alloc: Global, name: &str) -> Result<String, Stop> {
     match wkt_file(alloc, name)? {
-        Some(file) => message_bytes(alloc, &file),
+        Some(file) => {
+            let told = message_bytes(alloc, &file);
+            drop(file);
+            told
+        }
         None => words(alloc, "none"),
     }
 }

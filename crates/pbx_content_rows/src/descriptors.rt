@@ -21,6 +21,7 @@ use pbx_desc_records::{
 use pbx_types::{Any, Duration, Empty, FieldMask, ListValue, Struct, Timestamp, Value};
 use pbx_wire::{Recs, recs_text};
 use std::alloc::Global;
+use std::mem::drop;
 use test_rows::{Row, Stop};
 
 /// What is written for the record that the bytes are read as, or the fault.
@@ -43,7 +44,11 @@ fn text(alloc: Global, recs: &Recs) -> Result<String, Stop> {
 /// The records of a message that are none of its fields.
 fn unknown(alloc: Global, bytes: &[u8]) -> Result<String, Stop> {
     match DescriptorProto::decode(alloc, bytes) {
-        Ok(message) => text(alloc, &message.unknown),
+        Ok(message) => {
+            let told = text(alloc, &message.unknown);
+            drop(message);
+            told
+        }
         Err(fault) => fault_line(alloc, fault),
     }
 }
@@ -59,7 +64,11 @@ fn text_of_options(alloc: Global, options: &Option<Options>) -> Result<String, S
 /// The records of a message's options.
 fn options(alloc: Global, bytes: &[u8]) -> Result<String, Stop> {
     match DescriptorProto::decode(alloc, bytes) {
-        Ok(message) => text_of_options(alloc, &message.options),
+        Ok(message) => {
+            let told = text_of_options(alloc, &message.options);
+            drop(message);
+            told
+        }
         Err(fault) => fault_line(alloc, fault),
     }
 }

@@ -22,7 +22,7 @@ use pbx_desc_encoding::{
 use pbx_desc_shapes::descriptor_place as place;
 use pbx_wire::{DecodeError, NoMemory, Recs, rec_len};
 use std::alloc::Global;
-use std::mem::replace;
+use std::mem::{drop, replace};
 use test_rows::{Row, Stop};
 
 /// The length of the first record's text.
@@ -82,12 +82,16 @@ fn written(alloc: Global, made: &mut Made, of: &str) -> Result<String, Stop> {
 
 fn copy_of_file(alloc: Global, file: &FileDescriptorProto) -> Result<String, Stop> {
     let copy = file.copy(alloc)?;
-    message_bytes(alloc, &copy)
+    let told = message_bytes(alloc, &copy);
+    drop(copy);
+    told
 }
 
 fn copy_of_set(alloc: Global, set: &FileDescriptorSet) -> Result<String, Stop> {
     let copy = set.copy(alloc)?;
-    message_bytes(alloc, &copy)
+    let told = message_bytes(alloc, &copy);
+    drop(copy);
+    told
 }
 
 fn copy_of_options(alloc: Global, options: &Options) -> Result<String, Stop> {

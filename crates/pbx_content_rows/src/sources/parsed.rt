@@ -5,6 +5,7 @@ use crate::sources::words::source;
 use pbx_desc_encoding::FileDescriptorProto;
 use pbx_parse::{ParseError, parse};
 use std::alloc::Global;
+use std::mem::drop;
 use test_rows::{Row, Stop};
 
 /// What is asked of a source that has a record.
@@ -58,8 +59,16 @@ fn name(row: &Row) -> &str {
 /// What is asked of the source, or what is said where it has no record.
 pub(crate) fn shown(alloc: Global, row: &Row, word: &str) -> Result<String, Stop> {
     match parse(alloc, name(row), source(row)) {
-        Ok(file) => of_record(alloc, word, &file),
-        Err(error) => of_error(alloc, word, &error),
+        Ok(file) => {
+            let told = of_record(alloc, word, &file);
+            drop(file);
+            told
+        }
+        Err(error) => {
+            let told = of_error(alloc, word, &error);
+            drop(error);
+            told
+        }
     }
 }
 
