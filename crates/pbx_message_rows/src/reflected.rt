@@ -63,3 +63,14 @@ pub(crate) fn reflected<M: ReflectMessage>(
     }
     Ok(told)
 }
+
+/// The same of a value that is not used any more.
+pub(crate) fn reflected_last<M: ReflectMessage + Drop>(
+    alloc: Global,
+    pool: &DescriptorPool,
+    value: M,
+) -> Result<String, Stop> {
+    let told = reflected(alloc, pool, &value);
+    drop(value);
+    told
+}
