@@ -4,15 +4,19 @@
 //! What is wanted is made and compared with protoc's by checks/built-in-files.
 
 use crate::said::{message_bytes, words};
-use crate::stop::Stop;
 use pbx_wkt_files::wkt_file;
 use std::alloc::Global;
-use test_rows::Row;
+use std::mem::drop;
+use test_rows::{Row, Stop};
 
 /// What is written for the record of the file of this name.
 fn written(alloc: Global, name: &str) -> Result<String, Stop> {
     match wkt_file(alloc, name)? {
-        Some(file) => message_bytes(alloc, &file),
+        Some(file) => {
+            let told = message_bytes(alloc, &file);
+            drop(file);
+            told
+        }
         None => words(alloc, "none"),
     }
 }

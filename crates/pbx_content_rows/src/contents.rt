@@ -11,12 +11,11 @@
 //! What is wanted is made by checks/content-rows, but for the rows `content/hand/`.
 
 use crate::said::{content_bytes, fault_line};
-use crate::stop::Stop;
 use pbx_content::Schema;
 use pbx_content_codec::{Contents, decode, decode_parts, merge};
 use pbx_wire::DecodeError;
 use std::alloc::Global;
-use test_rows::{Row, schema};
+use test_rows::{Row, Stop, schema};
 
 /// What is written for what the bytes were read as, or the fault.
 fn written(

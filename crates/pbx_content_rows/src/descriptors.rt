@@ -10,7 +10,6 @@
 //! What is wanted is made by checks/descriptor-rows.
 
 use crate::said::{fault_line, shown, words};
-use crate::stop::Stop;
 use bytes::Bytes;
 use pbx_desc::DecodeMessage;
 use pbx_desc_records::{
@@ -22,7 +21,8 @@ use pbx_desc_records::{
 use pbx_types::{Any, Duration, Empty, FieldMask, ListValue, Struct, Timestamp, Value};
 use pbx_wire::{Recs, recs_text};
 use std::alloc::Global;
-use test_rows::Row;
+use std::mem::drop;
+use test_rows::{Row, Stop};
 
 /// What is written for the record that the bytes are read as, or the fault.
 fn again<R: DecodeMessage + Drop>(alloc: Global, bytes: &[u8]) -> Result<String, Stop> {
@@ -44,7 +44,11 @@ fn text(alloc: Global, recs: &Recs) -> Result<String, Stop> {
 /// The records of a message that are none of its fields.
 fn unknown(alloc: Global, bytes: &[u8]) -> Result<String, Stop> {
     match DescriptorProto::decode(alloc, bytes) {
-        Ok(message) => text(alloc, &message.unknown),
+        Ok(message) => {
+            let told = text(alloc, &message.unknown);
+            drop(message);
+            told
+        }
         Err(fault) => fault_line(alloc, fault),
     }
 }
@@ -60,7 +64,11 @@ fn text_of_options(alloc: Global, options: &Option<Options>) -> Result<String, S
 /// The records of a message's options.
 fn options(alloc: Global, bytes: &[u8]) -> Result<String, Stop> {
     match DescriptorProto::decode(alloc, bytes) {
-        Ok(message) => text_of_options(alloc, &message.options),
+        Ok(message) => {
+            let told = text_of_options(alloc, &message.options);
+            drop(message);
+            told
+        }
         Err(fault) => fault_line(alloc, fault),
     }
 }

@@ -12,13 +12,11 @@ mod descriptors;
 mod records;
 mod said;
 mod sources;
-mod stop;
 mod texts;
 
 use std::alloc::{AllocError, Global};
 use std::io;
-use stop::Stop;
-use test_rows::{Row, answer_line};
+use test_rows::{Row, Stop, line_of};
 
 /// What the row asks of its subject.
 fn answer(alloc: Global, row: &Row) -> Result<String, Stop> {
@@ -37,13 +35,7 @@ fn answer(alloc: Global, row: &Row) -> Result<String, Stop> {
 /// The line for a row.
 fn told(alloc: Global, line: &str) -> Result<String, AllocError> {
     let row = Row::read(alloc, line)?;
-    match answer(alloc, &row) {
-        Ok(answer) => answer_line(alloc, &row, answer.as_str()),
-        Err(Stop::Form) => answer_line(alloc, &row, "no such text"),
-        Err(Stop::Range) => answer_line(alloc, &row, "out of range"),
-        Err(Stop::NoSuchWord) => answer_line(alloc, &row, "no such word"),
-        Err(Stop::NoMemory) => Err(AllocError),
-    }
+    line_of(alloc, &row, answer(alloc, &row))
 }
 
 fn main(rt: HostRuntime) -> io::Result<()> {

@@ -16,11 +16,10 @@ mod shapes;
 mod wire;
 mod written;
 
-use crate::stop::Stop;
 use made::make;
 use shapes::schema_named;
 use std::alloc::Global;
-use test_rows::Row;
+use test_rows::{Row, Stop};
 
 /// What the word asks for.
 pub(crate) fn answer(alloc: Global, row: &Row, word: &str) -> Result<String, Stop> {

@@ -1,11 +1,11 @@
 //! What several subjects say, and how they cut texts.
 
-use crate::stop::Stop;
 use pbx_content::Schema;
 use pbx_content_codec::{Contents, encode};
 use pbx_desc_encoding::Message;
 use pbx_wire::DecodeError;
 use std::alloc::Global;
+use test_rows::Stop;
 
 /// The text in front of the first space, and the text behind it.
 pub(crate) fn cut(text: &str) -> (&str, &str) {

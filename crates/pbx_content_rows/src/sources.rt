@@ -9,9 +9,8 @@ mod tokens;
 mod types;
 mod words;
 
-use crate::stop::Stop;
 use std::alloc::Global;
-use test_rows::Row;
+use test_rows::{Row, Stop};
 
 /// What the word asks for.
 pub(crate) fn answer(alloc: Global, row: &Row, word: &str) -> Result<String, Stop> {

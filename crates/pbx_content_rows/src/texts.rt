@@ -10,15 +10,24 @@
 //! What is wanted of durations, timestamps and masks is made by checks/text-rows.
 
 use crate::said::{shown, words};
-use crate::stop::Stop;
 use pbx_text::{
-    camel_case_to_snake_case, read_base64, read_duration, read_mask, read_signed, read_timestamp,
-    read_unsigned, snake_case_to_camel_case, write_base64, write_duration, write_mask,
-    write_signed, write_timestamp, write_unsigned,
+    TextFault, camel_case_to_snake_case, read_base64, read_duration, read_mask, read_signed,
+    read_timestamp, read_unsigned, snake_case_to_camel_case, write_base64, write_duration,
+    write_mask, write_signed, write_timestamp, write_unsigned,
 };
 use pbx_wire::{Text, Texts};
 use std::alloc::{AllocError, Global};
-use test_rows::Row;
+use test_rows::{Row, Stop};
+
+/// What was made, or what is told where a text is not of its form or what it says is out of range.
+fn known<T: Drop>(alloc: Global, made: Result<T, TextFault>) -> Result<T, Stop> {
+    match made {
+        Ok(it) => Ok(it),
+        Err(TextFault::Form) => Err(Stop::refused(alloc, "no such text")),
+        Err(TextFault::Range) => Err(Stop::refused(alloc, "out of range")),
+        Err(TextFault::NoMemory) => Err(Stop::NoMemory),
+    }
+}
 
 /// A field of a row as a signed number; 0 where it is none.
 fn signed(row: &Row, at: usize) -> i64 {
@@ -26,17 +35,20 @@ fn signed(row: &Row, at: usize) -> i64 {
 }
 
 fn signed_text(alloc: Global, row: &Row) -> Result<String, Stop> {
-    let number = read_signed(row.text(2), signed(row, 0), signed(row, 1))?;
+    let number = known(
+        alloc,
+        read_signed(row.text(2), signed(row, 0), signed(row, 1)),
+    )?;
     Ok(format!(in alloc; "{number}")?)
 }
 
 fn unsigned_text(alloc: Global, row: &Row) -> Result<String, Stop> {
-    let number = read_unsigned(row.text(1), row.number(0))?;
+    let number = known(alloc, read_unsigned(row.text(1), row.number(0)))?;
     Ok(format!(in alloc; "{number}")?)
 }
 
 fn base64_text(alloc: Global, row: &Row) -> Result<String, Stop> {
-    let bytes = read_base64(alloc, row.text(0))?;
+    let bytes = known(alloc, read_base64(alloc, row.text(0)))?;
     shown(alloc, bytes.as_slice())
 }
 
@@ -56,7 +68,7 @@ fn written_base64(alloc: Global, row: &Row) -> Result<String, Stop> {
 }
 
 fn duration_text(alloc: Global, row: &Row) -> Result<String, Stop> {
-    let (seconds, nanos) = read_duration(row.text(0))?;
+    let (seconds, nanos) = known(alloc, read_duration(row.text(0)))?;
     Ok(format!(in alloc; "{seconds} {nanos}")?)
 }
 
@@ -66,17 +78,17 @@ fn nanos(row: &Row, at: usize) -> i32 {
 }
 
 fn written_duration(alloc: Global, row: &Row) -> Result<String, Stop> {
-    let text = write_duration(alloc, signed(row, 0), nanos(row, 1))?;
+    let text = known(alloc, write_duration(alloc, signed(row, 0), nanos(row, 1)))?;
     words(alloc, text.as_str())
 }
 
 fn snake_text(alloc: Global, row: &Row) -> Result<String, Stop> {
-    let text = camel_case_to_snake_case(alloc, row.text(0))?;
+    let text = known(alloc, camel_case_to_snake_case(alloc, row.text(0)))?;
     words(alloc, text.as_str())
 }
 
 fn camel_text(alloc: Global, row: &Row) -> Result<String, Stop> {
-    let text = snake_case_to_camel_case(alloc, row.text(0))?;
+    let text = known(alloc, snake_case_to_camel_case(alloc, row.text(0)))?;
     words(alloc, text.as_str())
 }
 
@@ -89,7 +101,7 @@ fn add_paths(told: &mut String, paths: &Texts) -> Result<(), AllocError> {
 }
 
 fn mask_paths(alloc: Global, row: &Row) -> Result<String, Stop> {
-    let paths = read_mask(alloc, row.text(0))?;
+    let paths = known(alloc, read_mask(alloc, row.text(0)))?;
     let mut told = String::new(alloc);
     let added = add_paths(&mut told, &paths);
     drop(paths);
@@ -110,16 +122,16 @@ fn written_mask(alloc: Global, row: &Row) -> Result<String, Stop> {
     let paths = paths_of(alloc, row)?;
     let text = write_mask(alloc, &paths);
     drop(paths);
-    words(alloc, text?.as_str())
+    words(alloc, known(alloc, text)?.as_str())
 }
 
 fn timestamp_text(alloc: Global, row: &Row) -> Result<String, Stop> {
-    let (seconds, nanos) = read_timestamp(row.text(0))?;
+    let (seconds, nanos) = known(alloc, read_timestamp(row.text(0)))?;
     Ok(format!(in alloc; "{seconds} {nanos}")?)
 }
 
 fn written_timestamp(alloc: Global, row: &Row) -> Result<String, Stop> {
-    let text = write_timestamp(alloc, signed(row, 0), nanos(row, 1))?;
+    let text = known(alloc, write_timestamp(alloc, signed(row, 0), nanos(row, 1)))?;
     words(alloc, text.as_str())
 }
 

@@ -1,11 +1,11 @@
 //! Fields by the three ways in which they are named.
 
 use crate::said::add_got;
-use crate::stop::{Done, Stop};
 use pbx_link::{DescriptorPool, ExtensionDescriptor, FieldDescriptor};
 use pbx_message_dynamic::{DynamicMessage, SetFieldError, Value};
 use std::alloc::Global;
 use std::mem::drop;
+use test_rows::{Done, Stop};
 
 /// A field, as a row names it.
 #[derive(Drop)]

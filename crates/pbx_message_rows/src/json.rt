@@ -3,7 +3,6 @@
 use crate::json_deep::deep;
 use crate::json_faults::fault;
 use crate::pool_of;
-use crate::stop::Stop;
 use pbx_desc_encoding::Message;
 use pbx_json::{
     DeserializeOptions, JsonMessage, NameFault, SerializeOptions, check_names, fits_levels,
@@ -14,7 +13,7 @@ use pbx_wkt::has_shape;
 use serde_json::Value;
 use std::alloc::Global;
 use std::mem::drop;
-use test_rows::Row;
+use test_rows::{Row, Stop};
 
 /// The type that the row names.
 fn type_of(pool: &DescriptorPool, row: &Row) -> Result<MessageDescriptor, Stop> {

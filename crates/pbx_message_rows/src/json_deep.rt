@@ -1,13 +1,13 @@
 //! Trees that nest deeper than any text that is read.
 
 use crate::json_faults::fault;
-use crate::stop::{Done, Stop};
 use pbx_json::{JsonMessage, fits_levels};
 use pbx_link::MessageDescriptor;
 use pbx_message_dynamic::DynamicMessage;
 use serde_json::{Map, Value};
 use std::alloc::Global;
 use std::mem::{drop, replace};
+use test_rows::{Done, Stop};
 
 /// Puts the tree under the key `c` of an object, which takes its place.
 fn enclose(alloc: Global, tree: &mut Value) -> Done {

@@ -1,9 +1,9 @@
 //! Faults of trees as words.
 
-use crate::stop::{Done, Stop};
 use pbx_json::{JsonError, JsonKind, Step};
 use std::alloc::Global;
 use std::mem::drop;
+use test_rows::{Done, Stop};
 
 fn kind_word(kind: JsonKind) -> &'static str {
     match kind {

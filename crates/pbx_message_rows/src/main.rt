@@ -38,15 +38,13 @@ mod reflected;
 mod reflected_records;
 mod reflected_values;
 mod said;
-mod stop;
 mod values;
 
 use pbx_link::DescriptorPool;
 use std::alloc::{AllocError, Global};
 use std::io;
 use std::process::ExitCode;
-use stop::Stop;
-use test_rows::{Row, answer_line};
+use test_rows::{Row, Stop, line_of};
 
 /// The pool of the set of these bytes in hexadecimal digits.
 fn pool_of(alloc: Global, digits: &str) -> Result<DescriptorPool, Stop> {
@@ -70,12 +68,7 @@ fn answer(alloc: Global, row: &Row) -> Result<String, Stop> {
 /// The line for a row.
 fn told(alloc: Global, line: &str) -> Result<String, AllocError> {
     let row = Row::read(alloc, line)?;
-    match answer(alloc, &row) {
-        Ok(answer) => answer_line(alloc, &row, answer.as_str()),
-        Err(Stop::Refused(refusal)) => answer_line(alloc, &row, refusal.as_str()),
-        Err(Stop::NoSuchWord) => answer_line(alloc, &row, "no such word"),
-        Err(Stop::NoMemory) => Err(AllocError),
-    }
+    line_of(alloc, &row, answer(alloc, &row))
 }
 
 fn answer_rows(rt: &HostRuntime) -> io::Result<()> {

@@ -4,13 +4,12 @@ use crate::fields::{self, clear_field, field_said, set_field};
 use crate::pool_of;
 use crate::records::{from_file, to_file};
 use crate::said::add_message;
-use crate::stop::Stop;
 use pbx_link::{DescriptorPool, MessageDescriptor};
 use pbx_message_dynamic::{DynamicMessage, Value};
 use pbx_wire::DecodeError;
 use std::alloc::Global;
 use std::mem::drop;
-use test_rows::Row;
+use test_rows::{Row, Stop};
 
 fn type_of(pool: &DescriptorPool, name: &str) -> Result<MessageDescriptor, Stop> {
     pool.get_message_by_name(name).ok_or(Stop::NoSuchWord)

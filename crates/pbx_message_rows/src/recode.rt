@@ -5,7 +5,6 @@
 //! message's canonical encoding. The status is 1, with a line on err, where the input is no such message, 2 where the words name no type, 3 where a
 //! stream fails, and 4 for want of memory.
 
-use crate::stop::Stop;
 use hex::FromHexError;
 use pbx_content::Schema;
 use pbx_content_codec::{decode, encode};
@@ -18,7 +17,7 @@ use std::alloc::{AllocError, Global};
 use std::env;
 use std::mem::drop;
 use std::process::ExitCode;
-use test_rows::{Row, ShapeTextError, schema};
+use test_rows::{Row, ShapeTextError, Stop, schema};
 
 /// The greatest message, in bytes.
 const LIMIT: usize = 1 << 30;

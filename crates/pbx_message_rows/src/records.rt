@@ -1,14 +1,13 @@
 //! Messages as descriptor records and back.
 
 use crate::said::add_message;
-use crate::stop::Stop;
 use pbx_desc::DecodeMessage;
 use pbx_desc_encoding::Message;
 use pbx_desc_records::FileDescriptorProto;
 use pbx_message_dynamic::DynamicMessage;
 use std::alloc::Global;
 use std::mem::drop;
-use test_rows::Row;
+use test_rows::{Row, Stop};
 
 /// The bytes of the record of a file.
 fn file_said(alloc: Global, file: &FileDescriptorProto) -> Result<String, Stop> {

@@ -1,12 +1,12 @@
 //! What is told of a value.
 
-use crate::stop::Stop;
 use pbx_desc_encoding::Message;
 use pbx_link::{DescriptorPool, MessageDescriptor};
 use pbx_message::{ReflectError, ReflectMessage};
 use pbx_message_dynamic::DynamicMessage;
 use std::alloc::{AllocError, Global};
 use std::mem::drop;
+use test_rows::Stop;
 
 fn add_name(told: &mut String, name: &str) -> Result<(), AllocError> {
     told.push_str(name)?;
@@ -62,4 +62,15 @@ pub(crate) fn reflected<M: ReflectMessage>(
         Err(error) => add_error(&mut told, error)?,
     }
     Ok(told)
+}
+
+/// The same of a value that is not used any more.
+pub(crate) fn reflected_last<M: ReflectMessage + Drop>(
+    alloc: Global,
+    pool: &DescriptorPool,
+    value: M,
+) -> Result<String, Stop> {
+    let told = reflected(alloc, pool, &value);
+    drop(value);
+    told
 }

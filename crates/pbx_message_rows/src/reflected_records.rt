@@ -1,7 +1,6 @@
 //! Records and dynamic messages as values.
 
-use crate::reflected::reflected;
-use crate::stop::Stop;
+use crate::reflected::reflected_last;
 use pbx_desc::DecodeMessage;
 use pbx_desc_encoding::{
     DescriptorProto, EnumDescriptorProto, EnumReservedRange, EnumValueDescriptorProto,
@@ -16,7 +15,7 @@ use pbx_types::{Any, Duration, Empty, FieldMask, ListValue, Struct, Timestamp, V
 use pbx_wkt::make_wkt_descriptor_pool;
 use std::alloc::Global;
 use std::mem::drop;
-use test_rows::Row;
+use test_rows::{Row, Stop};
 
 /// What is told of the record that the row's bytes are read as.
 fn record<R: DecodeMessage + ReflectMessage + Drop>(
@@ -26,11 +25,7 @@ fn record<R: DecodeMessage + ReflectMessage + Drop>(
 ) -> Result<String, Stop> {
     let bytes = hex::decode(alloc, row.text(1))?;
     match R::decode(alloc, bytes.as_slice()) {
-        Ok(value) => {
-            let told = reflected(alloc, pool, &value);
-            drop(value);
-            told
-        }
+        Ok(value) => reflected_last(alloc, pool, value),
         Err(_) => Err(Stop::NoSuchWord),
     }
 }
@@ -48,11 +43,7 @@ fn dynamic(alloc: Global, pool: &DescriptorPool, row: &Row) -> Result<String, St
     let bytes = hex::decode(alloc, row.text(1))?;
     let desc = built_in_type(alloc, row.text(2))?;
     match DynamicMessage::decode(alloc, desc, bytes.as_slice()) {
-        Ok(message) => {
-            let told = reflected(alloc, pool, &message);
-            drop(message);
-            told
-        }
+        Ok(message) => reflected_last(alloc, pool, message),
         Err(_) => Err(Stop::NoSuchWord),
     }
 }

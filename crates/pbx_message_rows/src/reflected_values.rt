@@ -1,15 +1,14 @@
 //! Values of the types that a row names.
 
 use crate::pool_of;
-use crate::reflected::reflected;
+use crate::reflected::{reflected, reflected_last};
 use crate::reflected_records::well_known;
-use crate::stop::Stop;
 use bytes::Bytes;
 use pbx_link::DescriptorPool;
 use pbx_wkt::make_wkt_descriptor_pool;
 use std::alloc::Global;
 use std::mem::drop;
-use test_rows::Row;
+use test_rows::{Row, Stop};
 
 /// The pool of that word, or of that set of files.
 fn named_pool(alloc: Global, word: &str) -> Result<DescriptorPool, Stop> {
@@ -37,12 +36,12 @@ fn single(alloc: Global, pool: &DescriptorPool, row: &Row, sort: &str) -> Result
 /// The same of a value that takes memory.
 fn owned(alloc: Global, pool: &DescriptorPool, row: &Row, sort: &str) -> Result<String, Stop> {
     match sort {
-        "String" => reflected(alloc, pool, &String::from_str(alloc, row.text(1))?),
-        "Vec<u8>" => reflected(alloc, pool, &Vec::from_slice(alloc, row.bytes(1))?),
-        "Bytes" => reflected(alloc, pool, &Bytes::copy_from_slice(alloc, row.bytes(1))?),
+        "String" => reflected_last(alloc, pool, String::from_str(alloc, row.text(1))?),
+        "Vec<u8>" => reflected_last(alloc, pool, Vec::from_slice(alloc, row.bytes(1))?),
+        "Bytes" => reflected_last(alloc, pool, Bytes::copy_from_slice(alloc, row.bytes(1))?),
         "Box<i32>" => {
             let number = row.text(1).parse::<i32>().unwrap_or(0);
-            reflected(alloc, pool, &Box::new(alloc, number)?)
+            reflected_last(alloc, pool, Box::new(alloc, number)?)
         }
         _ => well_known(alloc, pool, row, sort),
     }

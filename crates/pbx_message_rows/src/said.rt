@@ -1,6 +1,5 @@
 //! What is told of a message.
 
-use crate::stop::Done;
 use crate::values::add_value;
 use pbx_desc_encoding::Message;
 use pbx_link::{ExtensionDescriptor, FieldDescriptor, MessageDescriptor};
@@ -8,6 +7,7 @@ use pbx_message_dynamic::{DynamicMessage, Value};
 use pbx_wire::{Blob, write_recs};
 use std::alloc::Global;
 use std::mem::drop;
+use test_rows::Done;
 
 /// The value of a field; `=` before it where the message has one, and else `~` before the default.
 pub(crate) fn add_got(alloc: Global, text: &mut String, has: bool, value: &Option<Value>) -> Done {
@@ -21,6 +21,19 @@ pub(crate) fn add_got(alloc: Global, text: &mut String, has: bool, value: &Optio
     }
 }
 
+/// What `add_got` adds of the field.
+fn add_value_of(
+    alloc: Global,
+    text: &mut String,
+    message: &DynamicMessage,
+    field: &FieldDescriptor,
+) -> Done {
+    let value = message.get_field(alloc, field)?;
+    let done = add_got(alloc, text, message.has_field(field), &value);
+    drop(value);
+    done
+}
+
 fn add_field(
     alloc: Global,
     text: &mut String,
@@ -28,12 +41,22 @@ fn add_field(
     field: &FieldDescriptor,
 ) -> Done {
     text.push_str(field.name())?;
-    let value = message.get_field(alloc, field)?;
-    let done = add_got(alloc, text, message.has_field(field), &value);
-    drop(value);
-    done?;
+    add_value_of(alloc, text, message, field)?;
     text.push_str(" ")?;
     Ok(())
+}
+
+/// What `add_got` adds of the extension.
+fn add_value_of_extension(
+    alloc: Global,
+    text: &mut String,
+    message: &DynamicMessage,
+    extension: &ExtensionDescriptor,
+) -> Done {
+    let value = message.get_extension(alloc, extension)?;
+    let done = add_got(alloc, text, message.has_extension(extension), &value);
+    drop(value);
+    done
 }
 
 fn add_extension(
@@ -43,10 +66,7 @@ fn add_extension(
     extension: &ExtensionDescriptor,
 ) -> Done {
     write!(text, "[{}]", extension.full_name())?;
-    let value = message.get_extension(alloc, extension)?;
-    let done = add_got(alloc, text, message.has_extension(extension), &value);
-    drop(value);
-    done?;
+    add_value_of_extension(alloc, text, message, extension)?;
     text.push_str(" ")?;
     Ok(())
 }

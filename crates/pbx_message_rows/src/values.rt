@@ -1,10 +1,10 @@
 //! Values of fields as text.
 
 use crate::said::add_bytes;
-use crate::stop::Done;
 use pbx_desc_encoding::Message;
 use pbx_message_dynamic::{DynamicMessage, MapKey, Value, ValueMap};
 use std::alloc::Global;
+use test_rows::Done;
 
 fn add_text(alloc: Global, text: &mut String, value: &str) -> Done {
     text.push_str("'")?;

@@ -12,9 +12,11 @@
 mod error;
 mod escape;
 mod row;
+mod stop;
 mod text;
 
 pub use error::ShapeTextError;
 pub use escape::{escaped, unescaped};
 pub use row::{Row, answer_line};
+pub use stop::{Done, Stop, line_of};
 pub use text::schema;

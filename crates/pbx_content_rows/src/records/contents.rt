@@ -2,13 +2,12 @@
 
 use crate::records::json;
 use crate::said::{content_bytes, cut, small, words};
-use crate::stop::{Done, Stop};
 use pbx_content::Schema;
 use pbx_content_codec::{Contents, Held, content_records, decode};
 use pbx_wire::{DecodeError, List, Rec, Text};
 use std::alloc::Global;
 use std::mem::replace;
-use test_rows::Row;
+use test_rows::{Done, Row, Stop};
 
 /// Contents that steps make.
 #[derive(Drop)]

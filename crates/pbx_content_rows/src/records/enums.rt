@@ -3,10 +3,10 @@
 use crate::records::parts::{
     add_text, hand_over, put_number, put_text, take_options, take_records,
 };
-use crate::stop::{Done, Stop};
 use pbx_desc_encoding::{EnumDescriptorProto, EnumReservedRange, EnumValueDescriptorProto};
 use pbx_wire::Recs;
 use std::alloc::Global;
+use test_rows::{Done, Stop};
 
 #[derive(Drop)]
 pub(crate) struct EnumParts {

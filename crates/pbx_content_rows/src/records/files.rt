@@ -4,13 +4,13 @@ use crate::records::made::Made;
 use crate::records::parts::{
     add_number, add_text, hand_over, put_text, take_options, take_records,
 };
-use crate::stop::{Done, Stop};
 use pbx_desc_encoding::{
     DescriptorProto, EnumDescriptorProto, FieldDescriptorProto, FileDescriptorProto,
     ServiceDescriptorProto, SourceCodeInfo,
 };
 use std::alloc::Global;
 use std::mem::replace;
+use test_rows::{Done, Stop};
 
 /// A step with a file: what it holds is what was made last.
 pub(crate) fn file_step(alloc: Global, made: &mut Made, part: &str, value: &str) -> Done {

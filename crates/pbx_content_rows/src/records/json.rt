@@ -2,7 +2,6 @@
 
 use crate::records::contents::meaning;
 use crate::said::{content_bytes, words};
-use crate::stop::Stop;
 use pbx_content::Schema;
 use pbx_content_codec::Contents;
 use pbx_json_meaning::{DeserializeOptions, JsonError, JsonKind, SerializeOptions};
@@ -10,7 +9,7 @@ use pbx_json_reading::read_content;
 use pbx_json_writing::write_content;
 use serde_json::Value;
 use std::alloc::Global;
-use test_rows::Row;
+use test_rows::{Row, Stop};
 
 fn refused(alloc: Global, error: JsonError) -> Result<String, Stop> {
     match error.kind {

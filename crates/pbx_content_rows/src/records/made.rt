@@ -14,11 +14,10 @@ use crate::records::services::{
     SourceParts, location_step, method_step, service_step, source_step,
 };
 use crate::said::cut;
-use crate::stop::{Done, Stop};
 use pbx_desc_encoding::{DescriptorProto, FileDescriptorProto, FileDescriptorSet};
 use pbx_wire::Recs;
 use std::alloc::Global;
-use test_rows::Row;
+use test_rows::{Done, Row, Stop};
 
 #[derive(Drop)]
 pub(crate) struct Made {

@@ -5,7 +5,6 @@ use crate::records::parts::{
     add_text, hand_over, put_number, put_text, put_truth, take_options, take_records,
 };
 use crate::said::cut;
-use crate::stop::{Done, Stop};
 use pbx_desc_encoding::{
     DescriptorProto, EnumDescriptorProto, ExtensionRange, FieldDescriptorProto,
     OneofDescriptorProto, ReservedRange,
@@ -13,6 +12,7 @@ use pbx_desc_encoding::{
 use pbx_wire::Recs;
 use std::alloc::Global;
 use std::mem::replace;
+use test_rows::{Done, Stop};
 
 #[derive(Drop)]
 pub(crate) struct MessageParts {

@@ -1,11 +1,11 @@
 //! How a step gives a record one of its parts.
 
 use crate::said::{cut, small};
-use crate::stop::{Done, Stop};
 use pbx_desc_encoding::Options;
 use pbx_wire::{List, Rec, Recs, Text, Texts, varints_text};
 use std::alloc::Global;
 use std::mem::replace;
+use test_rows::{Done, Stop};
 
 pub(crate) fn put_text(alloc: Global, to: &mut Option<Text>, value: &str) -> Done {
     *to = Some(Text::from_str(alloc, value)?);

@@ -3,12 +3,11 @@
 //! What is wanted of a field is what Python's `google.protobuf` 3.21 tells of the descriptors in `descriptor_pb2`.
 
 use crate::said::small;
-use crate::stop::{Done, Stop};
 use pbx_content::{Cardinality, FieldShape, Kind, MessageShape, Schema, SchemaError, Shape};
 use pbx_desc_shapes::{descriptor_place as place, descriptor_shape};
 use pbx_wire::{List, NoMemory, Text};
 use std::alloc::Global;
-use test_rows::Row;
+use test_rows::{Done, Row, Stop};
 
 /// Places of the descriptor records' shape, by words.
 static PLACES: [(&str, usize); 7] = [

@@ -1,13 +1,12 @@
 //! Asks of `pbx_wire`: records, texts, lists and blobs. What is wanted follows Protocol Buffers "Encoding".
 
 use crate::said::{shown, small, words};
-use crate::stop::{Done, Stop};
 use pbx_wire::{
     Blob, List, Rec, Recs, Text, copy_recs, front_key, read_rec, read_recs, rec_len, recs_text,
     varints_text, write_rec, write_recs,
 };
 use std::alloc::{AllocError, Global};
-use test_rows::Row;
+use test_rows::{Done, Row, Stop};
 
 /// The row's fields as numbers, from the one at `from` on.
 fn numbers_from(alloc: Global, row: &Row, from: usize) -> Result<Vec<u64>, AllocError> {

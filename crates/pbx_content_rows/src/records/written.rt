@@ -14,7 +14,6 @@ use crate::records::made::Made;
 use crate::records::messages::MessageParts;
 use crate::records::wire::text_of;
 use crate::said::{content_bytes, message_bytes, shown, small, words};
-use crate::stop::Stop;
 use pbx_content::Schema;
 use pbx_content_codec::{Contents, decode, decode_parts, encode};
 use pbx_desc_encoding::{
@@ -23,8 +22,8 @@ use pbx_desc_encoding::{
 use pbx_desc_shapes::descriptor_place as place;
 use pbx_wire::{DecodeError, NoMemory, Recs, rec_len};
 use std::alloc::Global;
-use std::mem::replace;
-use test_rows::Row;
+use std::mem::{drop, replace};
+use test_rows::{Row, Stop};
 
 /// The length of the first record's text.
 fn length(alloc: Global, recs: &Recs) -> Result<String, Stop> {
@@ -83,12 +82,16 @@ fn written(alloc: Global, made: &mut Made, of: &str) -> Result<String, Stop> {
 
 fn copy_of_file(alloc: Global, file: &FileDescriptorProto) -> Result<String, Stop> {
     let copy = file.copy(alloc)?;
-    message_bytes(alloc, &copy)
+    let told = message_bytes(alloc, &copy);
+    drop(copy);
+    told
 }
 
 fn copy_of_set(alloc: Global, set: &FileDescriptorSet) -> Result<String, Stop> {
     let copy = set.copy(alloc)?;
-    message_bytes(alloc, &copy)
+    let told = message_bytes(alloc, &copy);
+    drop(copy);
+    told
 }
 
 fn copy_of_options(alloc: Global, options: &Options) -> Result<String, Stop> {

@@ -2,11 +2,11 @@
 
 use crate::said::{message_bytes, words};
 use crate::sources::words::source;
-use crate::stop::Stop;
 use pbx_desc_encoding::FileDescriptorProto;
 use pbx_parse::{ParseError, parse};
 use std::alloc::Global;
-use test_rows::Row;
+use std::mem::drop;
+use test_rows::{Row, Stop};
 
 /// What is asked of a source that has a record.
 fn of_record(alloc: Global, word: &str, file: &FileDescriptorProto) -> Result<String, Stop> {
@@ -59,8 +59,16 @@ fn name(row: &Row) -> &str {
 /// What is asked of the source, or what is said where it has no record.
 pub(crate) fn shown(alloc: Global, row: &Row, word: &str) -> Result<String, Stop> {
     match parse(alloc, name(row), source(row)) {
-        Ok(file) => of_record(alloc, word, &file),
-        Err(error) => of_error(alloc, word, &error),
+        Ok(file) => {
+            let told = of_record(alloc, word, &file);
+            drop(file);
+            told
+        }
+        Err(error) => {
+            let told = of_error(alloc, word, &error);
+            drop(error);
+            told
+        }
     }
 }
 

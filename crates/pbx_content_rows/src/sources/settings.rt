@@ -1,13 +1,12 @@
 //! The options of `descriptor.proto`, and what may be set where.
 
 use crate::sources::words::{option_place, place, scalar};
-use crate::stop::Stop;
 use pbx_parse_tree::{
     Allowed, Constant, Expected, Kind, Literal, Name, Number, Setting, known_option, name_fits,
     optimize_mode, value_fits,
 };
 use std::alloc::Global;
-use test_rows::Row;
+use test_rows::{Row, Stop};
 
 /// The option of a name at a place.
 pub(crate) fn option(alloc: Global, row: &Row) -> Result<String, Stop> {

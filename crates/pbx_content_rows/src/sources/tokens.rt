@@ -1,11 +1,10 @@
 //! What tokens a source has.
 
 use crate::sources::words::source;
-use crate::stop::Stop;
 use pbx_parse_token::{LexError, Token, Word, lex, unescape};
 use std::alloc::{AllocError, Global};
 use std::fmt::Write;
-use test_rows::Row;
+use test_rows::{Row, Stop};
 
 /// A token as text; of a string what is written and the bytes that it stands for.
 fn add_token(alloc: Global, out: &mut String, word: Word<'_>) -> Result<(), AllocError> {

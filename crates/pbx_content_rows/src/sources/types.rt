@@ -1,12 +1,11 @@
 //! What may be a type, a map's key or a text.
 
 use crate::sources::words::{place, scalar};
-use crate::stop::Stop;
 use pbx_parse_tree::{
     Expected, Literal, Name, Separated, TypeName, key_fits, text_fits, type_fits,
 };
 use std::alloc::Global;
-use test_rows::Row;
+use test_rows::{Row, Stop};
 
 /// The name of a type; the type of a field has a dot before it.
 fn type_name<'a>(alloc: Global, row: &'a Row, word: &str) -> TypeName<'a> {
