@@ -12,7 +12,7 @@ ghost use Rattle.pbx_content_codec.specs.Stability.{IsStabilizedUnless};
 use crate::contents::Contents;
 use crate::fields::Owner;
 use crate::levels::DEEPEST;
-use crate::merging::{Levels, Merging, merge_bytes};
+use crate::merging::merge_bytes;
 use crate::stabilizing::{is_stable, stabilize_unless};
 use pbx_content::Schema;
 use pbx_wire::{DecodeError, NoMemory};
@@ -33,18 +33,18 @@ fn decode_with(
 {
     let _proper = schema.shape();
     let mut contents = Contents::new(alloc);
-    let merging = Merging {
+    match merge_bytes(
         alloc,
         schema,
-        stable: true,
-    };
-    let levels = Levels {
+        true,
         groups,
         messages,
-        stack: DEEPEST,
-    };
-    let owner = Owner::Type(type_at);
-    match merge_bytes(&merging, levels, owner, bytes.len(), &mut contents, bytes) {
+        DEEPEST,
+        Owner::Type(type_at),
+        bytes.len(),
+        &mut contents,
+        bytes,
+    ) {
         Ok(()) => Ok(contents),
         Err(fault) => {
             drop(contents);
@@ -134,18 +134,18 @@ pub fn merge(
     let Ok(mut contents) = stable_copy(alloc, schema, stable, type_at, old) else {
         return Err(DecodeError::NoMemory);
     };
-    let merging = Merging {
+    match merge_bytes(
         alloc,
         schema,
         stable,
-    };
-    let levels = Levels {
-        groups: 100,
-        messages: 100,
-        stack: DEEPEST,
-    };
-    let owner = Owner::Type(type_at);
-    match merge_bytes(&merging, levels, owner, bytes.len(), &mut contents, bytes) {
+        100,
+        100,
+        DEEPEST,
+        Owner::Type(type_at),
+        bytes.len(),
+        &mut contents,
+        bytes,
+    ) {
         Ok(()) => Ok(contents),
         Err(fault) => {
             drop(contents);

@@ -31,36 +31,6 @@ use pbx_content_map::NumberMap;
 use pbx_wire::{DecodeError, NoMemory, RecRef, front_key, read_rec_ref};
 use std::alloc::Global;
 
-/// What all records are merged by.
-#[derive(Clone, Copy)]
-pub(crate) struct Merging<'s> {
-    pub(crate) alloc: Global,
-    pub(crate) schema: &'s Schema,
-    /// Whether each message of the content that is there stays where no record comes.
-    pub(crate) stable: bool,
-}
-
-/// How many levels are left below the one that is read.
-#[derive(Clone, Copy)]
-pub(crate) struct Levels {
-    /// Of groups.
-    pub(crate) groups: usize,
-    /// Of messages, by the limit of the call.
-    pub(crate) messages: usize,
-    /// Of messages, by what the stack holds.
-    pub(crate) stack: u32,
-}
-
-/// A record and where it stands: offsets in the bytes of the whole message.
-#[derive(Drop)]
-struct ReadRec<'a> {
-    rec: RecRef<'a>,
-    /// The offset of its key.
-    at: usize,
-    /// The offset behind its payload.
-    end: usize,
-}
-
 /// Adds a record that no field reads.
 #[tactic(auto, using(crate::proofs::Tree::kept_is))]
 fn keep(alloc: Global, into: &mut Contents, rec: RecRef<'_>) -> Result<(), DecodeError>
@@ -219,64 +189,79 @@ fn add_pair(
 /// The record's payload as a message or map entry, behind a content that is ready at one level less.
 #[cycle(merge)]
 fn merge_payload(
-    merging: &Merging<'_>,
-    levels: Levels,
+    alloc: Global,
+    schema: &Schema,
+    stable: bool,
+    messages: usize,
+    room: u32,
     owner: Owner,
+    at: usize,
+    end: usize,
     into: &mut Contents,
-    read: &ReadRec<'_>,
+    rec: &RecRef<'_>,
 ) -> Result<(), DecodeError>
-    requires proper { IsProper merging.now.schema.now }
-    requires ends { PayloadFits (rec_of read.now.rec) read.now.end }
-    requires ready { (deeper : ℕ) → levels.messages ≡ suc deeper
-        → IsReady merging.now.stable merging.now.schema.now deeper (fields_at merging.now.schema.now owner) (content_of into.old) }
-    ensures found { OnOk result (PayloadMeans merging.now.schema.now levels.messages (fields_at merging.now.schema.now owner) (content_of into.old)
-        (rec_of read.now.rec) (content_of into.new)) }
-    ensures fault { IfErr result (λ e. (e ≡ OutOfMemory)
-        ⊎ PayloadFails merging.now.schema.now levels.messages (fields_at merging.now.schema.now owner) read.now.at read.now.end (rec_of read.now.rec) e) }
+    requires proper { IsProper schema.now }
+    requires ends { PayloadFits (rec_of rec.now) end }
+    requires ready { (deeper : ℕ) → messages ≡ suc deeper → IsReady stable schema.now deeper (fields_at schema.now owner) (content_of into.old) }
+    ensures found { OnOk result (PayloadMeans schema.now messages (fields_at schema.now owner) (content_of into.old) (rec_of rec.now) (content_of into.new)) }
+    ensures fault { IfErr result (λ e. (e ≡ OutOfMemory) ⊎ PayloadFails schema.now messages (fields_at schema.now owner) at end (rec_of rec.now) e) }
 {
-    let Some(bytes) = payload(&read.rec) else {
-        return Err(DecodeError::WireType(read.at));
+    let Some(bytes) = payload(rec) else {
+        return Err(DecodeError::WireType(at));
     };
-    if levels.messages == 0 {
-        return Err(DecodeError::TooDeep(read.at));
+    if messages == 0 {
+        return Err(DecodeError::TooDeep(at));
     }
-    if levels.stack == 0 {
+    if room == 0 {
         return Err(DecodeError::NoMemory);
     }
-    let inside = Levels {
-        groups: levels.messages - 1,
-        messages: levels.messages - 1,
-        stack: levels.stack - 1,
-    };
-    merge_bytes(merging, inside, owner, read.end, into, bytes)
+    merge_bytes(
+        alloc,
+        schema,
+        stable,
+        messages - 1,
+        messages - 1,
+        room - 1,
+        owner,
+        end,
+        into,
+        bytes,
+    )
 }
 
 /// A message behind the one that the field has.
 #[cycle(merge)]
 fn join_message(
-    merging: &Merging<'_>,
-    levels: Levels,
+    alloc: Global,
+    schema: &Schema,
+    stable: bool,
+    groups: usize,
+    messages: usize,
+    room: u32,
     view: FieldView,
     type_at: usize,
+    at: usize,
+    end: usize,
     held: &mut Option<Held>,
-    read: &ReadRec<'_>,
+    rec: &RecRef<'_>,
 ) -> Result<(), DecodeError>
-    requires proper { IsProper merging.now.schema.now }
-    requires left { (levels.groups ≡ 0) ↔ (levels.messages ≡ 0) }
+    requires proper { IsProper schema.now }
+    requires left { (groups ≡ 0) ↔ (messages ≡ 0) }
     requires kind { view.kind ≡ MessageKind type_at }
     requires once { view.cardinality ≡ Singular }
-    requires ends { PayloadFits (rec_of read.now.rec) read.now.end }
-    requires stable { HasStable merging.now.stable merging.now.schema.now levels.messages (field_like view) (option_map val_of held.old) }
-    ensures found { OnOk result (value_onto merging.now.schema.now (onto_at merging.now.schema.now levels.messages) (field_like view)
-        (option_map val_of held.old) (rec_of read.now.rec ∷ []) ≡ Some (option_map val_of held.new)) }
-    ensures fault { IfErr result (λ e. (e ≡ OutOfMemory)
-        ⊎ ValueFails merging.now.schema.now levels.groups levels.messages (field_like view) read.now.at read.now.end (rec_of read.now.rec) e) }
+    requires ends { PayloadFits (rec_of rec.now) end }
+    requires stable { HasStable stable schema.now messages (field_like view) (option_map val_of held.old) }
+    ensures found { OnOk result (value_onto schema.now (onto_at schema.now messages) (field_like view) (option_map val_of held.old) (rec_of rec.now ∷ [])
+        ≡ Some (option_map val_of held.new)) }
+    ensures fault { IfErr result (λ e. (e ≡ OutOfMemory) ⊎ ValueFails schema.now groups messages (field_like view) at end (rec_of rec.now) e) }
 {
-    let Ok(mut inner) = take_stable(merging.alloc, merging.schema, merging.stable, type_at, held)
-    else {
+    let Ok(mut inner) = take_stable(alloc, schema, stable, type_at, held) else {
         return Err(DecodeError::NoMemory);
     };
-    match merge_payload(merging, levels, Owner::Type(type_at), &mut inner, read) {
+    let owner = Owner::Type(type_at);
+    match merge_payload(
+        alloc, schema, stable, messages, room, owner, at, end, &mut inner, rec,
+    ) {
         Ok(()) => {
             set_message(held, inner);
             Ok(())
@@ -291,31 +276,33 @@ fn join_message(
 /// A message behind those that the field has.
 #[cycle(merge)]
 fn push_message(
-    merging: &Merging<'_>,
-    levels: Levels,
+    alloc: Global,
+    schema: &Schema,
+    groups: usize,
+    messages: usize,
+    room: u32,
     view: FieldView,
     type_at: usize,
+    at: usize,
+    end: usize,
     held: &mut Option<Held>,
-    read: &ReadRec<'_>,
+    rec: &RecRef<'_>,
 ) -> Result<(), DecodeError>
-    requires proper { IsProper merging.now.schema.now }
-    requires left { (levels.groups ≡ 0) ↔ (levels.messages ≡ 0) }
+    requires proper { IsProper schema.now }
+    requires left { (groups ≡ 0) ↔ (messages ≡ 0) }
     requires kind { view.kind ≡ MessageKind type_at }
     requires list { view.cardinality ≡ Repeated }
-    requires ends { PayloadFits (rec_of read.now.rec) read.now.end }
-    ensures found { OnOk result (value_onto merging.now.schema.now (onto_at merging.now.schema.now levels.messages) (field_like view)
-        (option_map val_of held.old) (rec_of read.now.rec ∷ []) ≡ Some (option_map val_of held.new)) }
-    ensures fault { IfErr result (λ e. (e ≡ OutOfMemory)
-        ⊎ ValueFails merging.now.schema.now levels.groups levels.messages (field_like view) read.now.at read.now.end (rec_of read.now.rec) e) }
+    requires ends { PayloadFits (rec_of rec.now) end }
+    ensures found { OnOk result (value_onto schema.now (onto_at schema.now messages) (field_like view) (option_map val_of held.old) (rec_of rec.now ∷ [])
+        ≡ Some (option_map val_of held.new)) }
+    ensures fault { IfErr result (λ e. (e ≡ OutOfMemory) ⊎ ValueFails schema.now groups messages (field_like view) at end (rec_of rec.now) e) }
 {
-    let mut inner = Contents::new(merging.alloc);
-    let anew = Merging {
-        alloc: merging.alloc,
-        schema: merging.schema,
-        stable: true,
-    };
-    match merge_payload(&anew, levels, Owner::Type(type_at), &mut inner, read) {
-        Ok(()) => add_message(merging.alloc, held, inner),
+    let mut inner = Contents::new(alloc);
+    let owner = Owner::Type(type_at);
+    match merge_payload(
+        alloc, schema, true, messages, room, owner, at, end, &mut inner, rec,
+    ) {
+        Ok(()) => add_message(alloc, held, inner),
         Err(fault) => {
             drop(inner);
             Err(fault)
@@ -326,38 +313,34 @@ fn push_message(
 /// A pair of a map among those that the field has.
 #[cycle(merge)]
 fn put_entry(
-    merging: &Merging<'_>,
-    levels: Levels,
+    alloc: Global,
+    schema: &Schema,
+    groups: usize,
+    messages: usize,
+    room: u32,
     view: FieldView,
     key: Kind,
+    at: usize,
+    end: usize,
     held: &mut Option<Held>,
-    read: &ReadRec<'_>,
+    rec: &RecRef<'_>,
 ) -> Result<(), DecodeError>
-    requires proper { IsProper merging.now.schema.now }
-    requires left { (levels.groups ≡ 0) ↔ (levels.messages ≡ 0) }
+    requires proper { IsProper schema.now }
+    requires left { (groups ≡ 0) ↔ (messages ≡ 0) }
     requires read { is_float_of view.kind ≡ false }
     requires map { view.cardinality ≡ Map key }
-    requires ends { PayloadFits (rec_of read.now.rec) read.now.end }
+    requires ends { PayloadFits (rec_of rec.now) end }
     requires ordered { HasOrdered (field_like view) (option_map val_of held.old) }
-    ensures found { OnOk result (value_onto merging.now.schema.now (onto_at merging.now.schema.now levels.messages) (field_like view)
-        (option_map val_of held.old) (rec_of read.now.rec ∷ []) ≡ Some (option_map val_of held.new)) }
-    ensures fault { IfErr result (λ e. (e ≡ OutOfMemory)
-        ⊎ ValueFails merging.now.schema.now levels.groups levels.messages (field_like view) read.now.at read.now.end (rec_of read.now.rec) e) }
+    ensures found { OnOk result (value_onto schema.now (onto_at schema.now messages) (field_like view) (option_map val_of held.old) (rec_of rec.now ∷ [])
+        ≡ Some (option_map val_of held.new)) }
+    ensures fault { IfErr result (λ e. (e ≡ OutOfMemory) ⊎ ValueFails schema.now groups messages (field_like view) at end (rec_of rec.now) e) }
 {
-    let mut entry = Contents::new(merging.alloc);
-    let anew = Merging {
-        alloc: merging.alloc,
-        schema: merging.schema,
-        stable: true,
-    };
+    let mut entry = Contents::new(alloc);
+    let owner = Owner::Entry(key, view.kind);
     match merge_payload(
-        &anew,
-        levels,
-        Owner::Entry(key, view.kind),
-        &mut entry,
-        read,
+        alloc, schema, true, messages, room, owner, at, end, &mut entry, rec,
     ) {
-        Ok(()) => add_pair(merging.alloc, merging.schema, key, view.kind, held, entry),
+        Ok(()) => add_pair(alloc, schema, key, view.kind, held, entry),
         Err(fault) => {
             drop(entry);
             Err(fault)
@@ -368,72 +351,80 @@ fn put_entry(
 /// What a field has with a record more.
 #[cycle(merge)]
 fn merge_value(
-    merging: &Merging<'_>,
-    levels: Levels,
+    alloc: Global,
+    schema: &Schema,
+    stable: bool,
+    groups: usize,
+    messages: usize,
+    room: u32,
     view: FieldView,
+    at: usize,
+    end: usize,
     held: &mut Option<Held>,
-    read: &ReadRec<'_>,
+    rec: &RecRef<'_>,
 ) -> Result<(), DecodeError>
-    requires proper { IsProper merging.now.schema.now }
-    requires left { (levels.groups ≡ 0) ↔ (levels.messages ≡ 0) }
+    requires proper { IsProper schema.now }
+    requires left { (groups ≡ 0) ↔ (messages ≡ 0) }
     requires read { is_float_of view.kind ≡ false }
-    requires ends { PayloadFits (rec_of read.now.rec) read.now.end }
-    requires stable { HasStable merging.now.stable merging.now.schema.now levels.messages (field_like view) (option_map val_of held.old) }
+    requires ends { PayloadFits (rec_of rec.now) end }
+    requires stable { HasStable stable schema.now messages (field_like view) (option_map val_of held.old) }
     requires ordered { HasOrdered (field_like view) (option_map val_of held.old) }
-    ensures found { OnOk result (value_onto merging.now.schema.now (onto_at merging.now.schema.now levels.messages) (field_like view)
-        (option_map val_of held.old) (rec_of read.now.rec ∷ []) ≡ Some (option_map val_of held.new)) }
-    ensures fault { IfErr result (λ e. (e ≡ OutOfMemory)
-        ⊎ ValueFails merging.now.schema.now levels.groups levels.messages (field_like view) read.now.at read.now.end (rec_of read.now.rec) e) }
+    ensures found { OnOk result (value_onto schema.now (onto_at schema.now messages) (field_like view) (option_map val_of held.old) (rec_of rec.now ∷ [])
+        ≡ Some (option_map val_of held.new)) }
+    ensures fault { IfErr result (λ e. (e ≡ OutOfMemory) ⊎ ValueFails schema.now groups messages (field_like view) at end (rec_of rec.now) e) }
 {
-    let Merging { alloc, schema, .. } = *merging;
     match view.cardinality {
         Cardinality::Singular => match view.kind {
-            Kind::Message(type_at) => join_message(merging, levels, view, type_at, held, read),
-            _ => set_value(
-                alloc,
-                schema,
-                view.presence,
-                view.kind,
-                read.at,
-                held,
-                &read.rec,
+            Kind::Message(type_at) => join_message(
+                alloc, schema, stable, groups, messages, room, view, type_at, at, end, held, rec,
             ),
+            _ => set_value(alloc, schema, view.presence, view.kind, at, held, rec),
         },
         Cardinality::Repeated => match view.kind {
-            Kind::Message(type_at) => push_message(merging, levels, view, type_at, held, read),
-            _ => add_values(alloc, schema, view.kind, read.at, held, &read.rec),
+            Kind::Message(type_at) => push_message(
+                alloc, schema, groups, messages, room, view, type_at, at, end, held, rec,
+            ),
+            _ => add_values(alloc, schema, view.kind, at, held, rec),
         },
-        Cardinality::Map(key) => put_entry(merging, levels, view, key, held, read),
+        Cardinality::Map(key) => put_entry(
+            alloc, schema, groups, messages, room, view, key, at, end, held, rec,
+        ),
     }
 }
 
-/// One record more.
+/// One record more, whose key stands at `at` and whose payload ends at `end`.
 #[cycle(merge)]
 fn merge_rec(
-    merging: &Merging<'_>,
-    levels: Levels,
+    alloc: Global,
+    schema: &Schema,
+    stable: bool,
+    groups: usize,
+    messages: usize,
+    room: u32,
     owner: Owner,
+    at: usize,
+    end: usize,
     into: &mut Contents,
-    read: ReadRec<'_>,
+    rec: RecRef<'_>,
 ) -> Result<(), DecodeError>
-    requires proper { IsProper merging.now.schema.now }
-    requires left { (levels.groups ≡ 0) ↔ (levels.messages ≡ 0) }
-    requires ends { PayloadFits (rec_of read.rec) read.end }
-    requires ready { IsReady merging.now.stable merging.now.schema.now levels.messages (fields_at merging.now.schema.now owner) (content_of into.old) }
-    ensures found { OnOk result (meaning_onto merging.now.schema.now levels.messages (fields_at merging.now.schema.now owner) (content_of into.old)
-        (rec_of read.entry.rec ∷ []) ≡ Some (content_of into.new)) }
-    ensures fault { IfErr result (λ e. (e ≡ OutOfMemory)
-        ⊎ RecFails merging.now.schema.now levels.groups levels.messages (fields_at merging.now.schema.now owner) read.entry.at read.entry.end
-        (rec_of read.entry.rec) e) }
+    requires proper { IsProper schema.now }
+    requires left { (groups ≡ 0) ↔ (messages ≡ 0) }
+    requires ends { PayloadFits (rec_of rec) end }
+    requires ready { IsReady stable schema.now messages (fields_at schema.now owner) (content_of into.old) }
+    ensures found { OnOk result (meaning_onto schema.now messages (fields_at schema.now owner) (content_of into.old) (rec_of rec.entry ∷ [])
+        ≡ Some (content_of into.new)) }
+    ensures fault { IfErr result (λ e. (e ≡ OutOfMemory) ⊎ RecFails schema.now groups messages (fields_at schema.now owner) at end (rec_of rec.entry) e) }
 {
-    let Some(view) = view_in(merging.schema, owner, read.rec.number()) else {
-        return keep(merging.alloc, into, read.rec);
+    let Some(view) = view_in(schema, owner, rec.number()) else {
+        return keep(alloc, into, rec);
     };
     if is_float(view.kind) {
-        return keep(merging.alloc, into, read.rec);
+        return keep(alloc, into, rec);
     }
-    let mut held = take_value(merging.schema, owner, view, into);
-    match merge_value(merging, levels, view, &mut held, &read) {
+    let mut held = take_value(schema, owner, view, into);
+    match merge_value(
+        alloc, schema, stable, groups, messages, room, view, at, end, &mut held, &rec,
+    ) {
         Ok(()) => put_value(into, view.number, held),
         Err(fault) => {
             drop(held);
@@ -445,30 +436,35 @@ fn merge_rec(
 /// The record at the front of the bytes, which end at `end`; the bytes behind it.
 #[cycle(merge)]
 fn merge_next<'a>(
-    merging: &Merging<'_>,
-    levels: Levels,
+    alloc: Global,
+    schema: &Schema,
+    stable: bool,
+    groups: usize,
+    messages: usize,
+    room: u32,
     owner: Owner,
     end: usize,
     into: &mut Contents,
     bytes: &'a [u8],
 ) -> Result<&'a [u8], DecodeError>
-    requires proper { IsProper merging.now.schema.now }
-    requires left { (levels.groups ≡ 0) ↔ (levels.messages ≡ 0) }
+    requires proper { IsProper schema.now }
+    requires left { (groups ≡ 0) ↔ (messages ≡ 0) }
     requires ends { length bytes.now ≤ end }
-    requires ready { IsReady merging.now.stable merging.now.schema.now levels.messages (fields_at merging.now.schema.now owner) (content_of into.old) }
-    ensures found { IfOk result (λ rest. GoesOn merging.now.schema.now levels.groups levels.messages (fields_at merging.now.schema.now owner)
-        (content_of into.old) (content_of into.new) bytes.now rest.now) }
-    ensures fault { IfErr result (IsToldAt (end - length bytes.now)
-        (IsFirstWith merging.now.schema.now levels.groups levels.messages (fields_at merging.now.schema.now owner) bytes.now)) }
+    requires ready { IsReady stable schema.now messages (fields_at schema.now owner) (content_of into.old) }
+    ensures found { IfOk result (λ rest.
+        GoesOn schema.now groups messages (fields_at schema.now owner) (content_of into.old) (content_of into.new) bytes.now rest.now) }
+    ensures fault { IfErr result (IsToldAt (end - length bytes.now) (IsFirstWith schema.now groups messages (fields_at schema.now owner) bytes.now)) }
 {
     let at = end - bytes.len();
-    if !takes_key(merging.schema, owner, front_key(bytes)) {
+    if !takes_key(schema, owner, front_key(bytes)) {
         return Err(DecodeError::WireType(at));
     }
-    match read_rec_ref(merging.alloc, at, bytes, levels.groups) {
+    match read_rec_ref(alloc, at, bytes, groups) {
         Ok(Some((rec, rest))) => {
-            let end = end - rest.len();
-            match merge_rec(merging, levels, owner, into, ReadRec { rec, at, end }) {
+            let last = end - rest.len();
+            match merge_rec(
+                alloc, schema, stable, groups, messages, room, owner, at, last, into, rec,
+            ) {
                 Ok(()) => Ok(rest),
                 Err(fault) => Err(fault),
             }
@@ -482,25 +478,30 @@ fn merge_next<'a>(
 /// messages inside do so, too.
 #[cycle(merge)]
 pub(crate) fn merge_bytes(
-    merging: &Merging<'_>,
-    levels: Levels,
+    alloc: Global,
+    schema: &Schema,
+    stable: bool,
+    groups: usize,
+    messages: usize,
+    room: u32,
     owner: Owner,
     end: usize,
     into: &mut Contents,
     bytes: &[u8],
 ) -> Result<(), DecodeError>
-    requires proper { IsProper merging.now.schema.now }
-    requires left { (levels.groups ≡ 0) ↔ (levels.messages ≡ 0) }
+    requires proper { IsProper schema.now }
+    requires left { (groups ≡ 0) ↔ (messages ≡ 0) }
     requires ends { length bytes.now ≤ end }
-    requires ready { IsReady merging.now.stable merging.now.schema.now levels.messages (fields_at merging.now.schema.now owner) (content_of into.old) }
-    ensures found { OnOk result (onto_with merging.now.schema.now levels.groups levels.messages (fields_at merging.now.schema.now owner)
-        (content_of into.old) bytes.now ≡ Some (content_of into.new)) }
-    ensures fault { IfErr result (IsToldAt (end - length bytes.now)
-        (IsFirstWith merging.now.schema.now levels.groups levels.messages (fields_at merging.now.schema.now owner) bytes.now)) }
+    requires ready { IsReady stable schema.now messages (fields_at schema.now owner) (content_of into.old) }
+    ensures found { OnOk result (onto_with schema.now groups messages (fields_at schema.now owner) (content_of into.old) bytes.now
+        ≡ Some (content_of into.new)) }
+    ensures fault { IfErr result (IsToldAt (end - length bytes.now) (IsFirstWith schema.now groups messages (fields_at schema.now owner) bytes.now)) }
 {
     let mut rest = bytes;
     while rest.len() > 0 {
-        match merge_next(merging, levels, owner, end, into, rest) {
+        match merge_next(
+            alloc, schema, stable, groups, messages, room, owner, end, into, rest,
+        ) {
             Ok(after) => rest = after,
             Err(fault) => return Err(fault),
         }

@@ -6,7 +6,6 @@ ghost use Rattle.std.specs.Str.{is_utf8};
 ghost use Rattle.pbx_parse_token.specs.Escapes.{unescaped};
 ghost use Rattle.pbx_content.specs.declared.shape.Kind.TheVariants as kinds;
 ghost use Rattle.pbx_content.specs.Content.{octets, number as number_of};
-ghost use Rattle.pbx_content.specs.Meaning.{zero_of};
 ghost use Rattle.pbx_content.specs.Shape.{enum_values_of, is_float};
 ghost use Rattle.pbx_content.specs.Sound.{IsNumber, IsElement};
 ghost use Rattle.pbx_content_codec.specs.View.{val_of};
@@ -17,10 +16,9 @@ ghost use Rattle.pbx_message_laws.specs.Defaults.{number_named as number_named_o
 ghost use Rattle.pbx_message_laws.specs.Pools.{IsReadable};
 ghost use Rattle.pbx_message_laws.specs.Settable.{IsSettable};
 
-use crate::putting::first_value;
 use bytes::Bytes;
 use pbx_content::{Cardinality, EnumValueShape, FieldShape, Kind, Schema};
-use pbx_content_codec::{Contents, Held};
+use pbx_content_codec::{Held, first_value, kind_default};
 use pbx_parse_token::unescape;
 use pbx_wire::{List, NoMemory, Text};
 use std::alloc::Global;
@@ -116,23 +114,6 @@ fn number_named(name: &str, number: i32, values: &[EnumValueShape]) -> i32
     number
 }
 
-/// The default of a kind.
-fn zero(alloc: Global, schema: &Schema, kind: Kind) -> Result<Held, NoMemory>
-    ensures { IfOk result (λ held. val_of held ≡ zero_of schema.now kind) }
-{
-    match kind {
-        Kind::Bool => Ok(Held::Bool(false)),
-        Kind::String => Ok(Held::Text(Text::from_str(alloc, "")?)),
-        Kind::Bytes => Ok(Held::Bytes(Bytes::copy_from_slice(alloc, &[])?)),
-        Kind::Message(_) => Ok(Held::Message(Contents::new(alloc))),
-        Kind::Enum(enum_at) => Ok(Held::I32(first_value(schema, enum_at))),
-        Kind::Int64 | Kind::Sint64 | Kind::Sfixed64 => Ok(Held::I64(0)),
-        Kind::Uint32 | Kind::Fixed32 => Ok(Held::U32(0)),
-        Kind::Uint64 | Kind::Fixed64 => Ok(Held::U64(0)),
-        _ => Ok(Held::I32(0)),
-    }
-}
-
 /// The bytes that an escaped text stands for.
 fn bytes_default(alloc: Global, text: &str) -> Result<Held, NoMemory>
     ensures { IfOk result (λ held. val_of held ≡ octets (unescaped text.now)) }
@@ -155,7 +136,7 @@ fn declared(alloc: Global, schema: &Schema, kind: Kind, text: &str) -> Result<He
             first_value(schema, enum_at),
             enum_values(schema, enum_at),
         ))),
-        Kind::Message(_) => zero(alloc, schema, kind),
+        Kind::Message(_) => kind_default(alloc, schema, kind),
         _ => Ok(number_held(kind, text.as_bytes())),
     }
 }
@@ -174,7 +155,7 @@ pub(crate) fn default_held(
         Cardinality::Map(_) => Ok(Held::Pairs(List::new(alloc))),
         Cardinality::Singular => match &field.default {
             Some(text) => declared(alloc, schema, field.kind, text.as_str()),
-            None => zero(alloc, schema, field.kind),
+            None => kind_default(alloc, schema, field.kind),
         },
     }
 }

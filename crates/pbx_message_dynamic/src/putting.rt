@@ -1,11 +1,7 @@
 // Values put into trees.
-ghost use Rattle.std.specs.Prelude.{◌≡◌, pos, Some, OnOk, OnErr};
-ghost use Rattle.std.specs.Int.{w32};
-ghost use Rattle.std.specs.Int.RustNames.{FitsSigned};
-ghost use Rattle.std.specs.Ordering.{int_eq};
+ghost use Rattle.std.specs.Prelude.{◌≡◌, Some, OnOk, OnErr};
 ghost use Rattle.pbx_content.specs.Content.{fields as fields_in_content, with_fields, with_option};
-ghost use Rattle.pbx_content.specs.Meaning.{is_default as is_default_of, zero_number as zero_number_of};
-ghost use Rattle.pbx_content.specs.Shape.{first_number, first_of as first_of_values, field_of, fields_of};
+ghost use Rattle.pbx_content.specs.Shape.{field_of, fields_of};
 ghost use Rattle.pbx_content.specs.Sound.{IsSound};
 ghost use Rattle.pbx_content_codec.specs.View.{content_of, val_of};
 ghost use Rattle.pbx_content_map.specs.Entries.{value_under};
@@ -13,72 +9,11 @@ ghost use Rattle.pbx_message_laws.specs.Fields.{keeps_default as keeps_default_o
 ghost use Rattle.pbx_message_dynamic.specs.Members.{AreMembersIf, IsNoted, without_former};
 
 use crate::members::{clear_former, known_members, member_under, noted};
-use pbx_content::{Cardinality, EnumShape, FieldShape, Kind, Schema};
-use pbx_content_codec::{Contents, Held};
+use pbx_content::{Cardinality, FieldShape, Schema};
+use pbx_content_codec::{Contents, Held, is_default};
 use pbx_content_map::NumberMap;
 use pbx_wire::NoMemory;
 use std::alloc::Global;
-
-/// The number of the first value.
-fn first_of(shape: &EnumShape) -> i32
-    ensures is { result ≡ first_of_values shape.now.values }
-    ensures fits { FitsSigned w32 result }
-{
-    match shape.values.as_slice().first() {
-        Some(value) => value.number,
-        None => 0,
-    }
-}
-
-/// The number of an enum's first value.
-pub(crate) fn first_value(schema: &Schema, enum_at: usize) -> i32
-    ensures { result ≡ first_number schema.now enum_at }
-{
-    let enums = schema.shape().enums.as_slice();
-    if enum_at >= enums.len() {
-        return 0;
-    }
-    first_of(&enums[enum_at])
-}
-
-/// The number of the kind's default.
-fn zero_number(schema: &Schema, kind: Kind) -> i32
-    ensures is { result ≡ zero_number_of schema.now kind }
-{
-    match kind {
-        Kind::Enum(enum_at) => first_value(schema, enum_at),
-        _ => 0,
-    }
-}
-
-/// Whether the value is the kind's default.
-#[tactic(auto, using(pbx_content_codec::proofs::Tree::default_many, pbx_content_codec::proofs::Tree::default_pairs))]
-fn is_default(schema: &Schema, kind: Kind, held: &Held) -> bool
-    ensures { result ≡ is_default_of schema.now kind (val_of held.now) }
-{
-    match held {
-        Held::I32(value) => *value == zero_number(schema, kind),
-        Held::I64(value) => *value == i64::from(zero_number(schema, kind)),
-        Held::U32(value) => i64::from(*value) == i64::from(zero_number(schema, kind)),
-        Held::U64(value) => is_zero(zero_number(schema, kind), *value),
-        Held::Bool(value) => !*value,
-        Held::Text(text) => text.as_str().is_empty(),
-        Held::Bytes(bytes) => bytes.is_empty(),
-        Held::Message(_) => false,
-        Held::Many(many) => many.as_slice().is_empty(),
-        Held::Pairs(pairs) => pairs.as_slice().is_empty(),
-    }
-}
-
-/// Whether the numbers are equal.
-fn is_zero(zero: i32, value: u64) -> bool
-    ensures { result ≡ int_eq (pos value) zero }
-{
-    match u64::try_from(zero) {
-        Ok(zero) => zero == value,
-        Err(_) => false,
-    }
-}
 
 /// Whether the field has its default as a value.
 fn keeps_default(field: &FieldShape) -> bool
