@@ -64,7 +64,8 @@ pub trait BlockItem<'a>: Drop + Sized {
     ) -> Result<Self, ReadError>
         ensures found { IfOk result (λ x. left cursor.old ≡ spelled (view x) (left cursor.new)) }
         ensures fit { IfOk result (λ x. behind version (before_of seen.now) (view x) ≡ true) }
-        ensures only { (t : Tree) (rest : List tokens.Token) → behind version (before_of seen.now) t ≡ true → left cursor.old ≡ spelled t rest → Reaches view t rest result (left cursor.new) }
+        ensures only { (t : Tree) (rest : List tokens.Token) → behind version (before_of seen.now) t ≡ true → left cursor.old ≡ spelled t rest →
+            Reaches view t rest result (left cursor.new) }
         ensures shorter { TakesSome result (left cursor.old) (left cursor.new) };
 
     /// Adds what it sets.
@@ -82,7 +83,8 @@ pub fn block<'a, P: BlockItem<'a>>(
     ensures found { IfOk result (λ x. left cursor.old ≡ list_then P.spelled (map P.view x.items) (left cursor.new)) }
     ensures ends { OnOk result (P.stop (left cursor.new) ≡ true) }
     ensures fit { IfOk result (λ x. all_behind (P.behind version) P.after nothing (map P.view x.items) ≡ true) }
-    ensures only { (ts : List P.Tree) (rest : List tokens.Token) → all_behind (P.behind version) P.after nothing ts ≡ true → P.stop rest ≡ true → left cursor.old ≡ list_then P.spelled ts rest → Reaches (λ x. map P.view x.items) ts rest result (left cursor.new) }
+    ensures only { (ts : List P.Tree) (rest : List tokens.Token) → all_behind (P.behind version) P.after nothing ts ≡ true → P.stop rest ≡ true →
+        left cursor.old ≡ list_then P.spelled ts rest → Reaches (λ x. map P.view x.items) ts rest result (left cursor.new) }
     ensures shorter { TakesAny result (left cursor.old) (left cursor.new) }
 {
     let mut items = Vec::new(alloc);
@@ -107,7 +109,10 @@ pub fn closed_block<'a, P: BlockItem<'a>>(
 ) -> Result<(Vec<P>, Span), ReadError>
     ensures found { IfOk result (λ x. left cursor.old ≡ list_then P.spelled (map P.view x.0.items) (marked 125 x.1 ∷ left cursor.new)) }
     ensures fit { IfOk result (λ x. all_behind (P.behind version) P.after nothing (map P.view x.0.items) ≡ true) }
-    ensures only { ((s : Span) (ts : List tokens.Token) → P.stop (marked 125 s ∷ ts) ≡ true) → (xs : List P.Tree) (close : Span) (rest : List tokens.Token) → all_behind (P.behind version) P.after nothing xs ≡ true → left cursor.old ≡ list_then P.spelled xs (marked 125 close ∷ rest) → Reaches {Y = List P.Tree × Span} (λ x. (map P.view x.0.items, x.1)) (xs, close) rest result (left cursor.new) }
+    ensures only { ((s : Span) (ts : List tokens.Token) → P.stop (marked 125 s ∷ ts) ≡ true) →
+        (xs : List P.Tree) (close : Span) (rest : List tokens.Token) → all_behind (P.behind version) P.after nothing xs ≡ true →
+        left cursor.old ≡ list_then P.spelled xs (marked 125 close ∷ rest) →
+        Reaches {Y = List P.Tree × Span} (λ x. (map P.view x.0.items, x.1)) (xs, close) rest result (left cursor.new) }
     ensures shorter { TakesSome result (left cursor.old) (left cursor.new) }
 {
     let items = block(alloc, cursor, version)?;

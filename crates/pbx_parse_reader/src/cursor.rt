@@ -10,7 +10,8 @@ ghost use Rattle.pbx_parse_tree.specs.Tree as tree;
 ghost use Rattle.pbx_parse_tree.specs.Grammar.{marked, worded, named, quoted, counted, mark_then, word_then, number_then};
 ghost use Rattle.pbx_parse_tree.specs.Conditions.{is_text as text_fits_of, is_field_number, is_range_number, is_enum_number};
 ghost use Rattle.pbx_parse_tree.specs.View.{name_of, literal_of, field_number_of, range_number_of, enum_number_of, number_of};
-ghost use Rattle.pbx_parse_reader.specs.View.{left, sees_mark, sees_word, sees_both, sees_without, word_follows, tail, ends_block, sees_string, sees_number, sees_type, number, Reaches, TakesSome};
+ghost use Rattle.pbx_parse_reader.specs.View.{left, sees_mark, sees_word, sees_both, sees_without, word_follows, tail, ends_block, sees_string};
+ghost use Rattle.pbx_parse_reader.specs.View.{sees_number, sees_type, number, Reaches, TakesSome};
 
 use crate::error::ReadError;
 use pbx_parse_token::{Span, Token, Word};
@@ -211,7 +212,8 @@ impl<'s, 'a> Cursor<'s, 'a> {
     /// The mark, if it is next.
     pub fn eat(&mut self, wanted: u8) -> Option<Span>
         ensures found { left self.old ≡ mark_then wanted result (left self.new) }
-        ensures only { (o : Option Span) (rest : List tokens.Token) → sees_mark wanted rest ≡ false → left self.old ≡ mark_then wanted o rest → (result ≡ o) × (left self.new ≡ rest) }
+        ensures only { (o : Option Span) (rest : List tokens.Token) → sees_mark wanted rest ≡ false → left self.old ≡ mark_then wanted o rest →
+            (result ≡ o) × (left self.new ≡ rest) }
         ensures shorter { length (left self.new) ≤ length (left self.old) }
     {
         if let Some(token) = self.peek() {
@@ -246,7 +248,8 @@ impl<'s, 'a> Cursor<'s, 'a> {
     pub fn eat_word(&mut self, wanted: &str) -> Option<Span>
         ensures found { left self.old ≡ word_then wanted.now result (left self.new) }
         ensures ends { word_follows wanted.now result (left self.new) ≡ true }
-        ensures only { (o : Option Span) (rest : List tokens.Token) → word_follows wanted.now o rest ≡ true → left self.old ≡ word_then wanted.now o rest → (result ≡ o) × (left self.new ≡ rest) }
+        ensures only { (o : Option Span) (rest : List tokens.Token) → word_follows wanted.now o rest ≡ true →
+            left self.old ≡ word_then wanted.now o rest → (result ≡ o) × (left self.new ≡ rest) }
         ensures shorter { length (left self.new) ≤ length (left self.old) }
     {
         if let Some(token) = self.peek() {
@@ -305,7 +308,8 @@ impl<'s, 'a> Cursor<'s, 'a> {
     pub fn text(&mut self, expected: Expected) -> Result<Literal<'a>, ReadError>
         ensures found { IfOk result (λ l. left self.old ≡ quoted (literal_of l) ∷ left self.new) }
         ensures fits { IfOk result (λ l. text_fits_of (literal_of l) ≡ true) }
-        ensures only { (l : tree.Literal) (rest : List tokens.Token) → text_fits_of l ≡ true → left self.old ≡ quoted l ∷ rest → Reaches literal_of l rest result (left self.new) }
+        ensures only { (l : tree.Literal) (rest : List tokens.Token) → text_fits_of l ≡ true → left self.old ≡ quoted l ∷ rest →
+            Reaches literal_of l rest result (left self.new) }
         ensures shorter { TakesSome result (left self.old) (left self.new) }
     {
         let left = self.tokens_left();
@@ -319,7 +323,8 @@ impl<'s, 'a> Cursor<'s, 'a> {
     /// An integer with its span, or else what could stand there.
     fn int(&mut self, expected: Expected) -> Result<(u64, Span), ReadError>
         ensures found { IfOk result (λ n. left self.old ≡ number n.0 n.1 ∷ left self.new) }
-        ensures only { (n : ℕ) (s : Span) (rest : List tokens.Token) → left self.old ≡ number n s ∷ rest → Reaches {Y = ℕ × Span} (λ x. (x.0, x.1)) (n, s) rest result (left self.new) }
+        ensures only { (n : ℕ) (s : Span) (rest : List tokens.Token) → left self.old ≡ number n s ∷ rest →
+            Reaches {Y = ℕ × Span} (λ x. (x.0, x.1)) (n, s) rest result (left self.new) }
         ensures shorter { TakesSome result (left self.old) (left self.new) }
     {
         if let Some(token) = self.peek() {
@@ -335,7 +340,8 @@ impl<'s, 'a> Cursor<'s, 'a> {
     fn int_up_to(&mut self, most: u64, expected: Expected) -> Result<(u64, Span), ReadError>
         ensures found { IfOk result (λ n. left self.old ≡ number n.0 n.1 ∷ left self.new) }
         ensures fits { IfOk result (λ n. nat_le n.0 most ≡ true) }
-        ensures only { (n : ℕ) (s : Span) (rest : List tokens.Token) → nat_le n most ≡ true → left self.old ≡ number n s ∷ rest → Reaches {Y = ℕ × Span} (λ x. (x.0, x.1)) (n, s) rest result (left self.new) }
+        ensures only { (n : ℕ) (s : Span) (rest : List tokens.Token) → nat_le n most ≡ true → left self.old ≡ number n s ∷ rest →
+            Reaches {Y = ℕ × Span} (λ x. (x.0, x.1)) (n, s) rest result (left self.new) }
         ensures shorter { TakesSome result (left self.old) (left self.new) }
     {
         let left = self.tokens_left();
@@ -349,7 +355,8 @@ impl<'s, 'a> Cursor<'s, 'a> {
     pub fn field_number(&mut self) -> Result<FieldNumber, ReadError>
         ensures found { IfOk result (λ n. left self.old ≡ counted (field_number_of n) ∷ left self.new) }
         ensures fits { IfOk result (λ n. is_field_number (field_number_of n) ≡ true) }
-        ensures only { (n : tree.Count) (rest : List tokens.Token) → is_field_number n ≡ true → left self.old ≡ counted n ∷ rest → Reaches field_number_of n rest result (left self.new) }
+        ensures only { (n : tree.Count) (rest : List tokens.Token) → is_field_number n ≡ true → left self.old ≡ counted n ∷ rest →
+            Reaches field_number_of n rest result (left self.new) }
         ensures shorter { TakesSome result (left self.old) (left self.new) }
     {
         let (value, span) = self.int_up_to(2_147_483_647, Expected::FieldNumber)?;
@@ -359,7 +366,8 @@ impl<'s, 'a> Cursor<'s, 'a> {
     pub fn range_number(&mut self) -> Result<RangeNumber, ReadError>
         ensures found { IfOk result (λ n. left self.old ≡ counted (range_number_of n) ∷ left self.new) }
         ensures fits { IfOk result (λ n. is_range_number (range_number_of n) ≡ true) }
-        ensures only { (n : tree.Count) (rest : List tokens.Token) → is_range_number n ≡ true → left self.old ≡ counted n ∷ rest → Reaches range_number_of n rest result (left self.new) }
+        ensures only { (n : tree.Count) (rest : List tokens.Token) → is_range_number n ≡ true → left self.old ≡ counted n ∷ rest →
+            Reaches range_number_of n rest result (left self.new) }
         ensures shorter { TakesSome result (left self.old) (left self.new) }
     {
         let (value, span) = self.int_up_to(536_870_911, Expected::RangeNumber)?;
@@ -370,7 +378,8 @@ impl<'s, 'a> Cursor<'s, 'a> {
     pub fn enum_number(&mut self) -> Result<EnumNumber, ReadError>
         ensures found { IfOk result (λ n. left self.old ≡ number_then (enum_number_of n) (left self.new)) }
         ensures fits { IfOk result (λ n. is_enum_number (enum_number_of n) ≡ true) }
-        ensures only { (n : tree.Number) (rest : List tokens.Token) → is_enum_number n ≡ true → left self.old ≡ number_then n rest → Reaches enum_number_of n rest result (left self.new) }
+        ensures only { (n : tree.Number) (rest : List tokens.Token) → is_enum_number n ≡ true → left self.old ≡ number_then n rest →
+            Reaches enum_number_of n rest result (left self.new) }
         ensures shorter { TakesSome result (left self.old) (left self.new) }
     {
         let minus = self.eat(b'-');

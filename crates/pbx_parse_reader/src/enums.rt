@@ -22,7 +22,8 @@ use std::alloc::Global;
 fn value<'a>(alloc: Global, cursor: &mut Cursor<'_, 'a>) -> Result<Value<'a>, ReadError>
     ensures found { IfOk result (λ v. left cursor.old ≡ value_then (value_of v) (left cursor.new)) }
     ensures fits { IfOk result (λ v. value_fits (value_of v) ≡ true) }
-    ensures only { (v : tree.Value) (rest : List tokens.Token) → value_fits v ≡ true → left cursor.old ≡ value_then v rest → Reaches value_of v rest result (left cursor.new) }
+    ensures only { (v : tree.Value) (rest : List tokens.Token) → value_fits v ≡ true → left cursor.old ≡ value_then v rest →
+        Reaches value_of v rest result (left cursor.new) }
     ensures shorter { TakesSome result (left cursor.old) (left cursor.new) }
 {
     let name = cursor.name()?;
@@ -136,7 +137,8 @@ pub fn enumeration<'a>(
 ) -> Result<Enum<'a>, ReadError>
     ensures found { IfOk result (λ e. left cursor.old ≡ enum_then (enum_of e) (left cursor.new)) }
     ensures fits { IfOk result (λ e. enum_fits (enum_of e) ≡ true) }
-    ensures only { (e : tree.Enum) (rest : List tokens.Token) → enum_fits e ≡ true → left cursor.old ≡ enum_then e rest → Reaches enum_of e rest result (left cursor.new) }
+    ensures only { (e : tree.Enum) (rest : List tokens.Token) → enum_fits e ≡ true → left cursor.old ≡ enum_then e rest →
+        Reaches enum_of e rest result (left cursor.new) }
     ensures shorter { TakesSome result (left cursor.old) (left cursor.new) }
 {
     let head = block_head(cursor, "enum")?;

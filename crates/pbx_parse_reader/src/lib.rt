@@ -6,7 +6,6 @@ mod cursor;
 mod enums;
 mod error;
 mod fields;
-mod items;
 mod many;
 mod messages;
 mod parts;

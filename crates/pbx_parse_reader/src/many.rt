@@ -34,7 +34,8 @@ pub trait Production<'a>: Drop + Sized {
     fn read(alloc: Global, cursor: &mut Cursor<'_, 'a>, version: Version) -> Result<Self, ReadError>
         ensures found { IfOk result (λ x. left cursor.old ≡ spelled (view x) (left cursor.new)) }
         ensures fit { IfOk result (λ x. fits version (view x) ≡ true) }
-        ensures only { (t : Tree) (rest : List tokens.Token) → fits version t ≡ true → follows rest ≡ true → left cursor.old ≡ spelled t rest → Reaches view t rest result (left cursor.new) }
+        ensures only { (t : Tree) (rest : List tokens.Token) → fits version t ≡ true → follows rest ≡ true → left cursor.old ≡ spelled t rest →
+            Reaches view t rest result (left cursor.new) }
         ensures shorter { TakesSome result (left cursor.old) (left cursor.new) };
 }
 
@@ -58,7 +59,9 @@ pub fn all<'a, P: ListItem<'a>>(
     ensures found { IfOk result (λ x. left cursor.old ≡ list_then P.spelled (map P.view x.items) (left cursor.new)) }
     ensures ends { OnOk result (P.stop (left cursor.new) ≡ true) }
     ensures fit { IfOk result (λ x. list_all (P.fits version) (map P.view x.items) ≡ true) }
-    ensures only { ((ts : List tokens.Token) → P.follows ts ≡ true) → (ts : List P.Tree) (rest : List tokens.Token) → list_all (P.fits version) ts ≡ true → P.stop rest ≡ true → left cursor.old ≡ list_then P.spelled ts rest → Reaches (λ x. map P.view x.items) ts rest result (left cursor.new) }
+    ensures only { ((ts : List tokens.Token) → P.follows ts ≡ true) → (ts : List P.Tree) (rest : List tokens.Token) →
+        list_all (P.fits version) ts ≡ true → P.stop rest ≡ true → left cursor.old ≡ list_then P.spelled ts rest →
+        Reaches (λ x. map P.view x.items) ts rest result (left cursor.new) }
     ensures shorter { TakesAny result (left cursor.old) (left cursor.new) }
 {
     let mut items = Vec::new(alloc);
@@ -77,7 +80,10 @@ pub fn all_closed<'a, P: ListItem<'a>>(
 ) -> Result<(Vec<P>, Span), ReadError>
     ensures found { IfOk result (λ x. left cursor.old ≡ list_then P.spelled (map P.view x.0.items) (marked 125 x.1 ∷ left cursor.new)) }
     ensures fit { IfOk result (λ x. list_all (P.fits version) (map P.view x.0.items) ≡ true) }
-    ensures only { ((ts : List tokens.Token) → P.follows ts ≡ true) → ((s : Span) (ts : List tokens.Token) → P.stop (marked 125 s ∷ ts) ≡ true) → (ts : List P.Tree) (close : Span) (rest : List tokens.Token) → list_all (P.fits version) ts ≡ true → left cursor.old ≡ list_then P.spelled ts (marked 125 close ∷ rest) → Reaches {Y = List P.Tree × Span} (λ x. (map P.view x.0.items, x.1)) (ts, close) rest result (left cursor.new) }
+    ensures only { ((ts : List tokens.Token) → P.follows ts ≡ true) → ((s : Span) (ts : List tokens.Token) → P.stop (marked 125 s ∷ ts) ≡ true) →
+        (ts : List P.Tree) (close : Span) (rest : List tokens.Token) → list_all (P.fits version) ts ≡ true →
+        left cursor.old ≡ list_then P.spelled ts (marked 125 close ∷ rest) →
+        Reaches {Y = List P.Tree × Span} (λ x. (map P.view x.0.items, x.1)) (ts, close) rest result (left cursor.new) }
     ensures shorter { TakesSome result (left cursor.old) (left cursor.new) }
 {
     let items = all(alloc, cursor, version)?;
@@ -96,7 +102,8 @@ fn next<'a, P: Production<'a>>(
 ) -> Result<(Span, P), ReadError>
     ensures found { IfOk result (λ x. left cursor.old ≡ next_then mark P.spelled (next_of P.view x) (left cursor.new)) }
     ensures fit { IfOk result (λ x. P.fits version (P.view x.1) ≡ true) }
-    ensures only { (t : Span × P.Tree) (rest : List tokens.Token) → P.fits version t.1 ≡ true → P.follows rest ≡ true → left cursor.old ≡ next_then mark P.spelled t rest → Reaches (next_of P.view) t rest result (left cursor.new) }
+    ensures only { (t : Span × P.Tree) (rest : List tokens.Token) → P.fits version t.1 ≡ true → P.follows rest ≡ true →
+        left cursor.old ≡ next_then mark P.spelled t rest → Reaches (next_of P.view) t rest result (left cursor.new) }
     ensures shorter { TakesSome result (left cursor.old) (left cursor.new) }
 {
     let mark = cursor.mark(mark)?;
@@ -112,7 +119,10 @@ fn more<'a, P: Production<'a>>(
 ) -> Result<Vec<(Span, P)>, ReadError>
     ensures found { IfOk result (λ x. left cursor.old ≡ list_then (next_then mark P.spelled) (map (next_of P.view) x.items) (left cursor.new)) }
     ensures fit { IfOk result (λ x. list_all (next_fits P.fits version) (map (next_of P.view) x.items) ≡ true) }
-    ensures only { ((s : Span) (ts : List tokens.Token) → P.follows (marked mark s ∷ ts) ≡ true) → (ts : List (Span × P.Tree)) (rest : List tokens.Token) → list_all (next_fits P.fits version) ts ≡ true → P.follows rest ≡ true → sees_mark mark rest ≡ false → left cursor.old ≡ list_then (next_then mark P.spelled) ts rest → Reaches (λ x. map (next_of P.view) x.items) ts rest result (left cursor.new) }
+    ensures only { ((s : Span) (ts : List tokens.Token) → P.follows (marked mark s ∷ ts) ≡ true) →
+        (ts : List (Span × P.Tree)) (rest : List tokens.Token) → list_all (next_fits P.fits version) ts ≡ true → P.follows rest ≡ true →
+        sees_mark mark rest ≡ false → left cursor.old ≡ list_then (next_then mark P.spelled) ts rest →
+        Reaches (λ x. map (next_of P.view) x.items) ts rest result (left cursor.new) }
     ensures shorter { TakesAny result (left cursor.old) (left cursor.new) }
 {
     let mut items = Vec::new(alloc);
@@ -132,7 +142,10 @@ pub fn separated<'a, P: Production<'a>>(
 ) -> Result<Separated<P>, ReadError>
     ensures found { IfOk result (λ x. left cursor.old ≡ separated_then mark P.spelled (separated_of P.view x) (left cursor.new)) }
     ensures fit { IfOk result (λ x. list_all (P.fits version) (all_of (separated_of P.view x)) ≡ true) }
-    ensures only { ((s : Span) (ts : List tokens.Token) → P.follows (marked mark s ∷ ts) ≡ true) → (t : tree.Separated P.Tree) (rest : List tokens.Token) → list_all (P.fits version) (all_of t) ≡ true → P.follows rest ≡ true → sees_mark mark rest ≡ false → left cursor.old ≡ separated_then mark P.spelled t rest → Reaches (separated_of P.view) t rest result (left cursor.new) }
+    ensures only { ((s : Span) (ts : List tokens.Token) → P.follows (marked mark s ∷ ts) ≡ true) →
+        (t : tree.Separated P.Tree) (rest : List tokens.Token) → list_all (P.fits version) (all_of t) ≡ true → P.follows rest ≡ true →
+        sees_mark mark rest ≡ false → left cursor.old ≡ separated_then mark P.spelled t rest →
+        Reaches (separated_of P.view) t rest result (left cursor.new) }
     ensures shorter { TakesSome result (left cursor.old) (left cursor.new) }
 {
     let first = P::read(alloc, cursor, version)?;

@@ -13,14 +13,13 @@ ghost use Rattle.pbx_parse_reader.specs.View.{left, sees_word, ends_block, Fails
 
 use crate::blocks::add;
 use crate::cursor::Cursor;
+use crate::enums::enumeration;
 use crate::error::ReadError;
-use crate::fields::field;
-use crate::items::{
-    empty_item, enum_item, extend_item, extensions_item, map_item, oneof_item, option_item,
-    reserved_item,
-};
+use crate::fields::{extend, field, map_field, oneof};
+use crate::parts::statement;
+use crate::ranges::{extensions, reserved};
 use pbx_parse_token::Word;
-use pbx_parse_tree::{Expected, Head, Item, Message, Setting, Version};
+use pbx_parse_tree::{Expected, Head, Item, Message, OptionPlace, Setting, Version};
 use std::alloc::Global;
 
 fn head<'a>(cursor: &mut Cursor<'_, 'a>) -> Result<Head<'a>, ReadError>
@@ -85,18 +84,43 @@ fn plain_item<'a>(
     requires { sees_word (codes "message") (left cursor.old) ≡ false }
     ensures found { IfOk result (λ i. left cursor.old ≡ body_item_then (item_of i) (left cursor.new)) }
     ensures fits { IfOk result (λ i. (levels : ℕ) → body_item_behind version levels (map setting_of seen.now) (item_of i) ≡ true) }
-    ensures only { (i : tree.Item) (rest : List tokens.Token) → item_behind version (map setting_of seen.now) i ≡ true → left cursor.old ≡ item_then i rest → Reaches item_of (plain i) rest result (left cursor.new) }
+    ensures only { (i : tree.Item) (rest : List tokens.Token) → item_behind version (map setting_of seen.now) i ≡ true →
+        left cursor.old ≡ item_then i rest → Reaches item_of (plain i) rest result (left cursor.new) }
     ensures shorter { TakesSome result (left cursor.old) (left cursor.new) }
 {
     match first_item(cursor) {
-        First::Empty => empty_item(cursor),
-        First::Map => map_item(alloc, cursor),
-        First::Oneof => oneof_item(alloc, cursor, version),
-        First::Enum => enum_item(alloc, cursor, version),
-        First::Extend => extend_item(alloc, cursor, version),
-        First::Extensions => extensions_item(alloc, cursor),
-        First::Reserved => reserved_item(alloc, cursor),
-        First::Option => option_item(cursor, seen),
+        First::Empty => match cursor.mark(b';') {
+            Ok(part) => Ok(Item::Empty(part)),
+            Err(error) => Err(error),
+        },
+        First::Map => match map_field(alloc, cursor) {
+            Ok(part) => Ok(Item::Map(part)),
+            Err(error) => Err(error),
+        },
+        First::Oneof => match oneof(alloc, cursor, version) {
+            Ok(part) => Ok(Item::Oneof(part)),
+            Err(error) => Err(error),
+        },
+        First::Enum => match enumeration(alloc, cursor, version) {
+            Ok(part) => Ok(Item::Enum(part)),
+            Err(error) => Err(error),
+        },
+        First::Extend => match extend(alloc, cursor, version) {
+            Ok(part) => Ok(Item::Extend(part)),
+            Err(error) => Err(error),
+        },
+        First::Extensions => match extensions(alloc, cursor) {
+            Ok(part) => Ok(Item::Extensions(part)),
+            Err(error) => Err(error),
+        },
+        First::Reserved => match reserved(alloc, cursor) {
+            Ok(part) => Ok(Item::Reserved(part)),
+            Err(error) => Err(error),
+        },
+        First::Option => match statement(cursor, Expected::Keyword, OptionPlace::Message, seen) {
+            Ok(part) => Ok(Item::Option(part)),
+            Err(error) => Err(error),
+        },
         First::Field => match field(alloc, cursor, version) {
             Ok(part) => Ok(Item::Field(part)),
             Err(error) => Err(error),
@@ -145,7 +169,8 @@ fn one_item<'a>(
 ) -> Result<Item<'a>, ReadError>
     ensures found { IfOk result (λ i. left cursor.old ≡ body_item_then (item_of i) (left cursor.new)) }
     ensures fits { IfOk result (λ i. body_item_behind version levels (map setting_of seen.now) (item_of i) ≡ true) }
-    ensures only { (p : BodyItem) (rest : List tokens.Token) → body_item_behind version levels (map setting_of seen.now) p ≡ true → left cursor.old ≡ body_item_then p rest → Reaches item_of p rest result (left cursor.new) }
+    ensures only { (p : BodyItem) (rest : List tokens.Token) → body_item_behind version levels (map setting_of seen.now) p ≡ true →
+        left cursor.old ≡ body_item_then p rest → Reaches item_of p rest result (left cursor.new) }
     ensures shorter { TakesSome result (left cursor.old) (left cursor.new) }
 {
     if !cursor.sees_word("message") {
@@ -169,7 +194,8 @@ fn items<'a>(
 ) -> Result<Vec<Item<'a>>, ReadError>
     ensures found { IfOk result (λ x. left cursor.old ≡ body_then (body_of x.items) (left cursor.new)) }
     ensures fits { IfOk result (λ x. message_fits version levels (body_of x.items) ≡ true) }
-    ensures only { (b : tree.Body) (rest : List tokens.Token) → message_fits version levels b ≡ true → ends_block rest ≡ true → left cursor.old ≡ body_then b rest → Reaches (λ x. body_of x.items) b rest result (left cursor.new) }
+    ensures only { (b : tree.Body) (rest : List tokens.Token) → message_fits version levels b ≡ true → ends_block rest ≡ true →
+        left cursor.old ≡ body_then b rest → Reaches (λ x. body_of x.items) b rest result (left cursor.new) }
     ensures shorter { TakesAny result (left cursor.old) (left cursor.new) }
 {
     let mut items = Vec::new(alloc);
@@ -192,7 +218,8 @@ pub fn message<'a>(
 ) -> Result<Message<'a>, ReadError>
     ensures found { IfOk result (λ m. left cursor.old ≡ top_then (message_of m) (left cursor.new)) }
     ensures fits { IfOk result (λ m. message_fits version levels (body_of m.items.items) ≡ true) }
-    ensures only { (h : tree.Head) (b : tree.Body) (close : Span) (rest : List tokens.Token) → message_fits version levels b ≡ true → left cursor.old ≡ top_then (tree.top_message h b close) rest → Reaches message_of (tree.top_message h b close) rest result (left cursor.new) }
+    ensures only { (h : tree.Head) (b : tree.Body) (close : Span) (rest : List tokens.Token) → message_fits version levels b ≡ true →
+        left cursor.old ≡ top_then (tree.top_message h b close) rest → Reaches message_of (tree.top_message h b close) rest result (left cursor.new) }
     ensures shorter { TakesSome result (left cursor.old) (left cursor.new) }
 {
     let head = head(cursor)?;

@@ -80,7 +80,8 @@ impl RangeBound for EnumNumber {
 fn range_end<N: RangeBound>(cursor: &mut Cursor<'_, '_>) -> Result<RangeEnd<N>, ReadError>
     ensures found { IfOk result (λ e. left cursor.old ≡ range_end_then N.spelled (range_end_of N.view e) (left cursor.new)) }
     ensures fit { IfOk result (λ e. range_end_fits N.fits (range_end_of N.view e) ≡ true) }
-    ensures only { (e : tree.RangeEnd N.Tree) (rest : List tokens.Token) → range_end_fits N.fits e ≡ true → left cursor.old ≡ range_end_then N.spelled e rest → Reaches (range_end_of N.view) e rest result (left cursor.new) }
+    ensures only { (e : tree.RangeEnd N.Tree) (rest : List tokens.Token) → range_end_fits N.fits e ≡ true →
+        left cursor.old ≡ range_end_then N.spelled e rest → Reaches (range_end_of N.view) e rest result (left cursor.new) }
     ensures shorter { TakesSome result (left cursor.old) (left cursor.new) }
 {
     if N::begins(cursor) {
@@ -95,7 +96,9 @@ fn range_to<N: RangeBound>(
 ) -> Result<Option<(Span, RangeEnd<N>)>, ReadError>
     ensures found { IfOk result (λ t. left cursor.old ≡ to_then N.spelled (option_map (next_of (range_end_of N.view)) t) (left cursor.new)) }
     ensures fit { IfOk result (λ t. to_fits N.fits (option_map (next_of (range_end_of N.view)) t) ≡ true) }
-    ensures only { (t : Option (Span × tree.RangeEnd N.Tree)) (rest : List tokens.Token) → to_fits N.fits t ≡ true → sees_word (codes "to") rest ≡ false → left cursor.old ≡ to_then N.spelled t rest → Reaches (option_map (next_of (range_end_of N.view))) t rest result (left cursor.new) }
+    ensures only { (t : Option (Span × tree.RangeEnd N.Tree)) (rest : List tokens.Token) → to_fits N.fits t ≡ true →
+        sees_word (codes "to") rest ≡ false → left cursor.old ≡ to_then N.spelled t rest →
+        Reaches (option_map (next_of (range_end_of N.view))) t rest result (left cursor.new) }
     ensures shorter { TakesAny result (left cursor.old) (left cursor.new) }
 {
     if !cursor.sees_word("to") {
@@ -151,7 +154,8 @@ impl<'a> Production<'a> for Literal<'a> {
 pub fn extensions(alloc: Global, cursor: &mut Cursor<'_, '_>) -> Result<Extensions, ReadError>
     ensures found { IfOk result (λ e. left cursor.old ≡ extensions_then (extensions_of e) (left cursor.new)) }
     ensures fits { IfOk result (λ e. extensions_fit (extensions_of e) ≡ true) }
-    ensures only { (e : tree.Extensions) (rest : List tokens.Token) → extensions_fit e ≡ true → left cursor.old ≡ extensions_then e rest → Reaches extensions_of e rest result (left cursor.new) }
+    ensures only { (e : tree.Extensions) (rest : List tokens.Token) → extensions_fit e ≡ true → left cursor.old ≡ extensions_then e rest →
+        Reaches extensions_of e rest result (left cursor.new) }
     ensures shorter { TakesSome result (left cursor.old) (left cursor.new) }
 {
     let keyword = cursor.keyword("extensions", Expected::Keyword)?;
@@ -172,7 +176,8 @@ pub fn reserved<'a, N: RangeBound>(
 ) -> Result<Reserved<'a, N>, ReadError>
     ensures found { IfOk result (λ r. left cursor.old ≡ reserved_then N.spelled (reserved_of N.view r) (left cursor.new)) }
     ensures fits { IfOk result (λ r. reserved_fits N.fits (reserved_of N.view r) ≡ true) }
-    ensures only { (r : tree.Reserved N.Tree) (rest : List tokens.Token) → reserved_fits N.fits r ≡ true → left cursor.old ≡ reserved_then N.spelled r rest → Reaches (reserved_of N.view) r rest result (left cursor.new) }
+    ensures only { (r : tree.Reserved N.Tree) (rest : List tokens.Token) → reserved_fits N.fits r ≡ true →
+        left cursor.old ≡ reserved_then N.spelled r rest → Reaches (reserved_of N.view) r rest result (left cursor.new) }
     ensures shorter { TakesSome result (left cursor.old) (left cursor.new) }
 {
     let keyword = cursor.keyword("reserved", Expected::Keyword)?;

@@ -25,7 +25,8 @@ fn tops<'a>(
 ) -> Result<Vec<Top<'a>>, ReadError>
     ensures found { IfOk result (λ x. left cursor.old ≡ list_then top_then (map top_of x.items) []) }
     ensures fits { IfOk result (λ x. tops_fit version (map top_of x.items) ≡ true) }
-    ensures only { (ts : List tree.Top) → tops_fit version ts ≡ true → left cursor.old ≡ list_then top_then ts [] → ReadsAs (λ x. map top_of x.items) ts result }
+    ensures only { (ts : List tree.Top) → tops_fit version ts ≡ true → left cursor.old ≡ list_then top_then ts [] →
+        ReadsAs (λ x. map top_of x.items) ts result }
     ensures told { IfErr result (λ e. left_at e ≤ length (left cursor.old)) }
 {
     block(alloc, cursor, version)

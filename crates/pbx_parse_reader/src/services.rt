@@ -23,7 +23,8 @@ use std::alloc::Global;
 fn method_type<'a>(alloc: Global, cursor: &mut Cursor<'_, 'a>) -> Result<MethodType<'a>, ReadError>
     ensures found { IfOk result (λ t. left cursor.old ≡ method_type_then (method_type_of t) (left cursor.new)) }
     ensures fits { IfOk result (λ t. method_type_fits (method_type_of t) ≡ true) }
-    ensures only { (t : tree.MethodType) (rest : List tokens.Token) → method_type_fits t ≡ true → left cursor.old ≡ method_type_then t rest → Reaches method_type_of t rest result (left cursor.new) }
+    ensures only { (t : tree.MethodType) (rest : List tokens.Token) → method_type_fits t ≡ true → left cursor.old ≡ method_type_then t rest →
+        Reaches method_type_of t rest result (left cursor.new) }
     ensures shorter { TakesSome result (left cursor.old) (left cursor.new) }
 {
     let open = cursor.mark(b'(')?;
@@ -92,7 +93,8 @@ fn method_block<'a>(
 ) -> Result<MethodEnd<'a>, ReadError>
     ensures found { IfOk result (λ e. left cursor.old ≡ method_end_then (method_end_of e) (left cursor.new)) }
     ensures fits { IfOk result (λ e. method_end_fits (method_end_of e) ≡ true) }
-    ensures only { (e : tree.MethodEnd) (rest : List tokens.Token) → sees_mark 59 (left cursor.old) ≡ false → method_end_fits e ≡ true → left cursor.old ≡ method_end_then e rest → Reaches method_end_of e rest result (left cursor.new) }
+    ensures only { (e : tree.MethodEnd) (rest : List tokens.Token) → sees_mark 59 (left cursor.old) ≡ false → method_end_fits e ≡ true →
+        left cursor.old ≡ method_end_then e rest → Reaches method_end_of e rest result (left cursor.new) }
     ensures shorter { TakesSome result (left cursor.old) (left cursor.new) }
 {
     let open = cursor.mark_or(b'{', Expected::MethodEnd)?;
@@ -107,7 +109,8 @@ fn method_end<'a>(
 ) -> Result<MethodEnd<'a>, ReadError>
     ensures found { IfOk result (λ e. left cursor.old ≡ method_end_then (method_end_of e) (left cursor.new)) }
     ensures fits { IfOk result (λ e. method_end_fits (method_end_of e) ≡ true) }
-    ensures only { (e : tree.MethodEnd) (rest : List tokens.Token) → method_end_fits e ≡ true → left cursor.old ≡ method_end_then e rest → Reaches method_end_of e rest result (left cursor.new) }
+    ensures only { (e : tree.MethodEnd) (rest : List tokens.Token) → method_end_fits e ≡ true → left cursor.old ≡ method_end_then e rest →
+        Reaches method_end_of e rest result (left cursor.new) }
     ensures shorter { TakesSome result (left cursor.old) (left cursor.new) }
 {
     if cursor.sees(b';') {
@@ -123,7 +126,8 @@ fn method<'a>(
 ) -> Result<Method<'a>, ReadError>
     ensures found { IfOk result (λ m. left cursor.old ≡ method_then (method_of m) (left cursor.new)) }
     ensures fits { IfOk result (λ m. method_fits (method_of m) ≡ true) }
-    ensures only { (m : tree.Method) (rest : List tokens.Token) → method_fits m ≡ true → left cursor.old ≡ method_then m rest → Reaches method_of m rest result (left cursor.new) }
+    ensures only { (m : tree.Method) (rest : List tokens.Token) → method_fits m ≡ true → left cursor.old ≡ method_then m rest →
+        Reaches method_of m rest result (left cursor.new) }
     ensures shorter { TakesSome result (left cursor.old) (left cursor.new) }
 {
     let keyword = cursor.keyword("rpc", Expected::ServiceItem)?;
@@ -202,7 +206,8 @@ pub fn service<'a>(
 ) -> Result<Service<'a>, ReadError>
     ensures found { IfOk result (λ s. left cursor.old ≡ service_then (service_of s) (left cursor.new)) }
     ensures fits { IfOk result (λ s. service_fits (service_of s) ≡ true) }
-    ensures only { (s : tree.Service) (rest : List tokens.Token) → service_fits s ≡ true → left cursor.old ≡ service_then s rest → Reaches service_of s rest result (left cursor.new) }
+    ensures only { (s : tree.Service) (rest : List tokens.Token) → service_fits s ≡ true → left cursor.old ≡ service_then s rest →
+        Reaches service_of s rest result (left cursor.new) }
     ensures shorter { TakesSome result (left cursor.old) (left cursor.new) }
 {
     let head = block_head(cursor, "service")?;

@@ -5,13 +5,10 @@ ghost use Rattle.pbx_parse_token.specs.Tokens as tokens;
 ghost use Rattle.pbx_parse_token.specs.declared.token.Span.{Span};
 ghost use Rattle.pbx_parse_tree.specs.declared.tree.Version.{Version};
 ghost use Rattle.pbx_parse_tree.specs.Tree as tree;
-ghost use Rattle.pbx_parse_tree.specs.declared.options.OptionPlace.TheVariants as places;
-ghost use Rattle.pbx_parse_tree.specs.Grammar.{marked, syntax_then, first_then, package_then, import_then, enum_then, extend_then, service_then, statement_then, top_then};
-ghost use Rattle.pbx_parse_tree.specs.Conditions.{version_of, syntax_version, import_fits, enum_fits, extend_fits, service_fits, option_fits};
-ghost use Rattle.pbx_parse_tree.specs.Fits.{may_follow};
+ghost use Rattle.pbx_parse_tree.specs.Grammar.{syntax_then, first_then, package_then, import_then, top_then};
+ghost use Rattle.pbx_parse_tree.specs.Conditions.{version_of, syntax_version, import_fits};
 ghost use Rattle.pbx_parse_tree.specs.View.{literal_of, syntax_of, package_of, import_of, top_of};
-ghost use Rattle.pbx_parse_reader.specs.Blocks.{Before, before_of, top_behind, top_after};
-ghost use Rattle.pbx_parse_reader.specs.Bodies.{message_fits};
+ghost use Rattle.pbx_parse_reader.specs.Blocks.{top_behind, top_after};
 ghost use Rattle.pbx_parse_reader.specs.Tops.{first_top_of};
 ghost use Rattle.pbx_parse_reader.specs.View.{left, sees_word, ends_file, Reaches, TakesSome, TakesAny};
 
@@ -46,7 +43,8 @@ fn version_named(literal: &Literal<'_>) -> Option<Version>
 fn some_syntax<'a>(cursor: &mut Cursor<'_, 'a>) -> Result<(Syntax<'a>, Version), ReadError>
     ensures found { IfOk result (λ x. left cursor.old ≡ syntax_then (syntax_of x.0) (left cursor.new)) }
     ensures fits { IfOk result (λ x. syntax_version (syntax_of x.0) ≡ Some x.1) }
-    ensures only { (s : tree.Syntax) (v : Version) (rest : List tokens.Token) → syntax_version s ≡ Some v → left cursor.old ≡ syntax_then s rest → Reaches (λ x. syntax_of x.0) s rest result (left cursor.new) }
+    ensures only { (s : tree.Syntax) (v : Version) (rest : List tokens.Token) → syntax_version s ≡ Some v → left cursor.old ≡ syntax_then s rest →
+        Reaches (λ x. syntax_of x.0) s rest result (left cursor.new) }
     ensures shorter { TakesSome result (left cursor.old) (left cursor.new) }
 {
     let keyword = cursor.keyword("syntax", Expected::Keyword)?;
@@ -71,7 +69,9 @@ fn some_syntax<'a>(cursor: &mut Cursor<'_, 'a>) -> Result<(Syntax<'a>, Version),
 pub fn syntax<'a>(cursor: &mut Cursor<'_, 'a>) -> Result<(Option<Syntax<'a>>, Version), ReadError>
     ensures found { IfOk result (λ x. left cursor.old ≡ first_then (option_map syntax_of x.0) (left cursor.new)) }
     ensures fits { IfOk result (λ x. version_of (option_map syntax_of x.0) ≡ Some x.1) }
-    ensures only { (s : Option tree.Syntax) (v : Version) (rest : List tokens.Token) → version_of s ≡ Some v → sees_word (codes "syntax") rest ≡ false → left cursor.old ≡ first_then s rest → Reaches (λ x. option_map syntax_of x.0) s rest result (left cursor.new) }
+    ensures only { (s : Option tree.Syntax) (v : Version) (rest : List tokens.Token) → version_of s ≡ Some v →
+        sees_word (codes "syntax") rest ≡ false → left cursor.old ≡ first_then s rest →
+        Reaches (λ x. option_map syntax_of x.0) s rest result (left cursor.new) }
     ensures shorter { TakesAny result (left cursor.old) (left cursor.new) }
 {
     if cursor.sees_word("syntax") {
@@ -90,7 +90,8 @@ fn package<'a>(
 ) -> Result<Package<'a>, ReadError>
     ensures found { IfOk result (λ p. left cursor.old ≡ package_then (package_of p) (left cursor.new)) }
     ensures fits { OnOk result (not named ≡ true) }
-    ensures only { (p : tree.Package) (rest : List tokens.Token) → not named ≡ true → left cursor.old ≡ package_then p rest → Reaches package_of p rest result (left cursor.new) }
+    ensures only { (p : tree.Package) (rest : List tokens.Token) → not named ≡ true → left cursor.old ≡ package_then p rest →
+        Reaches package_of p rest result (left cursor.new) }
     ensures shorter { TakesSome result (left cursor.old) (left cursor.new) }
 {
     if named {
@@ -105,7 +106,8 @@ fn package<'a>(
 fn import<'a>(cursor: &mut Cursor<'_, 'a>) -> Result<Import<'a>, ReadError>
     ensures found { IfOk result (λ i. left cursor.old ≡ import_then (import_of i) (left cursor.new)) }
     ensures fits { IfOk result (λ i. import_fits (import_of i) ≡ true) }
-    ensures only { (i : tree.Import) (rest : List tokens.Token) → import_fits i ≡ true → left cursor.old ≡ import_then i rest → Reaches import_of i rest result (left cursor.new) }
+    ensures only { (i : tree.Import) (rest : List tokens.Token) → import_fits i ≡ true → left cursor.old ≡ import_then i rest →
+        Reaches import_of i rest result (left cursor.new) }
     ensures shorter { TakesSome result (left cursor.old) (left cursor.new) }
 {
     let keyword = cursor.keyword("import", Expected::Keyword)?;
@@ -155,134 +157,12 @@ fn first_top(cursor: &Cursor<'_, '_>) -> FirstTop
     }
 }
 
-// Each sort of statement is read in a function of its own: none then holds the values of all the others.
-
-/// A `;` at the top of a file.
-fn empty_top<'a>(cursor: &mut Cursor<'_, 'a>) -> Result<Top<'a>, ReadError>
-    ensures found { IfOk result (λ t. left cursor.old ≡ top_then (top_of t) (left cursor.new)) }
-    ensures fits { (v : Version) (b : Before) → IfOk result (λ t. top_behind v b (top_of t) ≡ true) }
-    ensures only { (s : Span) (rest : List tokens.Token) → left cursor.old ≡ marked 59 s ∷ rest → Reaches top_of (tree.empty_top s) rest result (left cursor.new) }
-    ensures shorter { TakesSome result (left cursor.old) (left cursor.new) }
-{
-    match cursor.mark(b';') {
-        Ok(part) => Ok(Top::Empty(part)),
-        Err(error) => Err(error),
-    }
-}
-
-/// A message at the top of a file.
-fn message_top<'a>(
-    alloc: Global,
-    cursor: &mut Cursor<'_, 'a>,
-    version: Version,
-) -> Result<Top<'a>, ReadError>
-    ensures found { IfOk result (λ t. left cursor.old ≡ top_then (top_of t) (left cursor.new)) }
-    ensures fits { (b : Before) → IfOk result (λ t. top_behind version b (top_of t) ≡ true) }
-    ensures only { (h : tree.Head) (b : tree.Body) (close : Span) (rest : List tokens.Token) → message_fits version 30 b ≡ true → left cursor.old ≡ top_then (tree.top_message h b close) rest → Reaches top_of (tree.top_message h b close) rest result (left cursor.new) }
-    ensures shorter { TakesSome result (left cursor.old) (left cursor.new) }
-{
-    match message(alloc, cursor, version, INNER_LEVELS) {
-        Ok(part) => Ok(Top::Message(part)),
-        Err(error) => Err(error),
-    }
-}
-
-/// An enum at the top of a file.
-fn enum_top<'a>(
-    alloc: Global,
-    cursor: &mut Cursor<'_, 'a>,
-    version: Version,
-) -> Result<Top<'a>, ReadError>
-    ensures found { IfOk result (λ t. left cursor.old ≡ top_then (top_of t) (left cursor.new)) }
-    ensures fits { (v : Version) (b : Before) → IfOk result (λ t. top_behind v b (top_of t) ≡ true) }
-    ensures only { (e : tree.Enum) (rest : List tokens.Token) → enum_fits e ≡ true → left cursor.old ≡ enum_then e rest → Reaches top_of (tree.top_enum e) rest result (left cursor.new) }
-    ensures shorter { TakesSome result (left cursor.old) (left cursor.new) }
-{
-    match enumeration(alloc, cursor, version) {
-        Ok(part) => Ok(Top::Enum(part)),
-        Err(error) => Err(error),
-    }
-}
-
-/// An import at the top of a file.
-fn import_top<'a>(cursor: &mut Cursor<'_, 'a>) -> Result<Top<'a>, ReadError>
-    ensures found { IfOk result (λ t. left cursor.old ≡ top_then (top_of t) (left cursor.new)) }
-    ensures fits { (v : Version) (b : Before) → IfOk result (λ t. top_behind v b (top_of t) ≡ true) }
-    ensures only { (i : tree.Import) (rest : List tokens.Token) → import_fits i ≡ true → left cursor.old ≡ import_then i rest → Reaches top_of (tree.top_import i) rest result (left cursor.new) }
-    ensures shorter { TakesSome result (left cursor.old) (left cursor.new) }
-{
-    match import(cursor) {
-        Ok(part) => Ok(Top::Import(part)),
-        Err(error) => Err(error),
-    }
-}
-
-/// A package at the top of a file, where it does not name one already.
-fn package_top<'a>(
-    alloc: Global,
-    cursor: &mut Cursor<'_, 'a>,
-    named: bool,
-) -> Result<Top<'a>, ReadError>
-    ensures found { IfOk result (λ t. left cursor.old ≡ top_then (top_of t) (left cursor.new)) }
-    ensures fits { (v : Version) (b : Before) → b.named ≡ named → IfOk result (λ t. top_behind v b (top_of t) ≡ true) }
-    ensures only { (p : tree.Package) (rest : List tokens.Token) → not named ≡ true → left cursor.old ≡ package_then p rest → Reaches top_of (tree.top_package p) rest result (left cursor.new) }
-    ensures shorter { TakesSome result (left cursor.old) (left cursor.new) }
-{
-    match package(alloc, cursor, named) {
-        Ok(part) => Ok(Top::Package(part)),
-        Err(error) => Err(error),
-    }
-}
-
-/// A block of extensions at the top of a file.
-fn extend_top<'a>(
-    alloc: Global,
-    cursor: &mut Cursor<'_, 'a>,
-    version: Version,
-) -> Result<Top<'a>, ReadError>
-    ensures found { IfOk result (λ t. left cursor.old ≡ top_then (top_of t) (left cursor.new)) }
-    ensures fits { (b : Before) → IfOk result (λ t. top_behind version b (top_of t) ≡ true) }
-    ensures only { (e : tree.Extend) (rest : List tokens.Token) → extend_fits version e ≡ true → left cursor.old ≡ extend_then e rest → Reaches top_of (tree.top_extend e) rest result (left cursor.new) }
-    ensures shorter { TakesSome result (left cursor.old) (left cursor.new) }
-{
-    match extend(alloc, cursor, version) {
-        Ok(part) => Ok(Top::Extend(part)),
-        Err(error) => Err(error),
-    }
-}
-
-/// A service at the top of a file.
-fn service_top<'a>(
-    alloc: Global,
-    cursor: &mut Cursor<'_, 'a>,
-    version: Version,
-) -> Result<Top<'a>, ReadError>
-    ensures found { IfOk result (λ t. left cursor.old ≡ top_then (top_of t) (left cursor.new)) }
-    ensures fits { (v : Version) (b : Before) → IfOk result (λ t. top_behind v b (top_of t) ≡ true) }
-    ensures only { (s : tree.Service) (rest : List tokens.Token) → service_fits s ≡ true → left cursor.old ≡ service_then s rest → Reaches top_of (tree.top_service s) rest result (left cursor.new) }
-    ensures shorter { TakesSome result (left cursor.old) (left cursor.new) }
-{
-    match service(alloc, cursor, version) {
-        Ok(part) => Ok(Top::Service(part)),
-        Err(error) => Err(error),
-    }
-}
-
-/// An option of a file, which may stand behind what was seen.
-fn option_top<'a>(cursor: &mut Cursor<'_, 'a>, seen: &Seen<'a>) -> Result<Top<'a>, ReadError>
-    ensures found { IfOk result (λ t. left cursor.old ≡ top_then (top_of t) (left cursor.new)) }
-    ensures fits { (v : Version) → IfOk result (λ t. top_behind v (before_of seen.now) (top_of t) ≡ true) }
-    ensures only { (s : tree.Statement) (rest : List tokens.Token) → may_follow (option_fits places.File) (before_of seen.now).settings s.setting ≡ true → left cursor.old ≡ statement_then s rest → Reaches top_of (tree.top_option s) rest result (left cursor.new) }
-    ensures shorter { TakesSome result (left cursor.old) (left cursor.new) }
-{
-    match statement(
-        cursor,
-        Expected::Top,
-        OptionPlace::File,
-        seen.settings.as_slice(),
-    ) {
-        Ok(part) => Ok(Top::Option(part)),
-        Err(error) => Err(error),
+/// What could stand at the top of a file where no statement begins.
+fn top_expected(cursor: &Cursor<'_, '_>) -> Expected {
+    if cursor.sees_word("edition") {
+        Expected::NoEdition
+    } else {
+        Expected::Top
     }
 }
 
@@ -311,14 +191,46 @@ impl<'a> BlockItem<'a> for Top<'a> {
         seen: &Seen<'a>,
     ) -> Result<Top<'a>, ReadError> {
         match first_top(cursor) {
-            FirstTop::Empty => empty_top(cursor),
-            FirstTop::Message => message_top(alloc, cursor, version),
-            FirstTop::Enum => enum_top(alloc, cursor, version),
-            FirstTop::Import => import_top(cursor),
-            FirstTop::Package => package_top(alloc, cursor, seen.named),
-            FirstTop::Extend => extend_top(alloc, cursor, version),
-            FirstTop::Service => service_top(alloc, cursor, version),
-            FirstTop::Option => option_top(cursor, seen),
+            FirstTop::Empty => match cursor.mark(b';') {
+                Ok(part) => Ok(Top::Empty(part)),
+                Err(error) => Err(error),
+            },
+            FirstTop::Message => match message(alloc, cursor, version, INNER_LEVELS) {
+                Ok(part) => Ok(Top::Message(part)),
+                Err(error) => Err(error),
+            },
+            FirstTop::Enum => match enumeration(alloc, cursor, version) {
+                Ok(part) => Ok(Top::Enum(part)),
+                Err(error) => Err(error),
+            },
+            FirstTop::Import => match import(cursor) {
+                Ok(part) => Ok(Top::Import(part)),
+                Err(error) => Err(error),
+            },
+            FirstTop::Package => match package(alloc, cursor, seen.named) {
+                Ok(part) => Ok(Top::Package(part)),
+                Err(error) => Err(error),
+            },
+            FirstTop::Extend => match extend(alloc, cursor, version) {
+                Ok(part) => Ok(Top::Extend(part)),
+                Err(error) => Err(error),
+            },
+            FirstTop::Service => match service(alloc, cursor, version) {
+                Ok(part) => Ok(Top::Service(part)),
+                Err(error) => Err(error),
+            },
+            FirstTop::Option => {
+                let expected = top_expected(cursor);
+                match statement(
+                    cursor,
+                    expected,
+                    OptionPlace::File,
+                    seen.settings.as_slice(),
+                ) {
+                    Ok(part) => Ok(Top::Option(part)),
+                    Err(error) => Err(error),
+                }
+            }
         }
     }
 

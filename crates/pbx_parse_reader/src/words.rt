@@ -64,7 +64,8 @@ impl<'s, 'a> Cursor<'s, 'a> {
     pub fn eat_scalar(&mut self) -> Option<(Scalar, Span)>
         ensures found { IfSome result (λ x. left self.old ≡ worded (scalar_word x.0) x.1 ∷ left self.new) }
         ensures none { IfNone result ((left self.new ≡ left self.old) × (sees is_scalar_word (left self.old) ≡ false)) }
-        ensures only { (s : Scalar) (p : Span) (rest : List tokens.Token) → left self.old ≡ worded (scalar_word s) p ∷ rest → (result ≡ Some (s, p)) × (left self.new ≡ rest) }
+        ensures only { (s : Scalar) (p : Span) (rest : List tokens.Token) → left self.old ≡ worded (scalar_word s) p ∷ rest → (result ≡ Some (s, p)) ×
+            (left self.new ≡ rest) }
         ensures shorter { OnSome result (length (left self.new) < length (left self.old)) }
     {
         let token = self.peek()?;
@@ -81,7 +82,8 @@ impl<'s, 'a> Cursor<'s, 'a> {
     pub fn eat_label(&mut self) -> Option<(Label, Span)>
         ensures found { left self.old ≡ label_then result (left self.new) }
         ensures ends { label_follows result (left self.new) ≡ true }
-        ensures only { (o : Option (Label × Span)) (rest : List tokens.Token) → label_follows o rest ≡ true → left self.old ≡ label_then o rest → (result ≡ o) × (left self.new ≡ rest) }
+        ensures only { (o : Option (Label × Span)) (rest : List tokens.Token) → label_follows o rest ≡ true → left self.old ≡ label_then o rest →
+            (result ≡ o) × (left self.new ≡ rest) }
         ensures shorter { length (left self.new) ≤ length (left self.old) }
     {
         if let Some(token) = self.peek() {
@@ -99,7 +101,8 @@ impl<'s, 'a> Cursor<'s, 'a> {
     #[tactic(auto, using(crate::proofs::Spelling::modifier_same))]
     pub fn eat_modifier(&mut self) -> Option<(Modifier, Span)>
         ensures found { left self.old ≡ modifier_then result (left self.new) }
-        ensures only { (o : Option (Modifier × Span)) (rest : List tokens.Token) → sees_string rest ≡ true → left self.old ≡ modifier_then o rest → (result ≡ o) × (left self.new ≡ rest) }
+        ensures only { (o : Option (Modifier × Span)) (rest : List tokens.Token) → sees_string rest ≡ true → left self.old ≡ modifier_then o rest →
+            (result ≡ o) × (left self.new ≡ rest) }
         ensures shorter { length (left self.new) ≤ length (left self.old) }
     {
         if let Some(token) = self.peek() {

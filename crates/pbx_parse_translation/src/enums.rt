@@ -7,7 +7,8 @@ ghost use Rattle.pbx_parse_tree.specs.Conditions.{enum_setting};
 ghost use Rattle.pbx_parse_tree.specs.View.{literal_of, range_of, enum_number_of, value_of, enum_item_of, enum_of};
 ghost use Rattle.pbx_parse_translation.specs.Texts.{string_text as string_text_of};
 ghost use Rattle.pbx_parse_translation.specs.Settings.{options_of};
-ghost use Rattle.pbx_parse_translation.specs.Enums.{last_number as last_number_of, value_record as value_record_of, enum_value_records, enum_range, range_records, reserved_names_in, enum_record as enum_record_of};
+ghost use Rattle.pbx_parse_translation.specs.Enums.{last_number as last_number_of, value_record as value_record_of, enum_value_records, enum_range};
+ghost use Rattle.pbx_parse_translation.specs.Enums.{range_records, reserved_names_in, enum_record as enum_record_of};
 
 use crate::passes::{Becomes, Gives, add_each, all_given, put};
 use crate::settings::{listed_options, options};

@@ -6,7 +6,14 @@ ghost use Rattle.pbx_parse_token.specs.Escapes.{unescaped};
 ghost use Rattle.pbx_parse_tree.specs.Conditions.{settings_of as some_settings_of};
 ghost use Rattle.pbx_parse_tree.specs.View.{constant_of, settings_of, type_of, kind_of, tail_of, field_of, map_of, member_of, extension_of, extend_of};
 ghost use Rattle.pbx_parse_translation.specs.Texts.{escaped as escaped_of};
-ghost use Rattle.pbx_parse_translation.specs.Fields.{label_of, type_number as type_number_of, kind_number as kind_number_of, kind_name as kind_name_of, default_text as default_text_of, default_of, json_name_of, untyped_field as untyped_field_of, typed_field as typed_field_of, labelled_field as labelled_field_of, is_proto3_optional as is_proto3_optional_of, field_record as field_record_of, member_records, extension_record as extension_record_of, extension_records, extend_records, map_record as map_record_of, entry_field as entry_field_of, entry_fields as entry_fields_of, entry_options as entry_options_of, entry_record as entry_record_of};
+ghost use Rattle.pbx_parse_translation.specs.Fields.{label_of, type_number as type_number_of, kind_number as kind_number_of};
+ghost use Rattle.pbx_parse_translation.specs.Fields.{kind_name as kind_name_of, default_text as default_text_of, default_of, json_name_of};
+ghost use Rattle.pbx_parse_translation.specs.Fields.{untyped_field as untyped_field_of, typed_field as typed_field_of};
+ghost use Rattle.pbx_parse_translation.specs.Fields.{labelled_field as labelled_field_of, is_proto3_optional as is_proto3_optional_of};
+ghost use Rattle.pbx_parse_translation.specs.Fields.{field_record as field_record_of, member_records, extension_record as extension_record_of};
+ghost use Rattle.pbx_parse_translation.specs.Fields.{extension_records, extend_records, map_record as map_record_of, entry_field as entry_field_of};
+ghost use Rattle.pbx_parse_translation.specs.Fields.{entry_fields as entry_fields_of, entry_options as entry_options_of};
+ghost use Rattle.pbx_parse_translation.specs.Fields.{entry_record as entry_record_of};
 
 use crate::settings::{listed_options, set_to};
 use crate::texts::{entry_name, escaped, number_text, string_text, type_text};

@@ -8,7 +8,9 @@ ghost use Rattle.pbx_parse_tree.specs.declared.options.OptionPlace.TheVariants a
 ghost use Rattle.pbx_parse_tree.specs.Conditions.{version_of, packages, top_setting};
 ghost use Rattle.pbx_parse_tree.specs.View.{import_of, syntax_of, top_of, file_of};
 ghost use Rattle.pbx_parse_translation.specs.Settings.{options_of};
-ghost use Rattle.pbx_parse_translation.specs.Translation.{imports_in, messages_in, enums_in, extensions_in, services_in, import_name, has_modifier as has_modifier_of, indexes_from, syntax_name as syntax_name_of, package_name as package_name_of, translate_of};
+ghost use Rattle.pbx_parse_translation.specs.Translation.{imports_in, messages_in, enums_in, extensions_in, services_in, import_name};
+ghost use Rattle.pbx_parse_translation.specs.Translation.{has_modifier as has_modifier_of, indexes_from, syntax_name as syntax_name_of};
+ghost use Rattle.pbx_parse_translation.specs.Translation.{package_name as package_name_of, translate_of};
 
 use crate::enums::enum_record;
 use crate::fields::{add_extensions, index};

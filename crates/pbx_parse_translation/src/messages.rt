@@ -8,7 +8,10 @@ ghost use Rattle.pbx_parse_tree.specs.View.{range_of, range_number_of, reserved_
 ghost use Rattle.pbx_parse_translation.specs.Settings.{options_of};
 ghost use Rattle.pbx_parse_translation.specs.Fields.{entry_record as entry_record_of};
 ghost use Rattle.pbx_parse_translation.specs.Enums.{names_reserved};
-ghost use Rattle.pbx_parse_translation.specs.Messages.{last_number as last_number_of, reserved_range, extension_range, ranges_reserved, reserved_ranges_in, reserved_names_in, extension_ranges_in, enums_in, extensions_in, oneofs_in as oneofs_in_of, optional_names_in, fields_in, fields_from, fields_of, oneof_records, body_items, message_with as message_with_of, nested_types as nested_types_of};
+ghost use Rattle.pbx_parse_translation.specs.Messages.{last_number as last_number_of, reserved_range, extension_range, ranges_reserved};
+ghost use Rattle.pbx_parse_translation.specs.Messages.{reserved_ranges_in, reserved_names_in, extension_ranges_in, enums_in, extensions_in};
+ghost use Rattle.pbx_parse_translation.specs.Messages.{oneofs_in as oneofs_in_of, optional_names_in, fields_in, fields_from, fields_of};
+ghost use Rattle.pbx_parse_translation.specs.Messages.{oneof_records, body_items, message_with as message_with_of, nested_types as nested_types_of};
 
 use crate::enums::enum_record;
 use crate::fields::{
@@ -277,7 +280,8 @@ fn enums_and_extensions(
     version: Version,
     items: &[Item<'_>],
 ) -> Result<(List<EnumDescriptorProto>, List<FieldDescriptorProto>), NoMemory>
-    ensures { IfOk result (λ r. (r.0 ≡ flat_map enums_in (body_items (body_of items.now))) × (r.1 ≡ flat_map (extensions_in version) (body_items (body_of items.now)))) }
+    ensures { IfOk result (λ r. (r.0 ≡ flat_map enums_in (body_items (body_of items.now))) ×
+        (r.1 ≡ flat_map (extensions_in version) (body_items (body_of items.now)))) }
 {
     let enums = all_given(alloc, version, items)?;
     let extensions = all_given(alloc, version, items)?;
@@ -290,7 +294,8 @@ fn ranges_and_names(
     version: Version,
     items: &[Item<'_>],
 ) -> Result<(List<ReservedRange>, Texts), NoMemory>
-    ensures { IfOk result (λ r. (r.0 ≡ flat_map reserved_ranges_in (body_items (body_of items.now))) × (r.1 ≡ flat_map reserved_names_in (body_items (body_of items.now)))) }
+    ensures { IfOk result (λ r. (r.0 ≡ flat_map reserved_ranges_in (body_items (body_of items.now))) ×
+        (r.1 ≡ flat_map reserved_names_in (body_items (body_of items.now)))) }
 {
     let ranges = all_given(alloc, version, items)?;
     let names = all_given(alloc, version, items)?;
@@ -347,9 +352,12 @@ fn fill_parts(
     items: &[Item<'_>],
     own: &mut OwnParts,
 ) -> Result<(), NoMemory>
-    ensures fields { OnOk result ((own.new.fields.0 ≡ fields_of version (body_items (body_of items.now))) × (own.new.fields.1 ≡ oneof_records version (body_items (body_of items.now)))) }
-    ensures enums { OnOk result ((own.new.enums.0 ≡ flat_map enums_in (body_items (body_of items.now))) × (own.new.enums.1 ≡ flat_map (extensions_in version) (body_items (body_of items.now)))) }
-    ensures reserved { OnOk result ((own.new.reserved.0 ≡ flat_map reserved_ranges_in (body_items (body_of items.now))) × (own.new.reserved.1 ≡ flat_map reserved_names_in (body_items (body_of items.now)))) }
+    ensures fields { OnOk result ((own.new.fields.0 ≡ fields_of version (body_items (body_of items.now))) ×
+        (own.new.fields.1 ≡ oneof_records version (body_items (body_of items.now)))) }
+    ensures enums { OnOk result ((own.new.enums.0 ≡ flat_map enums_in (body_items (body_of items.now))) ×
+        (own.new.enums.1 ≡ flat_map (extensions_in version) (body_items (body_of items.now)))) }
+    ensures reserved { OnOk result ((own.new.reserved.0 ≡ flat_map reserved_ranges_in (body_items (body_of items.now))) ×
+        (own.new.reserved.1 ≡ flat_map reserved_names_in (body_items (body_of items.now)))) }
     ensures ranges { OnOk result (own.new.ranges ≡ flat_map extension_ranges_in (body_items (body_of items.now))) }
     ensures options { OnOk result (own.new.options ≡ options_of places.Message (body_settings (body_of items.now))) }
 {
@@ -362,9 +370,12 @@ fn fill_parts(
 
 /// What a message of these items has.
 fn own_parts(alloc: Global, version: Version, items: &[Item<'_>]) -> Result<OwnParts, NoMemory>
-    ensures fields { IfOk result (λ own. (own.fields.0 ≡ fields_of version (body_items (body_of items.now))) × (own.fields.1 ≡ oneof_records version (body_items (body_of items.now)))) }
-    ensures enums { IfOk result (λ own. (own.enums.0 ≡ flat_map enums_in (body_items (body_of items.now))) × (own.enums.1 ≡ flat_map (extensions_in version) (body_items (body_of items.now)))) }
-    ensures reserved { IfOk result (λ own. (own.reserved.0 ≡ flat_map reserved_ranges_in (body_items (body_of items.now))) × (own.reserved.1 ≡ flat_map reserved_names_in (body_items (body_of items.now)))) }
+    ensures fields { IfOk result (λ own. (own.fields.0 ≡ fields_of version (body_items (body_of items.now))) ×
+        (own.fields.1 ≡ oneof_records version (body_items (body_of items.now)))) }
+    ensures enums { IfOk result (λ own. (own.enums.0 ≡ flat_map enums_in (body_items (body_of items.now))) ×
+        (own.enums.1 ≡ flat_map (extensions_in version) (body_items (body_of items.now)))) }
+    ensures reserved { IfOk result (λ own. (own.reserved.0 ≡ flat_map reserved_ranges_in (body_items (body_of items.now))) ×
+        (own.reserved.1 ≡ flat_map reserved_names_in (body_items (body_of items.now)))) }
     ensures ranges { IfOk result (λ own. own.ranges ≡ flat_map extension_ranges_in (body_items (body_of items.now))) }
     ensures options { IfOk result (λ own. own.options ≡ options_of places.Message (body_settings (body_of items.now))) }
 {

@@ -7,7 +7,8 @@ ghost use Rattle.pbx_parse_tree.specs.Conditions.{service_setting};
 ghost use Rattle.pbx_parse_tree.specs.View.{setting_of, method_end_of, method_of, service_item_of, service_of};
 ghost use Rattle.pbx_parse_translation.specs.Texts.{type_text as type_text_of};
 ghost use Rattle.pbx_parse_translation.specs.Settings.{options_of};
-ghost use Rattle.pbx_parse_translation.specs.Services.{streaming as streaming_of, method_settings as method_settings_of, method_record as method_record_of, method_records, service_record as service_record_of};
+ghost use Rattle.pbx_parse_translation.specs.Services.{streaming as streaming_of, method_settings as method_settings_of};
+ghost use Rattle.pbx_parse_translation.specs.Services.{method_record as method_record_of, method_records, service_record as service_record_of};
 
 use crate::passes::{Gives, all_given};
 use crate::settings::options;

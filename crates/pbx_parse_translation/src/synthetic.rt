@@ -30,7 +30,8 @@ fn name_with(alloc: Global, x_count: usize, field: &str) -> Result<String, NoMem
 /// The fewest `X` with which the field's name is none of the scope's, where it is known to be one with each count of
 /// `X` below the first.
 fn fewest_x(alloc: Global, scope: &Scope, field: &str, first: usize) -> Result<usize, NoMemory>
-    ensures { (names : ListOf (ListOf ℕ)) → Holds scope.now names → AreTaken names field.now first → IfOk result (λ x_count. x_count ≡ fewest_x_of names field.now) }
+    ensures { (names : ListOf (ListOf ℕ)) → Holds scope.now names → AreTaken names field.now first →
+        IfOk result (λ x_count. x_count ≡ fewest_x_of names field.now) }
 {
     'tries: for x_count in first..scope.count {
         if !scope.has(name_with(alloc, x_count, field)?.as_str()) {
@@ -48,7 +49,9 @@ fn take_name<'a>(
     scope: &mut Scope,
     x_counts: &mut BTreeMap<&'a str, usize>,
 ) -> Result<String, NoMemory>
-    ensures { (taken : ListOf (ListOf ℕ)) → Holds scope.old taken → BeginsWell x_counts.old taken → IfOk result (λ t. (string_bytes t ≡ free_name taken field.now) × Holds scope.new (taken ++ string_bytes t ∷ []) × BeginsWell x_counts.new (taken ++ string_bytes t ∷ [])) }
+    ensures { (taken : ListOf (ListOf ℕ)) → Holds scope.old taken → BeginsWell x_counts.old taken →
+        IfOk result (λ t. (string_bytes t ≡ free_name taken field.now) × Holds scope.new (taken ++ string_bytes t ∷ []) ×
+        BeginsWell x_counts.new (taken ++ string_bytes t ∷ [])) }
 {
     let first = x_counts.get(field).copied().unwrap_or(0);
     let x_count = fewest_x(alloc, scope, field, first)?;
@@ -76,7 +79,8 @@ fn add_synthetic(
     scope: &mut Scope,
     oneofs: &mut List<OneofDescriptorProto>,
 ) -> Result<(), NoMemory>
-    ensures { (taken : ListOf (ListOf ℕ)) → Holds scope.old taken → OnOk result (oneofs.new ≡ oneofs.old ++ map oneof_record_of (synthetic_names taken (map (λ n. n.now) fields.now))) }
+    ensures { (taken : ListOf (ListOf ℕ)) → Holds scope.old taken →
+        OnOk result (oneofs.new ≡ oneofs.old ++ map oneof_record_of (synthetic_names taken (map (λ n. n.now) fields.now))) }
 {
     let mut x_counts = BTreeMap::new(alloc);
     'each: for field in fields {
@@ -134,7 +138,8 @@ fn add_named(
     fields: &[&str],
     oneofs: &mut List<OneofDescriptorProto>,
 ) -> Result<(), NoMemory>
-    ensures { OnOk result (oneofs.new ≡ oneofs.old ++ map oneof_record_of (synthetic_names (flat_map (λ i. names_in (item_of i)) items.now) (map (λ n. n.now) fields.now))) }
+    ensures { OnOk result (oneofs.new ≡ oneofs.old ++
+        map oneof_record_of (synthetic_names (flat_map (λ i. names_in (item_of i)) items.now) (map (λ n. n.now) fields.now))) }
 {
     let mut scope = Scope::new(alloc);
     add_all_names(alloc, items, &mut scope)?;

@@ -2,7 +2,9 @@
 
 ghost use Rattle.std.specs.Prelude.{◌≡◌, ◌<◌, ◌++◌, ◌∷◌, [], true, Some, IfOk, OnOk, string_bytes};
 ghost use Rattle.pbx_parse_tree.specs.View.{name_of, literal_of, type_of, separated_of, number_of, enum_number_of};
-ghost use Rattle.pbx_parse_translation.specs.Texts.{string_text as string_text_of, full_text as full_text_of, type_text as type_text_of, camel_from, entry_name as entry_name_of, octal as octal_of, escape as escape_of, escaped as escaped_of, number_text as number_text_of, signed as signed_of};
+ghost use Rattle.pbx_parse_translation.specs.Texts.{string_text as string_text_of, full_text as full_text_of, type_text as type_text_of, camel_from};
+ghost use Rattle.pbx_parse_translation.specs.Texts.{entry_name as entry_name_of, octal as octal_of, escape as escape_of, escaped as escaped_of};
+ghost use Rattle.pbx_parse_translation.specs.Texts.{number_text as number_text_of, signed as signed_of};
 
 use itoa::Buffer;
 use pbx_parse_token::unescape;

@@ -34,6 +34,7 @@ pub enum Expected {
     Type,
     /// The type of a map's key.
     KeyType,
+    /// What a field begins with in a file whose fields have labels.
     Label,
     Bool,
     /// The name of a value of `FileOptions.OptimizeMode`.
@@ -46,10 +47,14 @@ pub enum Expected {
     NoCustomOption,
     /// An option of the place, where the one of message sets stands.
     NoMessageSet,
-    /// No default, since a float has none.
+    /// An option of the place, where the default of a float stands.
     NoFloatDefault,
     /// What a field ends with, where a group begins.
     NoGroup,
+    /// What stands behind a field's name, where its type is a word that may be a label.
+    NoLabel,
+    /// A field's name, where a map begins that cannot stand there.
+    NoMap,
     /// What may stand behind a range, where options of it begin.
     NoRangeOptions,
     /// No package after the first.
@@ -60,6 +65,8 @@ pub enum Expected {
     Keyword,
     /// What stands at the top of a file.
     Top,
+    /// What stands at the top of a file, where an edition stands.
+    NoEdition,
     /// A message that is not nested too deep.
     Level,
     /// What stands in a service.
@@ -110,20 +117,31 @@ impl Expected {
             Expected::ImportName => "an import name in quotes",
             Expected::Type => "a type",
             Expected::KeyType => "an integer type, 'bool' or 'string'",
-            Expected::Label => "a label",
+            Expected::Label => {
+                "'optional', 'required' or 'repeated' (a file without a syntax statement is proto2)"
+            }
             Expected::Bool => "'true' or 'false'",
             Expected::OptimizeMode => "'SPEED', 'CODE_SIZE' or 'LITE_RUNTIME'",
-            Expected::KnownOption => "a known option",
+            Expected::KnownOption => "a known option (only some options are supported here)",
             Expected::UnsetOption => "an option that is not set yet",
             Expected::NoCustomOption => "a known option (custom options are not supported)",
             Expected::NoMessageSet => "a known option (message sets are not supported)",
-            Expected::NoFloatDefault => "no default of a float field, which is not supported",
+            Expected::NoFloatDefault => {
+                "a known option (defaults of 'float' and 'double' are not supported)"
+            }
             Expected::NoGroup => "';' (groups are not supported)",
+            Expected::NoLabel => "'=' (a field has at most one label, and none in a oneof)",
+            Expected::NoMap => {
+                "an identifier (a map field has no label, and stands directly in a message)"
+            }
             Expected::NoRangeOptions => "',' or ';' (options of ranges are not supported)",
             Expected::OnePackage => "no second package",
             Expected::Version => "\"proto2\" or \"proto3\"",
             Expected::Keyword => "a keyword",
             Expected::Top => "';' or a keyword that begins a statement",
+            Expected::NoEdition => {
+                "';' or a keyword that begins a statement (editions are not supported)"
+            }
             Expected::Level => "a message of at most 31 levels",
             Expected::ServiceItem => "';', 'rpc', 'option' or '}'",
             Expected::MethodItem => "';', 'option' or '}'",
@@ -246,7 +264,6 @@ fn kind_expected(kind: OptionKind) -> Expected {
 /// What the default of a field of the type is.
 fn default_expected(kind: &Kind<'_>) -> Expected {
     match kind {
-        Kind::Scalar(Scalar::Double | Scalar::Float, _) => Expected::NoFloatDefault,
         Kind::Scalar(Scalar::Bool, _) => Expected::Bool,
         Kind::Scalar(Scalar::String, _) => Expected::Text,
         Kind::Scalar(Scalar::Bytes, _) => Expected::String,
@@ -293,16 +310,6 @@ fn is_float(kind: &Kind<'_>) -> bool
     matches!(kind, Kind::Scalar(Scalar::Double | Scalar::Float, _))
 }
 
-/// Some value may fit; else what is said of any that stands there.
-pub fn some_value_fits(wanted: Wanted<'_, '_>) -> Result<(), Expected>
-    ensures { IfErr result (λ _. (c : tree.Constant) → wanted_fits wanted.entry c ≡ false) }
-{
-    match wanted {
-        Wanted::Default(kind) if is_float(kind) => Err(Expected::NoFloatDefault),
-        _ => Ok(()),
-    }
-}
-
 /// What an option of the name is set to, if the place has one.
 fn option_wanted<'k, 'a>(place: OptionPlace, name: &Name<'_>) -> Option<Wanted<'k, 'a>>
     ensures { (equals : Span) (value : tree.Constant) → option_fits_of place (record { name = name_of name.now; equals = equals; value = value }) ≡ if_wanted result value }
@@ -329,7 +336,11 @@ fn field_wanted<'k, 'a>(kind: &'k Kind<'a>, name: &Name<'_>) -> Option<Wanted<'k
     ensures { (equals : Span) (value : tree.Constant) → field_setting_fits_of (kind_of kind.now) (record { name = name_of name.now; equals = equals; value = value }) ≡ if_wanted result value }
 {
     if name.text == "default" {
-        return Some(Wanted::Default(kind));
+        return if is_float(kind) {
+            None
+        } else {
+            Some(Wanted::Default(kind))
+        };
     }
     map_wanted(name)
 }
@@ -372,6 +383,7 @@ fn unknown(allowed: Allowed<'_, '_>, name: &Name<'_>) -> Expected {
         (Allowed::Option(OptionPlace::Message), "message_set_wire_format") => {
             Expected::NoMessageSet
         }
+        (Allowed::Field(_), "default") => Expected::NoFloatDefault,
         _ => Expected::KnownOption,
     }
 }

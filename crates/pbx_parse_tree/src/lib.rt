@@ -8,8 +8,7 @@ mod statements;
 mod tree;
 
 pub use conditions::{
-    Allowed, Expected, Wanted, key_fits, listed, name_fits, some_value_fits, text_fits, type_fits,
-    value_fits,
+    Allowed, Expected, Wanted, key_fits, listed, name_fits, text_fits, type_fits, value_fits,
 };
 pub use law::at_most_one;
 pub use options::{KnownOption, OptionKind, OptionPlace, known_option, optimize_mode};
