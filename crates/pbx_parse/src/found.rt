@@ -4,6 +4,7 @@ ghost use Rattle.std.specs.Prelude.{◌≡◌, ◌<◌, false, IfOk, OnOk, strin
 ghost use Rattle.std.specs.Char.{is_control};
 ghost use Rattle.pbx_parse.specs.Errors.{IsOneLine};
 
+use pbx_text::is_invisible;
 use pbx_wire::{NoMemory, Text};
 use std::alloc::Global;
 
@@ -36,18 +37,30 @@ fn add_escape(text: &mut String, letter: char) -> Result<(), NoMemory>
     add_char(text, letter)
 }
 
-/// Adds a number below 256 as `\u` and four hexadecimal digits, of a greater one the last two.
-fn add_number(text: &mut String, number: u32) -> Result<(), NoMemory>
+/// Adds the last four hexadecimal digits of a number.
+fn add_digits(text: &mut String, number: u32) -> Result<(), NoMemory>
     ensures { IsOneLine (string_bytes text.old) → OnOk result (IsOneLine (string_bytes text.new)) }
 {
-    add_escape(text, 'u')?;
-    add_char(text, '0')?;
-    add_char(text, '0')?;
+    add_char(text, hexadecimal_digit(number / 4096 % 16))?;
+    add_char(text, hexadecimal_digit(number / 256 % 16))?;
     add_char(text, hexadecimal_digit(number / 16 % 16))?;
     add_char(text, hexadecimal_digit(number % 16))
 }
 
-/// Adds a character, or its escape where it is a control character.
+/// Adds a character's number as `\u` and four hexadecimal digits, or as `\U` and eight.
+fn add_number(text: &mut String, number: u32) -> Result<(), NoMemory>
+    ensures { IsOneLine (string_bytes text.old) → OnOk result (IsOneLine (string_bytes text.new)) }
+{
+    if number < 65536 {
+        add_escape(text, 'u')?;
+        return add_digits(text, number);
+    }
+    add_escape(text, 'U')?;
+    add_digits(text, number / 65536)?;
+    add_digits(text, number)
+}
+
+/// Adds a character, or its escape where nobody would see it.
 fn add_shown(text: &mut String, c: char) -> Result<(), NoMemory>
     ensures { IsOneLine (string_bytes text.old) → OnOk result (IsOneLine (string_bytes text.new)) }
 {
@@ -55,12 +68,12 @@ fn add_shown(text: &mut String, c: char) -> Result<(), NoMemory>
         '\n' => add_escape(text, 'n'),
         '\r' => add_escape(text, 'r'),
         '\t' => add_escape(text, 't'),
-        _ if c.is_control() => add_number(text, c as u32),
+        _ if is_invisible(c) => add_number(text, c as u32),
         _ => add_char(text, c),
     }
 }
 
-/// Adds the text with its control characters as escapes.
+/// Adds the text with its invisible characters as escapes.
 fn add_all_shown(text: &mut String, found: &str) -> Result<(), NoMemory>
     ensures { IsOneLine (string_bytes text.old) → OnOk result (IsOneLine (string_bytes text.new)) }
 {
@@ -129,7 +142,7 @@ fn add_quoted(text: &mut String, found: Found<'_>) -> Result<(), NoMemory>
     add_char(text, '\'')
 }
 
-/// A text in one line: control characters stand as escapes.
+/// A text in one line: invisible characters stand as escapes, control characters among them.
 pub fn one_line(alloc: Global, words: &str) -> Result<Text, NoMemory>
     ensures { IfOk result (λ t. IsOneLine t) }
 {
@@ -138,7 +151,7 @@ pub fn one_line(alloc: Global, words: &str) -> Result<Text, NoMemory>
     Text::from_str(alloc, text.as_str())
 }
 
-/// What an error says of what was found, in one line: control characters stand as escapes.
+/// What an error says of what was found, in one line: invisible characters stand as escapes, control characters among them.
 pub fn found_text(alloc: Global, found: Found<'_>) -> Result<Text, NoMemory>
     ensures { IfOk result (λ t. IsOneLine t) }
 {

@@ -6,3 +6,4 @@ pub mod Timestamp
 pub mod Mask
 pub mod Laws
 pub mod TimestampLaws
+pub mod Invisible

@@ -8,11 +8,12 @@ use Rattle.std.proofs.Math.Utf8.{encode, encodes, scalar, scalars, low_scalar}
 use Rattle.std.proofs.lemmas.Bool.Decides.{nat_tests}
 use Rattle.std.proofs.lemmas.List.Folds.{list_any-append}
 use Rattle.std.proofs.lemmas.Str.{chars-encodes, encode_ascii, encodes-append, scalars-chars}
-use Rattle.protox_io.specs.Shown.{hexadecimal, hexadecimals, escape, shown_char, ShownIsPlain}
+use Rattle.pbx_text.specs.Invisible.{is_invisible}
+use Rattle.protox_io.specs.Shown.{hexadecimal, hexadecimals, numbered, escape, shown_char, ShownIsPlain}
 
 -- the characters that stand for one
 abbrev pub shown_as : ℕ → List ℕ
-shown_as c = if is_control c then escape c else c ∷ []
+shown_as c = if is_invisible c then escape c else c ∷ []
 
 small_digit : (n : ℕ) → n < 16 → hexadecimal n < 128
 small_digit n h = at (nat_lt n 10)
@@ -24,76 +25,80 @@ small_digit n h = at (nat_lt n 10)
 plain_digit : (n : ℕ) → n < 16 → is_control (hexadecimal n) ≡ false
 plain_digit n h = grind (arith, nat_tests)
 
--- ---- what stands for a control character
+-- ---- what stands for an invisible character
 
-two_digits : (c : ℕ) → hexadecimals c ≡ encodes (hexadecimals c)
-two_digits c =
-    let high : ℕ = hexadecimal (c / 16 % 16) in
-    let low : ℕ = hexadecimal (c % 16) in
-    sym (ap (λ x. x ++ (encode low ++ [])) (encode_ascii high (small_digit (c / 16 % 16) (omega arith))) ∙ ap (λ x. high ∷ (x ++ [])) (encode_ascii low (small_digit (c % 16) (omega arith))))
+-- characters below 128 are their bytes, and no control characters
+record Is (text : List ℕ) : Type 0 where
+  bytes : text ≡ encodes text
+  sound : scalars text ≡ true
+  plain : list_any is_control text ≡ false
 
-escape_bytes : (c : ℕ) → escape c ≡ encodes (escape c)
-unfolding encode
-escape_bytes c = at (c == 10) (c == 13) (c == 9)
+and_true : (a b : Bool) → a ≡ true → b ≡ true → (a && b) ≡ true
+and_true a b p q = ap (λ x. x && b) p ∙ q
+
+or_false : (a b : Bool) → a ≡ false → b ≡ false → (a || b) ≡ false
+or_false a b p q = ap (λ x. x || b) p ∙ q
+
+nothing : Is []
+nothing = record { bytes = refl; sound = refl; plain = refl }
+
+with_char : (n : ℕ) (text : List ℕ) → n < 128 → is_control n ≡ false → Is text → Is (n ∷ text)
+with_char n text low seen is = record {
+  bytes = ap (λ l. n ∷ l) is.bytes ∙ sym (ap (λ x. x ++ encodes text) (encode_ascii n low));
+  sound = and_true (scalar n) (scalars text) (low_scalar n (omega arith)) is.sound;
+  plain = or_false (is_control n) (list_any is_control text) seen is.plain;
+}
+
+with_digit : (n : ℕ) (text : List ℕ) → n < 16 → Is text → Is (hexadecimal n ∷ text)
+with_digit n text h is = with_char (hexadecimal n) text (small_digit n h) (plain_digit n h) is
+
+with_digits : (n : ℕ) (text : List ℕ) → Is text → Is (hexadecimals n ++ text)
+with_digits n text is =
+    with_digit (n / 4096 % 16) _ (omega arith) (with_digit (n / 256 % 16) _ (omega arith) (with_digit (n / 16 % 16) _ (omega arith) (with_digit (n % 16) text (omega arith) is)))
+
+digits : (n : ℕ) → Is (hexadecimals n)
+digits n = with_digits n [] nothing
+
+escape_is : (c : ℕ) → Is (escape c)
+escape_is c = at (c == 10) (c == 13) (c == 9) (nat_lt c 65536)
   where
-    E : Bool → Bool → Bool → List ℕ
-    E a b d = if a then codes "\\n" else (if b then codes "\\r" else (if d then codes "\\t" else codes "\\u00" ++ hexadecimals c))
+    two : (n : ℕ) (text : List ℕ) → n < 128 → is_control n ≡ false → Is text → Is (92 ∷ n ∷ text)
+    two n text low seen is = with_char 92 _ (omega arith) refl (with_char n text low seen is)
 
-    at : (a b d : Bool) → E a b d ≡ encodes (E a b d)
-    at true b d = refl
-    at false true d = refl
-    at false false true = refl
-    at false false false = ap (λ x. codes "\\u00" ++ x) (two_digits c)
-
-low : (n : ℕ) → n < 128 → scalar n ≡ true
-low n h = low_scalar n (omega arith)
-
-both : (a b : Bool) → a ≡ true → b ≡ true → (a && (b && true)) ≡ true
-both a b p q = ap (λ x. x && (b && true)) p ∙ ap (λ x. x && true) q
-
-neither : (a b : Bool) → a ≡ false → b ≡ false → (a || (b || false)) ≡ false
-neither a b p q = ap (λ x. x || (b || false)) p ∙ ap (λ x. x || false) q
-
-escape_scalars : (c : ℕ) → scalars (escape c) ≡ true
-escape_scalars c = at (c == 10) (c == 13) (c == 9)
-  where
-    at : (a b d : Bool) → scalars (if a then codes "\\n" else (if b then codes "\\r" else (if d then codes "\\t" else codes "\\u00" ++ hexadecimals c))) ≡ true
-    at true b d = refl
-    at false true d = refl
-    at false false true = refl
-    at false false false = both _ _ (low (hexadecimal (c / 16 % 16)) (small_digit (c / 16 % 16) (omega arith))) (low (hexadecimal (c % 16)) (small_digit (c % 16) (omega arith)))
-
-escape_plain : (c : ℕ) → list_any is_control (escape c) ≡ false
-escape_plain c = at (c == 10) (c == 13) (c == 9)
-  where
-    at : (a b d : Bool) → list_any is_control (if a then codes "\\n" else (if b then codes "\\r" else (if d then codes "\\t" else codes "\\u00" ++ hexadecimals c))) ≡ false
-    at true b d = refl
-    at false true d = refl
-    at false false true = refl
-    at false false false = neither _ _ (plain_digit (c / 16 % 16) (omega arith)) (plain_digit (c % 16) (omega arith))
+    at : (a b d e : Bool) → Is (if a then codes "\\n" else (if b then codes "\\r" else (if d then codes "\\t" else (if e then codes "\\u" ++ hexadecimals c else codes "\\U" ++ hexadecimals (c / 65536) ++ hexadecimals c))))
+    at true b d e = two 110 [] (omega arith) refl nothing
+    at false true d e = two 114 [] (omega arith) refl nothing
+    at false false true e = two 116 [] (omega arith) refl nothing
+    at false false false true = two 117 (hexadecimals c) (omega arith) refl (digits c)
+    at false false false false = two 85 _ (omega arith) refl (with_digits (c / 65536) (hexadecimals c) (digits c))
 
 -- ---- what stands for each character
 
 as_bytes : (c : ℕ) → shown_char c ≡ encodes (shown_as c)
-as_bytes c = at (is_control c)
+as_bytes c = at (is_invisible c)
   where
     at : (v : Bool) → (if v then escape c else encode c) ≡ encodes (if v then escape c else c ∷ [])
-    at true = escape_bytes c
+    at true = (escape_is c).bytes
     at false = sym (append-nil (encode c))
 
 as_scalars : (c : ℕ) → scalar c ≡ true → scalars (shown_as c) ≡ true
-as_scalars c h = at (is_control c)
+as_scalars c h = at (is_invisible c)
   where
     at : (v : Bool) → scalars (if v then escape c else c ∷ []) ≡ true
-    at true = escape_scalars c
+    at true = (escape_is c).sound
     at false = ap (λ x. x && true) h
 
+-- a character that is not invisible is no control character
+left_false : (a b : Bool) → (a || b) ≡ false → a ≡ false
+left_false true b e = e
+left_false false b e = refl
+
 as_plain : (c : ℕ) → list_any is_control (shown_as c) ≡ false
-as_plain c = at (is_control c) refl
+as_plain c = at (is_invisible c) refl
   where
-    at : (v : Bool) → is_control c ≡ v → list_any is_control (if v then escape c else c ∷ []) ≡ false
-    at true e = escape_plain c
-    at false e = ap (λ x. x || false) e
+    at : (v : Bool) → is_invisible c ≡ v → list_any is_control (if v then escape c else c ∷ []) ≡ false
+    at true e = (escape_is c).plain
+    at false e = ap (λ x. x || false) (left_false (is_control c) _ e)
 
 -- ---- what stands for a text
 

@@ -1,12 +1,12 @@
 -- Texts that are shown character by character.
 use Rattle.std.proofs.Common.{◌≡◌, ◌++◌, ◌∙◌, ◌∷◌, ◌||◌, [], ℕ, List, Bool, true, false, length, map, codes, sym, ap, refl, append_assoc, append-nil, arith, Result, Ok, Err}
 use Rattle.std.specs.Bool.{if◌then◌else◌}
-use Rattle.std.specs.Char.{is_control}
 use Rattle.std.specs.List.{flat_map, list_any}
 use Rattle.std.specs.Prelude.{encode_utf8}
 use Rattle.std.specs.Str.{IsUtf8, chars}
 use Rattle.std.proofs.Math.Utf8.{encode, encodes}
 use Rattle.std.proofs.lemmas.Str.{chars_past_char, chars_from_encodes, encodes-chars, IsUtf8-nil}
+use Rattle.pbx_text.specs.Invisible.{is_invisible}
 use Rattle.protox_io.specs.Shown.{escape, shown, shown_char, shown_line}
 use Rattle.protox_io.specs.Sink.{Appends, Begins, Prints}
 use Rattle.protox_io.proofs.Counts.{piece_refused}
@@ -36,31 +36,31 @@ pub shown_end : (text bs old new : List ℕ) → length bs ≡ 0 → Appends old
 shown_end text bs old new z a =
     record { added = a.added; is = a.is; so = sym (a.so ∙ ap (λ l. a.added ++ l) (nothing_shown bs z) ∙ append-nil a.added) }
 
--- ---- texts without control characters
+-- ---- texts without invisible characters
 
-plain_chars : (cs : List ℕ) → list_any is_control cs ≡ false → flat_map shown_char cs ≡ encodes cs
+plain_chars : (cs : List ℕ) → list_any is_invisible cs ≡ false → flat_map shown_char cs ≡ encodes cs
 plain_chars [] e = refl
-plain_chars (c ∷ cs) e = at (plain_chars cs) (is_control c) refl e
+plain_chars (c ∷ cs) e = at (plain_chars cs) (is_invisible c) refl e
   where
-    at : (list_any is_control cs ≡ false → flat_map shown_char cs ≡ encodes cs) → (v : Bool) → is_control c ≡ v → (v || list_any is_control cs) ≡ false
+    at : (list_any is_invisible cs ≡ false → flat_map shown_char cs ≡ encodes cs) → (v : Bool) → is_invisible c ≡ v → (v || list_any is_invisible cs) ≡ false
         → shown_char c ++ flat_map shown_char cs ≡ encode c ++ encodes cs
     at more true q e = absurd (let no : ⊥ = cc in no)
     at more false q e = ap (λ v. (if v then escape c else encode_utf8 c) ++ flat_map shown_char cs) q ∙ ap (λ l. encode c ++ l) (more e)
 
 -- such a text is shown as it is
-pub plain_shown : (text : List ℕ) → IsUtf8 text → list_any is_control (chars text) ≡ false → shown text ≡ text
+pub plain_shown : (text : List ℕ) → IsUtf8 text → list_any is_invisible (chars text) ≡ false → shown text ≡ text
 plain_shown text u e = plain_chars (chars text) e ∙ encodes-chars text u
 
-pub control_found : (bs rest : List ℕ) (c : ℕ) → IsUtf8 bs → bs ≡ encode_utf8 c ++ rest → is_control c ≡ true → list_any is_control (chars bs) ≡ true
-control_found bs rest c u e is = ap (list_any is_control) (chars_past_char bs rest c u e) ∙ ap (λ v. v || list_any is_control (chars rest)) is
+pub invisible_found : (bs rest : List ℕ) (c : ℕ) → IsUtf8 bs → bs ≡ encode_utf8 c ++ rest → is_invisible c ≡ true → list_any is_invisible (chars bs) ≡ true
+invisible_found bs rest c u e is = ap (list_any is_invisible) (chars_past_char bs rest c u e) ∙ ap (λ v. v || list_any is_invisible (chars rest)) is
 
-pub control_next : (bs rest : List ℕ) (c : ℕ) → IsUtf8 bs → bs ≡ encode_utf8 c ++ rest → is_control c ≡ false
-    → list_any is_control (chars bs) ≡ list_any is_control (chars rest)
-control_next bs rest c u e is = ap (list_any is_control) (chars_past_char bs rest c u e) ∙ ap (λ v. v || list_any is_control (chars rest)) is
+pub invisible_next : (bs rest : List ℕ) (c : ℕ) → IsUtf8 bs → bs ≡ encode_utf8 c ++ rest → is_invisible c ≡ false
+    → list_any is_invisible (chars bs) ≡ list_any is_invisible (chars rest)
+invisible_next bs rest c u e is = ap (list_any is_invisible) (chars_past_char bs rest c u e) ∙ ap (λ v. v || list_any is_invisible (chars rest)) is
 
-pub control_none : (bs : List ℕ) → length bs ≡ 0 → list_any is_control (chars bs) ≡ false
-control_none [] z = ap (list_any is_control) (sym (chars_from_encodes [] [] IsUtf8-nil refl))
-control_none (b ∷ bs) z = absurd (omega arith)
+pub invisible_none : (bs : List ℕ) → length bs ≡ 0 → list_any is_invisible (chars bs) ≡ false
+invisible_none [] z = ap (list_any is_invisible) (sym (chars_from_encodes [] [] IsUtf8-nil refl))
+invisible_none (b ∷ bs) z = absurd (omega arith)
 
 -- ---- a line and its line feed
 

@@ -1,12 +1,13 @@
-ghost use Rattle.std.specs.Char.{is_control};
 ghost use Rattle.std.specs.List.{flat_map, list_any};
 ghost use Rattle.std.specs.Prelude.{◌≡◌, ◌<◌, IsTrue, IfErr, map};
 ghost use Rattle.std.specs.Str.{chars};
+ghost use Rattle.pbx_text.specs.Invisible.{is_invisible as is_invisible_of};
 ghost use Rattle.protox_io.specs.Count.{Rose, Later};
-ghost use Rattle.protox_io.specs.Shown.{hexadecimal, escape, shown_char, shown, shown_line, ShownIsPlain};
+ghost use Rattle.protox_io.specs.Shown.{hexadecimal, hexadecimals, numbered, escape, shown_char, shown, shown_line, ShownIsPlain};
 ghost use Rattle.protox_io.specs.Sink.{RefusesFor, Appends, Prints};
 
 use crate::{Sink, SinkError, write_all};
+use pbx_text::is_invisible;
 
 /// The digit of a number below 16.
 fn hexadecimal_digit(number: u32) -> u8
@@ -20,21 +21,51 @@ fn hexadecimal_digit(number: u32) -> u8
     }
 }
 
-/// Writes what stands for a control character.
+/// The last four hexadecimal digits of a number.
+fn hexadecimal_digits(number: u32) -> [u8; 4]
+    ensures { result ≡ hexadecimals number }
+{
+    [
+        hexadecimal_digit(number / 4096 % 16),
+        hexadecimal_digit(number / 256 % 16),
+        hexadecimal_digit(number / 16 % 16),
+        hexadecimal_digit(number % 16),
+    ]
+}
+
+/// Writes a character's number.
+fn write_number<K: Sink>(sink: &mut K, c: char) -> Result<(), SinkError>
+    ensures told { IsTrue (K.output sink.old).tells → Appends (K.output sink.old).held (K.output sink.new).held (Prints (numbered c) result) }
+    ensures cause { IfErr result (RefusesFor (Rose (K.count sink.old) (K.count sink.new)) (IsTrue (K.output sink.new).short)) }
+    ensures later { Later (K.count sink.old) (K.count sink.new) }
+    ensures keeps_tells { (K.output sink.new).tells ≡ (K.output sink.old).tells }
+{
+    let code = c as u32;
+    let low = hexadecimal_digits(code);
+    if code < 65536 {
+        return write_all(sink, &[b'\\', b'u', low[0], low[1], low[2], low[3]]);
+    }
+    let high = hexadecimal_digits(code / 65536);
+    write_all(
+        sink,
+        &[
+            b'\\', b'U', high[0], high[1], high[2], high[3], low[0], low[1], low[2], low[3],
+        ],
+    )
+}
+
+/// Writes what stands for an invisible character.
 fn write_escape<K: Sink>(sink: &mut K, c: char) -> Result<(), SinkError>
     ensures told { IsTrue (K.output sink.old).tells → Appends (K.output sink.old).held (K.output sink.new).held (Prints (escape c) result) }
     ensures cause { IfErr result (RefusesFor (Rose (K.count sink.old) (K.count sink.new)) (IsTrue (K.output sink.new).short)) }
     ensures later { Later (K.count sink.old) (K.count sink.new) }
     ensures keeps_tells { (K.output sink.new).tells ≡ (K.output sink.old).tells }
 {
-    let code = c as u32;
-    let high = hexadecimal_digit(code / 16 % 16);
-    let low = hexadecimal_digit(code % 16);
     match c {
         '\n' => write_all(sink, b"\\n"),
         '\r' => write_all(sink, b"\\r"),
         '\t' => write_all(sink, b"\\t"),
-        _ => write_all(sink, &[b'\\', b'u', b'0', b'0', high, low]),
+        _ => write_number(sink, c),
     }
 }
 
@@ -44,26 +75,26 @@ fn write_char<K: Sink>(sink: &mut K, c: char) -> Result<(), SinkError>
     ensures later { Later (K.count sink.old) (K.count sink.new) }
     ensures keeps_tells { (K.output sink.new).tells ≡ (K.output sink.old).tells }
 {
-    if c.is_control() {
+    if is_invisible(c) {
         return write_escape(sink, c);
     }
     let mut bytes = [0u8; 4];
     write_all(sink, c.encode_utf8(&mut bytes).as_bytes())
 }
 
-/// Whether a control character stands in the text.
-fn has_control(text: &str) -> bool
-    ensures { result ≡ list_any is_control (chars text.now) }
+/// Whether an invisible character stands in the text.
+fn has_invisible(text: &str) -> bool
+    ensures { result ≡ list_any is_invisible_of (chars text.now) }
 {
     for c in text.chars() {
-        if c.is_control() {
+        if is_invisible(c) {
             return true;
         }
     }
     false
 }
 
-/// Writes the characters of the text, control characters as escapes.
+/// Writes the characters of the text, invisible ones as escapes.
 fn write_chars<K: Sink>(sink: &mut K, text: &str) -> Result<(), SinkError>
     ensures told { IsTrue (K.output sink.old).tells → Appends (K.output sink.old).held (K.output sink.new).held (Prints (shown text.now) result) }
     ensures cause { IfErr result (RefusesFor (Rose (K.count sink.old) (K.count sink.new)) (IsTrue (K.output sink.new).short)) }
@@ -79,8 +110,8 @@ fn write_chars<K: Sink>(sink: &mut K, text: &str) -> Result<(), SinkError>
     Ok(())
 }
 
-/// Writes the text with its control characters as escapes, unless a write is refused. Then the first of its bytes may
-/// stand in the sink. It takes no memory of its own. A text without control characters is written as a whole, another one
+/// Writes the text with its invisible characters as escapes, unless a write is refused. Then the first of its bytes may
+/// stand in the sink. It takes no memory of its own. A text without such characters is written as a whole, another one
 /// character by character.
 #[tactic(auto, using(crate::proofs::Showing::plain_shown))]
 pub fn write_shown<K: Sink>(sink: &mut K, text: &str) -> Result<(), SinkError>
@@ -89,7 +120,7 @@ pub fn write_shown<K: Sink>(sink: &mut K, text: &str) -> Result<(), SinkError>
     ensures later { Later (K.count sink.old) (K.count sink.new) }
     ensures keeps_tells { (K.output sink.new).tells ≡ (K.output sink.old).tells }
 {
-    if has_control(text) {
+    if has_invisible(text) {
         return write_chars(sink, text);
     }
     write_all(sink, text.as_bytes())
@@ -112,7 +143,7 @@ fn write_all_shown<K: Sink>(sink: &mut K, texts: &[&str]) -> Result<(), SinkErro
     Ok(())
 }
 
-/// Writes the texts in a row, with their control characters as escapes, and a line feed, unless a write is refused. Then
+/// Writes the texts in a row, with their invisible characters as escapes, and a line feed, unless a write is refused. Then
 /// the first bytes of the line may stand in the sink. It takes no memory of its own, so that a line can be said when memory
 /// has run out.
 pub fn write_line<K: Sink>(sink: &mut K, texts: &[&str]) -> Result<(), SinkError>

@@ -18,7 +18,7 @@ refusal_line TooLong = codes "input is longer than 1073741824 bytes" ∷ []
 refusal_line NotJson = codes "input is not JSON" ∷ []
 refusal_line (Top line) = line ∷ []
 
--- what err holds: `error: ` and the line, with control characters as escapes, and a line feed
+-- what err holds: `error: ` and the line, with invisible characters as escapes, and a line feed
 unfoldable pub error_line : Pieces → List ℕ
 error_line pieces = shown_line (codes "error: " ∷ pieces)
 
