@@ -227,13 +227,13 @@ settled_found root name asked done e h = let P : Option (List ℕ × Option (Lis
 pub path_reports : {E : Type 0} (resolves : List ℕ → Option (List ℕ)) (path name : List ℕ) (asked : Option (List ℕ)) (done : List Done) (result : Result Opened E) → root_of resolves path ≡ Some (name, asked)
     → IfOk result (λ report. report ≡ report_in name done) → IfOk result (λ report. report_of resolves path done ≡ Some report)
 path_reports resolves path name asked done (Err e) root h = tt
-path_reports resolves path name asked done (Ok report) root h = ap (option_map (λ (r : List ℕ × Option (List ℕ)). report_in r.0 done)) root ∙ ap Some (sym h)
+path_reports resolves path name asked done (Ok told) root h = ap (option_map (λ (r : List ℕ × Option (List ℕ)). report_in r.0 done)) root ∙ ap Some (sym h)
 
 -- what is told of a name that is finished
 pub report_again : {E : Type 0} (name : List ℕ) (done : List Done) (result : Result Opened E) → is_done done name ≡ true
     → IfOk result (λ report. report ≡ (if is_opened name done then Again else Import)) → IfOk result (λ report. report ≡ report_in name done)
 report_again name done (Err e) there h = tt
-report_again name done (Ok report) there h = rw there h
+report_again name done (Ok told) there h = rw there h
 
 -- and of one that is not
 pub report_new : (name : List ℕ) (done : List Done) → is_done done name ≡ false → Compiled ≡ report_in name done

@@ -7,4 +7,4 @@ use Rattle.protox_compile_walk.proofs.known.is_opened_at.Goals as goal
 pub returns : goal.returns
 returns c =
     let is : c.index-files-index.result ≡ get_or c.args.files.now c.args.index c.index-files-index.result = search rules in
-    c.not.ensures ∙ ap (λ (m : Metadata). not m.is_import) is ∙ is_opened_is c.args.files.now c.args.index c.index-files-index.result c.requires
+    ap (λ b. not b) c.is_import.ensures ∙ ap (λ (m : Metadata). not m.is_import) is ∙ is_opened_is c.args.files.now c.args.index c.index-files-index.result c.requires

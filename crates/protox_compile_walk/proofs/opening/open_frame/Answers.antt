@@ -1,4 +1,4 @@
-use Rattle.std.proofs.Common.{◌≡◌, ap, false, true, rules, sym}
+use Rattle.std.proofs.Common.{◌≡◌, false, true, rules, sym}
 use Rattle.std.specs.Prelude.{Some}
 use Rattle.std.specs.Str.{bytes_eq}
 use Rattle.protox_io.specs.Count.{Rose}
