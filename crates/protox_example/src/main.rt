@@ -11,13 +11,17 @@ use protox::protox_file::{ErrorKind, FileResolver, MemoryResolver};
 use protox::{Compiler, Error};
 use std::alloc::Global;
 
-const ITEM: &str = "syntax = 'proto3'; package shop; message Item { string name = 1; int64 cents = 2; }";
+const ITEM: &str =
+    "syntax = 'proto3'; package shop; message Item { string name = 1; int64 cents = 2; }";
+
 const ORDER: &str = "syntax = 'proto3'; package shop; import 'item.proto';
 message Order { uint64 id = 1; repeated Item items = 2; map<string, string> tags = 3; }";
+
 const WRONG: &str = "syntax = 'proto3'; package shop; import 'item.proto';
 message Wrong {
   Thing thing = 1;
 }";
+
 const JSON: &str = r#"{"tags":{"b":"x","a":"y"},"id":7,"items":[{"name":"tea","cents":"350"}]}"#;
 
 /// The sources, each under the name that others import it by.
@@ -31,7 +35,9 @@ fn sources(alloc: Global) -> Result<MemoryResolver, NoMemory> {
 
 /// A message from JSON, its bytes, and its canonical JSON.
 fn transcode(rt: &HostRuntime, pool: &DescriptorPool) -> Result<()> {
-    let order = pool.get_message_by_name("shop.Order").context("no type shop.Order")?;
+    let order = pool
+        .get_message_by_name("shop.Order")
+        .context("no type shop.Order")?;
     let tree = serde_json::from_str(rt.alloc(), JSON)?;
     let message = DynamicMessage::deserialize(rt.alloc(), order, &tree)?;
     println!(rt; "{} bytes", message.encode_to_vec(rt.alloc())?.len())?;
@@ -52,7 +58,9 @@ fn explain(rt: &HostRuntime, resolver: &mut MemoryResolver, error: &Error) -> Re
 }
 
 fn main(rt: HostRuntime) -> Result<()> {
-    let mut compiler = Compiler::with_file_resolver(rt.alloc(), sources(rt.alloc())?).map_err(|_| NoMemory)?;
+    let mut compiler = Compiler::with_file_resolver(rt.alloc(), sources(rt.alloc())?).map_err(
+        |_| NoMemory,
+    )?;
     compiler.open_file("order.proto")?;
     let set = compiler.include_imports(true).encode_file_descriptor_set()?;
     println!(rt; "a set of {} bytes", set.len())?;
