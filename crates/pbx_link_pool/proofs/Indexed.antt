@@ -20,7 +20,7 @@ use Rattle.pbx_link_definitions.specs.Definitions.{Part, full_name, is_scope, de
 use Rattle.pbx_link_scope.specs.Scope.{packages}
 use Rattle.pbx_link_scope.specs.Pooled.{file_index, by_file, definition_with_file, scope_with_file, all_packages, extends, is_extended}
 use Rattle.pbx_link_pool.specs.Items.{file_items, definition_items, place_items, exact_item, behind_dot, extended_item}
-use Rattle.pbx_link_pool.specs.Packages.{IsMissingOf, HasPackage}
+use Rattle.pbx_link_pool.specs.Packages.{HasPackage}
 use Rattle.pbx_link_pool.specs.Index.{HaveAddedPlaces, HasAddedAll, FindAllTheSame, FindTheSamePlaces, ArePlacesOf, IsIndexOf, GoesOnWith, GoesOn, all_items, all_places}
 use Rattle.pbx_link_pool.specs.Places.{place_with_file}
 use Rattle.pbx_link_pool.specs.declared.places.Places.{Places}
