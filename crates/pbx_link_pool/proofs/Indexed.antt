@@ -1,16 +1,16 @@
 -- What is found in the files of a pool with one file more.
-use Rattle.std.proofs.Common.{◌≡◌, ◌∙◌, ℕ, ◌+◌, ℤ, pos, negsuc, Bool, true, false, cond, ◌&&◌, ◌||◌, List, [], ◌∷◌, ◌++◌, length, map, reverse, refl, ap, sym, subst, arith}
-use Rattle.std.specs.Prelude.{◌==◌, find, Option, Some, None, is_some, option_map, if◌then◌else◌, int_le}
+use Rattle.std.proofs.Common.{◌≡◌, ◌∙◌, ℕ, ◌+◌, ℤ, pos, negsuc, Bool, true, false, cond, ◌&&◌, ◌||◌, List, [], ◌∷◌, ◌++◌, length, map, refl, ap, sym, subst, arith}
+use Rattle.std.specs.Prelude.{◌==◌, find, Option, Some, None, option_map, if◌then◌else◌, int_le}
 use Rattle.std.specs.List.{list_any, flat_map, enumerate_from}
 use Rattle.std.specs.Option.{option_or}
 use Rattle.std.specs.Ordering.{int_eq}
 use Rattle.std.specs.Str.{bytes_eq}
 use Rattle.std.proofs.lemmas.Bool.Decides.{nat_tests}
 use Rattle.std.proofs.lemmas.Grind.{flat_map-append}
-use Rattle.std.proofs.lemmas.List.{reverse-append}
 use Rattle.std.proofs.lemmas.List.Folds.{find-append, list_any-append}
 use Rattle.pbx_link_names.specs.Names.{under, first_under}
 use Rattle.pbx_link_names.specs.Numbers.{is_there, is_item, is_among}
+use Rattle.pbx_link_names.specs.Packages as packaged
 use Rattle.pbx_link_names.proofs.Values.{turned}
 use Rattle.pbx_desc_records.specs.declared.field.FieldDescriptorProto.{FieldDescriptorProto}
 use Rattle.pbx_desc_records.specs.declared.file.FileDescriptorProto.{FileDescriptorProto}
@@ -19,7 +19,8 @@ use Rattle.pbx_link_definitions.specs.Says.{are_equal}
 use Rattle.pbx_link_definitions.specs.Definitions.{Part, full_name, is_scope, definitions, messages, enums, extensions, services, message_name, enum_name, field_name, service_name}
 use Rattle.pbx_link_scope.specs.Scope.{packages}
 use Rattle.pbx_link_scope.specs.Pooled.{file_index, by_file, definition_with_file, scope_with_file, all_packages, extends, is_extended}
-use Rattle.pbx_link_pool.specs.Items.{file_items, name_items, definition_items, place_items, exact_item, behind_dot, extended_item}
+use Rattle.pbx_link_pool.specs.Items.{file_items, definition_items, place_items, exact_item, behind_dot, extended_item}
+use Rattle.pbx_link_pool.specs.Packages.{HasPackage}
 use Rattle.pbx_link_pool.specs.Index.{HaveAddedPlaces, HasAddedAll, FindAllTheSame, FindTheSamePlaces, ArePlacesOf, IsIndexOf, GoesOnWith, GoesOn, all_items, all_places}
 use Rattle.pbx_link_pool.specs.Places.{place_with_file}
 use Rattle.pbx_link_pool.specs.declared.places.Places.{Places}
@@ -93,36 +94,16 @@ file_with files f q =
 
 -- ---- packages
 
-is_some_or : {V : Type 0} (o p : Option V) → is_some (option_or o p) ≡ (is_some o || is_some p)
-is_some_or None p = refl
-is_some_or (Some v) p = refl
+or_swapped : (a b : Bool) → (a || b) ≡ (b || a)
+or_swapped true true = refl
+or_swapped true false = refl
+or_swapped false true = refl
+or_swapped false false = refl
 
-is_some_name : (n : ℕ) (q : List ℕ) (names : List (List ℕ)) → is_some (first_under q (name_items n names)) ≡ among names q
-is_some_name n q [] = refl
-is_some_name n q (x ∷ xs) = by_name (bytes_eq q x) (is_some_name n q xs) ∙ ap (λ (b : Bool). b || among xs q) (turned q x)
-  where
-    by_name : (b : Bool) → is_some (first_under q (name_items n xs)) ≡ among xs q → is_some (cond b (Some n) (first_under q (name_items n xs))) ≡ (b || among xs q)
-    by_name true ih = refl
-    by_name false ih = ih
-
-any_swapped : (a b : Bool) → (a || (b || false)) ≡ (b || a)
-any_swapped true true = refl
-any_swapped true false = refl
-any_swapped false true = refl
-any_swapped false false = refl
-
-any_reversed : {X : Type 0} (t : X → Bool) (xs : List X) → list_any t (reverse xs) ≡ list_any t xs
-any_reversed t [] = refl
-any_reversed t (x ∷ xs) = ap (list_any t) (reverse-append (x ∷ []) xs) ∙ list_any-append t (reverse xs) (x ∷ []) ∙ any_swapped (list_any t (reverse xs)) (t x) ∙ ap (λ (b : Bool). t x || b) (any_reversed t xs)
-
-package_with : (files : List File) (f : File) (q : List ℕ) (before now : Option ℕ) → is_some before ≡ among (all_packages files) q
-    → now ≡ option_or before (first_under q (name_items (length files) (reverse (packages f)))) → is_some now ≡ among (all_packages (files ++ f ∷ [])) q
+package_with : (files : List File) (f : File) (q : List ℕ) (before now : Bool) → before ≡ among (all_packages files) q → now ≡ (among (packages f) q || before) → now ≡ among (all_packages (files ++ f ∷ [])) q
 package_with files f q before now is added =
-    let items : List (List ℕ × ℕ) = name_items (length files) (reverse (packages f)) in
     let t : List ℕ → Bool = λ o. bytes_eq o q in
-    ap (λ (o : Option ℕ). is_some o) added ∙ is_some_or before (first_under q items)
-    ∙ ap (λ (b : Bool). b || is_some (first_under q items)) is
-    ∙ ap (λ (b : Bool). among (all_packages files) q || b) (is_some_name (length files) q (reverse (packages f)) ∙ any_reversed t (packages f))
+    added ∙ ap (λ (b : Bool). among (packages f) q || b) is ∙ or_swapped (among (packages f) q) (among (all_packages files) q)
     ∙ sym (ap (λ (names : List (List ℕ)). among names q) (told_push packages files f) ∙ list_any-append t (all_packages files) (packages f))
 
 -- ---- extensions
@@ -197,18 +178,23 @@ definition_with files f q before now is added =
     added ∙ ap (λ (o : Option (ℕ × Bool)). option_or o (first_under q (definition_items (length files) (definitions f)))) is
     ∙ found_with definitions full_name (λ d. (d.0, is_scope d.1.sort)) files f q
 
-index_at : (old new : Index) (files : List File) (f : File) → IsIndexOf old files → HasAddedAll (all_items (length files) f) old new → IsIndexOf new (files ++ f ∷ [])
-index_at old new files f h k = record {
+-- the file's package is added
+abbrev pub IsPackaged : File → Index → Index → Type 0
+IsPackaged f old new = packaged.IsSound old.packages → HasPackage f.«package» old.packages new.packages
+
+index_at : (old new : Index) (files : List File) (f : File) → IsIndexOf old files → HasAddedAll (all_items (length files) f) old new → HasPackage f.«package» old.packages new.packages → IsIndexOf new (files ++ f ∷ [])
+index_at old new files f h k p = record {
   file_names = λ q. k.file_names q ∙ ap (λ (o : Option ℕ). option_or o (first_under q (file_items (length files) f.name))) (h.file_names q) ∙ file_with files f q;
   definitions = λ q. definition_with files f q (under q old.definitions) (under q new.definitions) (h.definitions q) (k.definitions q);
-  packages = λ q. package_with files f q (under q old.packages) (under q new.packages) (h.packages q) (k.packages q);
+  sound = p.0;
+  packages = λ q. package_with files f q (packaged.is_there q old.packages) (packaged.is_there q new.packages) (h.packages q) (p.1 q);
   extended = λ q z. extended_with files f q z (is_there q z old.extended) (is_there q z new.extended) (h.extended q z) (k.extended q z);
   places = places_with old.places new.places files f h.places k.places;
 }
 
 -- the index of files is that of these and the file that was added
-pub index_with : (index : ℕ) (f : File) (old new : Index) → HasAddedAll (all_items index f) old new → GoesOnWith index f old new
-index_with index f old new k files h is = index_at old new files f h (subst (λ (n : ℕ). HasAddedAll (all_items n f) old new) is k)
+pub index_with : (index : ℕ) (f : File) (old new : Index) → HasAddedAll (all_items index f) old new → IsPackaged f old new → GoesOnWith index f old new
+index_with index f old new k p files h is = index_at old new files f h (subst (λ (n : ℕ). HasAddedAll (all_items n f) old new) is k) (p h.sound)
 
 same_places : (old new : Places) (files : List File) → FindTheSamePlaces old new → ArePlacesOf old files → ArePlacesOf new files
 same_places old new files k h = record {
@@ -223,7 +209,8 @@ pub index_kept : (old new : Index) → FindAllTheSame old new → GoesOn old new
 index_kept old new k files h = record {
   file_names = λ q. k.file_names q ∙ h.file_names q;
   definitions = λ q. k.definitions q ∙ h.definitions q;
-  packages = λ q. ap (λ (o : Option ℕ). is_some o) (k.packages q) ∙ h.packages q;
+  sound = (k.packages h.sound).0;
+  packages = λ q. (k.packages h.sound).1 q ∙ h.packages q;
   extended = λ q z. k.extended q z ∙ h.extended q z;
   places = same_places old.places new.places files k.places h.places;
 }

@@ -1,6 +1,6 @@
 pub mod Numbered
 pub mod Maps
-pub mod Walk
+pub mod Packaged
 pub mod Told
 pub mod Whole
 pub mod Indexed

@@ -2,6 +2,7 @@
 use Rattle.std.proofs.Common.{◌≡◌, ℕ, ℤ, true, List, subst}
 use Rattle.std.specs.Prelude.{Result, Ok, Err, OnErr, is_err}
 use Rattle.pbx_link_names.specs.Numbers.{is_there}
+use Rattle.pbx_link_names.specs.Packages as packaged
 use Rattle.pbx_link_pool.specs.Index.{HaveAddedPlaces, ArePlacesAlikeBut, HaveForgottenPlaces, FindTheSamePlaces, new_places, HasAddedAll, AreAllAlikeBut, HasForgottenAll, FindAllTheSame, new_of}
 use Rattle.pbx_link_pool.specs.declared.places.Places.{Places}
 use Rattle.pbx_link_pool.specs.declared.places.PlaceItems.{PlaceItems}
@@ -26,7 +27,6 @@ added_at : (all : Items) (old new : Index) → HasAddedAll (new_of old all) old 
 added_at all old new h = record {
   file_names = added_new all.file_names old.file_names new.file_names h.file_names;
   definitions = added_new all.definitions old.definitions new.definitions h.definitions;
-  packages = added_new all.packages old.packages new.packages h.packages;
   extended = h.extended;
   places = added_places all.places old.places new.places h.places;
 }
@@ -43,18 +43,22 @@ back_places all old some new h k = record {
   services = set_back all.services old.services some.services new.services h.services k.services;
 }
 
-back_at : (all : Items) (old some new : Index) → AreAllAlikeBut (new_of old all) old some → HasForgottenAll (new_of old all) some new
+-- the packages are found as before
+abbrev pub IsPackageBack : Index → Index → Type 0
+IsPackageBack old new = packaged.IsSound old.packages → packaged.IsSound new.packages × ((q : List ℕ) → packaged.is_there q new.packages ≡ packaged.is_there q old.packages)
+
+back_at : (all : Items) (old some new : Index) → AreAllAlikeBut (new_of old all) old some → HasForgottenAll (new_of old all) some new → IsPackageBack old new
     → ((q : List ℕ) (z : ℤ) → is_there q z some.extended ≡ is_there q z old.extended) → FindAllTheSame old new
-back_at all old some new h k same = record {
+back_at all old some new h k p same = record {
   file_names = set_back all.file_names old.file_names some.file_names new.file_names h.file_names k.file_names;
   definitions = set_back all.definitions old.definitions some.definitions new.definitions h.definitions k.definitions;
-  packages = set_back all.packages old.packages some.packages new.packages h.packages k.packages;
+  packages = p;
   extended = λ q z. rw k.extended (same q z);
   places = back_places all.places old.places some.places new.places h.places k.places;
 }
 
 -- with what was added taken out again, all is found as before
-pub back_all : (all items : Items) (old some new : Index) → items ≡ new_of old all → AreAllAlikeBut items old some → HasForgottenAll items some new
+pub back_all : (all items : Items) (old some new : Index) → items ≡ new_of old all → AreAllAlikeBut items old some → HasForgottenAll items some new → IsPackageBack old new
     → ((q : List ℕ) (z : ℤ) → is_there q z some.extended ≡ is_there q z old.extended) → FindAllTheSame old new
-back_all all items old some new is h k same =
-    back_at all old some new (subst (λ (xs : Items). AreAllAlikeBut xs old some) is h) (subst (λ (xs : Items). HasForgottenAll xs some new) is k) same
+back_all all items old some new is h k p same =
+    back_at all old some new (subst (λ (xs : Items). AreAllAlikeBut xs old some) is h) (subst (λ (xs : Items). HasForgottenAll xs some new) is k) p same

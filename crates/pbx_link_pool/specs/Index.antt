@@ -1,16 +1,16 @@
 -- The index of a pool's files: what is found in it, and what a file adds to it.
-use Rattle.std.specs.Prelude.{◌≡◌, ℕ, ℤ, ◌||◌, List, [], ◌∷◌, ◌++◌, length, reverse, is_some, Some}
+use Rattle.std.specs.Prelude.{◌≡◌, ℕ, ℤ, ◌||◌, List, [], ◌∷◌, ◌++◌, length, Some}
 use Rattle.std.specs.List.{flat_map}
 use Rattle.std.specs.Option.{option_or}
 use Rattle.pbx_link_names.specs.Names.{under, first_under, without_items}
 use Rattle.pbx_link_names.specs.Numbers.{is_there, is_among}
+use Rattle.pbx_link_names.specs.Packages as packaged
 use Rattle.pbx_link_names.specs.declared.name_map.NameMap.{NameMap}
 use Rattle.pbx_desc_records.specs.declared.file.FileDescriptorProto.{FileDescriptorProto}
 use Rattle.pbx_link_definitions.specs.Names.{among}
 use Rattle.pbx_link_definitions.specs.Definitions.{definitions, messages, enums, extensions, services, message_name, enum_name, field_name, service_name}
-use Rattle.pbx_link_scope.specs.Scope.{packages}
 use Rattle.pbx_link_scope.specs.Pooled.{file_index, definition_with_file, scope_with_file, all_packages, is_extended}
-use Rattle.pbx_link_pool.specs.Items.{new_items, file_items, name_items, definition_items, place_items, extended_item}
+use Rattle.pbx_link_pool.specs.Items.{new_items, file_items, definition_items, place_items, extended_item}
 use Rattle.pbx_link_pool.specs.Places.{place_with_file}
 use Rattle.pbx_link_pool.specs.declared.places.Places.{Places}
 use Rattle.pbx_link_pool.specs.declared.places.PlaceItems.{PlaceItems}
@@ -92,12 +92,11 @@ pub record ArePlacesOf (places : Places) (files : List FileDescriptorProto) : Ty
 
 -- ---- the index
 
--- what is kept of the file of this index
+-- what is kept of the file of this index besides its package
 abbrev pub all_items : ℕ → FileDescriptorProto → Items
 all_items index f = record {
   file_names = file_items index f.name;
   definitions = definition_items index (definitions f);
-  packages = name_items index (reverse (packages f));
   extended = flat_map extended_item (extensions f);
   places = all_places index f;
 }
@@ -107,7 +106,6 @@ abbrev pub new_of : Index → Items → Items
 new_of index items = record {
   file_names = new_items index.file_names items.file_names;
   definitions = new_items index.definitions items.definitions;
-  packages = new_items index.packages items.packages;
   extended = items.extended;
   places = new_places index.places items.places;
 }
@@ -116,7 +114,6 @@ new_of index items = record {
 pub record HasAddedAll (items : Items) (old new : Index) : Type 0 where
   pub file_names : HasAdded items.file_names old.file_names new.file_names
   pub definitions : HasAdded items.definitions old.definitions new.definitions
-  pub packages : HasAdded items.packages old.packages new.packages
   pub extended : (q : List ℕ) (z : ℤ) → is_there q z new.extended ≡ (is_there q z old.extended || is_among q z items.extended)
   pub places : HaveAddedPlaces items.places old.places new.places
 
@@ -124,14 +121,12 @@ pub record HasAddedAll (items : Items) (old new : Index) : Type 0 where
 pub record AreAllAlikeBut (items : Items) (old new : Index) : Type 0 where
   pub file_names : AreAlikeBut items.file_names old.file_names new.file_names
   pub definitions : AreAlikeBut items.definitions old.definitions new.definitions
-  pub packages : AreAlikeBut items.packages old.packages new.packages
   pub places : ArePlacesAlikeBut items.places old.places new.places
 
 -- from each map what is under the names of its items is taken out; extensions stay
 pub record HasForgottenAll (items : Items) (old new : Index) : Type 0 where
   pub file_names : HasForgotten items.file_names old.file_names new.file_names
   pub definitions : HasForgotten items.definitions old.definitions new.definitions
-  pub packages : HasForgotten items.packages old.packages new.packages
   pub extended : new.extended ≡ old.extended
   pub places : HaveForgottenPlaces items.places old.places new.places
 
@@ -139,7 +134,7 @@ pub record HasForgottenAll (items : Items) (old new : Index) : Type 0 where
 pub record FindAllTheSame (old new : Index) : Type 0 where
   pub file_names : FindTheSame old.file_names new.file_names
   pub definitions : FindTheSame old.definitions new.definitions
-  pub packages : FindTheSame old.packages new.packages
+  pub packages : packaged.IsSound old.packages → packaged.IsSound new.packages × ((q : List ℕ) → packaged.is_there q new.packages ≡ packaged.is_there q old.packages)
   pub extended : (q : List ℕ) (z : ℤ) → is_there q z new.extended ≡ is_there q z old.extended
   pub places : FindTheSamePlaces old.places new.places
 
@@ -147,7 +142,8 @@ pub record FindAllTheSame (old new : Index) : Type 0 where
 pub record IsIndexOf (index : Index) (files : List FileDescriptorProto) : Type 0 where
   pub file_names : (q : List ℕ) → under q index.file_names ≡ file_index files q
   pub definitions : (q : List ℕ) → under q index.definitions ≡ scope_with_file (definition_with_file files q)
-  pub packages : (q : List ℕ) → is_some (under q index.packages) ≡ among (all_packages files) q
+  pub sound : packaged.IsSound index.packages
+  pub packages : (q : List ℕ) → packaged.is_there q index.packages ≡ among (all_packages files) q
   pub extended : (q : List ℕ) (z : ℤ) → is_there q z index.extended ≡ is_extended files q (Some z)
   pub places : ArePlacesOf index.places files
 

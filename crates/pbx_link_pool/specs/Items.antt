@@ -19,10 +19,6 @@ abbrev pub file_items : ℕ → Option (List ℕ) → List (List ℕ × ℕ)
 file_items index None = []
 file_items index (Some name) = (name, index) ∷ []
 
--- the index of the file under each of its names
-abbrev pub name_items : ℕ → List (List ℕ) → List (List ℕ × ℕ)
-name_items index names = map (λ name. (name, index)) names
-
 -- the index of the file under the full name of each definition, and whether names may be looked up in it
 abbrev pub definition_items : ℕ → List Defined → List (List ℕ × (ℕ × Bool))
 definition_items index ds = map (λ d. (full_name d, (index, is_scope d.sort))) ds

@@ -1,9 +1,9 @@
 // What the index of a pool keeps of one file.
 ghost use Rattle.std.specs.Prelude.{◌≡◌, ◌++◌, ◌∷◌, [], ℕ, List as ListOf, filter, map, IfOk, OnOk};
 ghost use Rattle.std.specs.List.{enumerate_from, flat_map};
-ghost use Rattle.pbx_link_definitions.specs.Names.{qualified, among, has_dot, prefixes, text_or_empty as text_or_empty_of};
+ghost use Rattle.pbx_link_definitions.specs.Names.{qualified, text_or_empty as text_or_empty_of};
 ghost use Rattle.pbx_link_definitions.specs.Definitions.{is_scope as is_scope_of};
-ghost use Rattle.pbx_link_pool.specs.Items.{is_new, new_items, file_items, name_items, definition_items, place_items, exact_item, extended_item};
+ghost use Rattle.pbx_link_pool.specs.Items.{is_new, new_items, file_items, definition_items, place_items, exact_item, extended_item};
 
 use pbx_desc_records::{
     DescriptorProto, EnumDescriptorProto, FieldDescriptorProto, ServiceDescriptorProto,
@@ -76,22 +76,6 @@ pub(crate) fn new_file_items(
 {
     let mut items = List::new(alloc);
     if let Some(name) = name {
-        add_new(map, &mut items, name.copy(alloc)?, index)?;
-    }
-    Ok(items)
-}
-
-/// The index of a file under each of the names. The only error is want of memory.
-pub(crate) fn new_name_items(
-    alloc: Global,
-    map: &NameMap<usize>,
-    index: usize,
-    names: &[Text],
-) -> Result<List<(Text, usize)>, NoMemory>
-    ensures { IfOk result (λ items. items ≡ new_items map.now (name_items index names.now)) }
-{
-    let mut items = List::new(alloc);
-    for name in names {
         add_new(map, &mut items, name.copy(alloc)?, index)?;
     }
     Ok(items)

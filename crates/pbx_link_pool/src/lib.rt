@@ -4,9 +4,9 @@
 mod index;
 mod items;
 mod linking;
+mod packages;
 mod places;
 mod pool;
-mod prefixes;
 mod refusal;
 mod tables;
 

@@ -228,7 +228,7 @@ impl Pooled for Pool {
     }
 
     fn is_package(&self, name: &str) -> bool {
-        self.index.packages.get(name).is_some()
+        self.index.packages.contains(name)
     }
 
     fn is_extended(&self, extendee: &str, number: Option<i32>) -> bool {

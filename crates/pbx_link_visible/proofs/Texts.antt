@@ -1,11 +1,10 @@
 -- Sets and maps whose keys are looked up as texts.
-use Rattle.std.proofs.Common.{◌≡◌, ◌∙◌, ℕ, zero, suc, ◌+◌, ◌<◌, ◌≤◌, List, [], ◌∷◌, ◌++◌, length, take, get_or, Bool, true, false, ◌||◌, if◌then◌else◌, Option, Some, None, Bor, refl, ap, sym, arith}
+use Rattle.std.proofs.Common.{◌≡◌, ◌∙◌, ℕ, zero, suc, ◌+◌, ◌<◌, ◌≤◌, List, [], ◌∷◌, ◌++◌, length, take, get_or, Bool, true, false, ◌||◌, if◌then◌else◌, Option, Some, None, refl, ap, sym, arith}
 use Rattle.std.specs.Prelude.{◌==◌, slice_get, find}
 use Rattle.std.specs.List.{list_any, flat_map}
 use Rattle.std.specs.Option.{option_or}
 use Rattle.std.specs.Ordering.{nat_cmp, is_eq}
 use Rattle.std.proofs.lemmas.Bool.Decides.{nat_tests}
-use Rattle.std.specs.Cmp.Lexicographic.{slice_cmp}
 use Rattle.std.specs.Prelude.{String}
 use Rattle.std.specs.String.{string_bytes, string_cmp}
 use Rattle.std.specs.Str.{bytes_eq}
@@ -13,7 +12,8 @@ use Rattle.std.specs.BTreeSet.{BTreeSet, Updates}
 use Rattle.std.proofs.lemmas.List.{take_more, length-take-le, append-nil, append_assoc}
 use Rattle.std.proofs.lemmas.Grind.{flat_map-append}
 use Rattle.std.proofs.lemmas.List.Folds.{list_any_more, list_any-append}
-use Rattle.std.proofs.lemmas.Map.Text.{is_eq-slice_cmp, btree_set_updates_text}
+use Rattle.std.proofs.lemmas.Map.Text.{btree_set_updates_text}
+use Rattle.pbx_link_definitions.specs.Names.{among}
 use Rattle.pbx_link_visible.specs.Names.{has_text, HasAddedNames, first_index}
 
 -- ---- one name more
@@ -21,11 +21,6 @@ use Rattle.pbx_link_visible.specs.Names.{has_text, HasAddedNames, first_index}
 if_or : (b c : Bool) → (if b then true else c) ≡ (b || c)
 if_or true c = refl
 if_or false c = refl
-
-pub text_inserted : (key : Bor (List ℕ)) (s n : BTreeSet (Bor (List ℕ))) → Updates (λ x y. slice_cmp nat_cmp x.now y.now) s n key true → HasAddedNames (λ k. k.now) (bytes_eq key.now) s n
-text_inserted key s n updates q =
-    updates.0 (record { ref_ptr = (0, 0); now = q }) ∙ ap (λ (b : Bool). if b then true else has_text (λ (k : Bor (List ℕ)). k.now) s q) (is_eq-slice_cmp key.now q)
-    ∙ if_or (bytes_eq key.now q) (has_text (λ (k : Bor (List ℕ)). k.now) s q)
 
 pub key_inserted : {Y : Type 0} (key : String Y) (name : List ℕ) (s n : BTreeSet (String Y)) → string_bytes key ≡ name → Updates string_cmp s n key true → HasAddedNames string_bytes (bytes_eq name) s n
 key_inserted key name s n is updates q =
@@ -47,24 +42,32 @@ any_more {K} {X} text test xs i x s t u lt is before after q =
     ∙ ap (λ (b : Bool). b || has_text text s q) (ap (λ (y : X). list_any (λ z. test z q) (take i xs) || test y q) is ∙ sym (list_any_more (λ y. test y q) xs i x lt))
 
 -- names of items, one after another
-pub names_more : {K X : Type 0} (text : K → List ℕ) (names : X → List (List ℕ)) (first : List (List ℕ)) (xs : List X) (i : ℕ) (x : X) (s t : BTreeSet K) → i < length xs → x ≡ get_or xs i x
-    → ((q : List ℕ) → has_text text s q ≡ list_any (λ n. bytes_eq n q) (first ++ flat_map names (take i xs))) → HasAddedNames text (λ q. list_any (λ n. bytes_eq n q) (names x)) s t
-    → (q : List ℕ) → has_text text t q ≡ list_any (λ n. bytes_eq n q) (first ++ flat_map names (take (i + 1) xs))
-names_more {K} {X} text names first xs i x s t lt is before after q =
-    after q ∙ ap (λ (b : Bool). any (names x) || b) (before q) ∙ swap (any (names x)) (any (first ++ flat_map names (take i xs)))
+pub names_more : {X : Type 0} (names : X → List (List ℕ)) (first : List (List ℕ)) (xs : List X) (i : ℕ) (x : X) (before now : List ℕ → Bool) → i < length xs → x ≡ get_or xs i x
+    → ((q : List ℕ) → before q ≡ among (first ++ flat_map names (take i xs)) q) → ((q : List ℕ) → now q ≡ (among (names x) q || before q))
+    → (q : List ℕ) → now q ≡ among (first ++ flat_map names (take (i + 1) xs)) q
+names_more {X} names first xs i x before now lt is so_far after q =
+    after q ∙ ap (λ (b : Bool). any (names x) || b) (so_far q) ∙ swap (any (names x)) (any (first ++ flat_map names (take i xs)))
     ∙ sym (list_any-append (λ n. bytes_eq n q) (first ++ flat_map names (take i xs)) (names x))
     ∙ ap any (append_assoc first (flat_map names (take i xs)) (names x)
     ∙ ap (λ (ns : List (List ℕ)). first ++ ns) (ap (λ (ns : List (List ℕ)). flat_map names (take i xs) ++ ns) (sym (append-nil (names x))) ∙ sym (flat_map-append names (take i xs) (x ∷ []))
     ∙ ap (flat_map names) (ap (λ (y : X). take i xs ++ y ∷ []) is ∙ sym (take_more xs i x lt))))
   where
     any : List (List ℕ) → Bool
-    any ns = list_any (λ n. bytes_eq n q) ns
+    any ns = among ns q
 
     swap : (a b : Bool) → (a || b) ≡ (b || a)
     swap true true = refl
     swap true false = refl
     swap false true = refl
     swap false false = refl
+
+pub names_first : (names : List (List ℕ)) (before now : List ℕ → Bool) → ((q : List ℕ) → before q ≡ false) → ((q : List ℕ) → now q ≡ (among names q || before q)) → (q : List ℕ) → now q ≡ among (names ++ []) q
+names_first names before now none after q =
+    after q ∙ ap (λ (b : Bool). among names q || b) (none q) ∙ or_false (among names q) ∙ ap (λ (ns : List (List ℕ)). among ns q) (sym (append-nil names))
+  where
+    or_false : (b : Bool) → (b || false) ≡ b
+    or_false true = refl
+    or_false false = refl
 
 -- ---- first indexes
 

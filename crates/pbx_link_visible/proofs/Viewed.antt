@@ -1,5 +1,5 @@
 -- What a file's view of a pool is made of, and what it answers.
-use Rattle.std.proofs.Common.{◌≡◌, ◌∙◌, ℕ, List, [], ◌∷◌, ◌++◌, map, Bool, true, false, ◌||◌, ◌&&◌, if◌then◌else◌, Option, Some, None, Bor, refl, ap, sym, subst}
+use Rattle.std.proofs.Common.{◌≡◌, ◌∙◌, ℕ, List, [], ◌∷◌, ◌++◌, map, Bool, true, false, ◌||◌, ◌&&◌, if◌then◌else◌, Option, Some, None, refl, ap, sym, subst}
 use Rattle.std.specs.Prelude.{slice_get, find, option_map, reverse}
 use Rattle.std.specs.List.{list_any, flat_map}
 use Rattle.std.specs.Option.{option_or}
@@ -7,6 +7,8 @@ use Rattle.std.specs.Str.{bytes_eq}
 use Rattle.std.specs.Ordering.{nat_cmp}
 use Rattle.std.specs.BTreeSet.{BTreeSet, contains}
 use Rattle.std.proofs.lemmas.List.Folds.{find-append, list_any-append}
+use Rattle.pbx_link_names.specs.Packages.{is_there}
+use Rattle.pbx_link_names.specs.declared.package_names.PackageNames.{PackageNames}
 use Rattle.pbx_desc_records.specs.declared.file.FileDescriptorProto.{FileDescriptorProto}
 use Rattle.pbx_link_definitions.specs.Names.{among}
 use Rattle.pbx_link_definitions.specs.Definitions.{full_name, is_scope, definitions, message_name, enum_name, messages, enums}
@@ -15,7 +17,7 @@ use Rattle.pbx_link_scope.specs.declared.types.Bound.{Bound}
 use Rattle.pbx_link_scope.specs.declared.types.Bound.TheVariants.{Message as to_message, Enum as to_enum}
 use Rattle.pbx_link_scope.specs.Scope.{visible, reached, packages, bound_name, type_named, is_scope_name}
 use Rattle.pbx_link_visible.specs.Imports.{AreVisible}
-use Rattle.pbx_link_visible.specs.Names.{has_text, is_among, if_seen, is_seen, packages_of, packages_at}
+use Rattle.pbx_link_visible.specs.Names.{is_among, if_seen, is_seen, packages_of, packages_at}
 use Rattle.pbx_link_visible.specs.Look.{SeesFiles}
 use Rattle.pbx_link_visible.proofs.Counted.{is_called, defined_once, typed_once}
 use Rattle.pbx_link_visible.proofs.Seen.{seen_found, seen_any}
@@ -30,9 +32,9 @@ packages_seen files (i ∷ indexes) (g ∷ fs) e =
     let others : map (slice_get files) indexes ≡ map Some fs = cc in
     ap (λ (o : Option FileDescriptorProto). packages_of o ++ flat_map (packages_at files) indexes) here ∙ ap (λ (ns : List (List ℕ)). packages g ++ ns) (packages_seen files indexes fs others)
 
-pub sees : (files : List FileDescriptorProto) (f g : FileDescriptorProto) (found items again : List ℕ) (indexes : BTreeSet ℕ) (names : BTreeSet (Bor (List ℕ)))
+pub sees : (files : List FileDescriptorProto) (f g : FileDescriptorProto) (found items again : List ℕ) (indexes : BTreeSet ℕ) (names : PackageNames)
     → AreDistinct files → g ≡ f → AreVisible files g found → items ≡ found → ((i : ℕ) → contains nat_cmp indexes i ≡ is_among items i) → again ≡ found
-    → ((q : List ℕ) → has_text (λ k. k.now) names q ≡ among (packages g ++ flat_map (packages_at files) again) q) → SeesFiles files f indexes names
+    → ((q : List ℕ) → is_there q names ≡ among (packages g ++ flat_map (packages_at files) again) q) → SeesFiles files f indexes names
 sees files f g found items again indexes names distinct same visible first set second packaged =
     subst (λ (h : FileDescriptorProto). SeesFiles files h indexes names) same (
       distinct,
@@ -71,7 +73,7 @@ from_none None e None = refl
 from_none None e (Some y) = refl
 from_none (Some x) e b = absurd (cc)
 
-module _ (files : List FileDescriptorProto) (f : FileDescriptorProto) (indexes : BTreeSet ℕ) (names : BTreeSet (Bor (List ℕ))) (s : SeesFiles files f indexes names) (name : List ℕ) where
+module _ (files : List FileDescriptorProto) (f : FileDescriptorProto) (indexes : BTreeSet ℕ) (names : PackageNames) (s : SeesFiles files f indexes names) (name : List ℕ) where
   abbrev is_typed : Bound → Bool
   is_typed b = bytes_eq (bound_name b) name
 
@@ -97,7 +99,7 @@ module _ (files : List FileDescriptorProto) (f : FileDescriptorProto) (indexes :
 
   -- a name is that of a scope in the file itself, in a file of the pool that is seen, or of a package
   pub scoped : is_scope_name (visible files f) name
-      ≡ ((list_any (λ d. is_scope d.sort && bytes_eq (full_name d) name) (definitions f) || is_seen (contains nat_cmp indexes) (scope_with_file (definition_with_file files name))) || has_text (λ k. k.now) names name)
+      ≡ ((list_any (λ d. is_scope d.sort && bytes_eq (full_name d) name) (definitions f) || is_seen (contains nat_cmp indexes) (scope_with_file (definition_with_file files name))) || is_there name names)
   unfolding is_scope_name
   scoped =
       let fs = reached f.dependency (reverse files) in
@@ -135,12 +137,12 @@ module _ (files : List FileDescriptorProto) (f : FileDescriptorProto) (indexes :
   seen_scope = is_seen (contains nat_cmp indexes) (scope_with_file (definition_with_file files name))
 
   pub scope_answers : true ≡ own_scope → true ≡ is_scope_name (visible files f) name
-  scope_answers own = ap (λ (b : Bool). (b || seen_scope) || has_text (λ k. k.now) names name) own ∙ sym scoped
+  scope_answers own = ap (λ (b : Bool). (b || seen_scope) || is_there name names) own ∙ sym scoped
 
   pub pool_scope_answers : false ≡ own_scope → true ≡ seen_scope → true ≡ is_scope_name (visible files f) name
   pool_scope_answers own seen =
-      ap (λ (b : Bool). b || has_text (λ k. k.now) names name) seen ∙ ap (λ (b : Bool). (b || seen_scope) || has_text (λ k. k.now) names name) own ∙ sym scoped
+      ap (λ (b : Bool). b || is_there name names) seen ∙ ap (λ (b : Bool). (b || seen_scope) || is_there name names) own ∙ sym scoped
 
-  pub package_answers : (r : Bool) → false ≡ own_scope → false ≡ seen_scope → r ≡ has_text (λ k. k.now) names name → r ≡ is_scope_name (visible files f) name
+  pub package_answers : (r : Bool) → false ≡ own_scope → false ≡ seen_scope → r ≡ is_there name names → r ≡ is_scope_name (visible files f) name
   package_answers r own seen is =
-      is ∙ ap (λ (b : Bool). b || has_text (λ k. k.now) names name) seen ∙ ap (λ (b : Bool). (b || seen_scope) || has_text (λ k. k.now) names name) own ∙ sym scoped
+      is ∙ ap (λ (b : Bool). b || is_there name names) seen ∙ ap (λ (b : Bool). (b || seen_scope) || is_there name names) own ∙ sym scoped

@@ -5,7 +5,8 @@ use Rattle.std.specs.Str.{bytes_eq}
 use Rattle.std.specs.Ordering.{nat_cmp}
 use Rattle.std.specs.BTreeMap.{BTreeMap, get_by_text}
 use Rattle.std.specs.BTreeSet.{BTreeSet, contains}
-use denote.Ref.{Bor}
+use Rattle.pbx_link_names.specs.Packages.{is_there}
+use Rattle.pbx_link_names.specs.declared.package_names.PackageNames.{PackageNames}
 use Rattle.pbx_desc_records.specs.declared.file.FileDescriptorProto.{FileDescriptorProto}
 use Rattle.pbx_link_definitions.specs.Names.{among}
 use Rattle.pbx_link_definitions.specs.Definitions.{full_name, is_scope, definitions, message_name, enum_name, messages, enums}
@@ -21,8 +22,8 @@ FindsOwnNames f by_message by_enum scopes =
     × ((q : List ℕ) → has_text string_bytes scopes q ≡ list_any (λ d. is_scope d.sort && bytes_eq (full_name d) q) (definitions f))
 
 -- the indexes of the files that the file sees besides itself, and the packages of all that it sees
-abbrev pub SeesFiles : List FileDescriptorProto → FileDescriptorProto → BTreeSet ℕ → BTreeSet (Bor (List ℕ)) → Type 0
+abbrev pub SeesFiles : List FileDescriptorProto → FileDescriptorProto → BTreeSet ℕ → PackageNames → Type 0
 SeesFiles files f indexes names =
     AreDistinct files
     × ((is : List ℕ) × (map (slice_get files) is ≡ map Some (reached f.dependency (reverse files))) × ((i : ℕ) → contains nat_cmp indexes i ≡ is_among is i))
-    × ((q : List ℕ) → has_text (λ k. k.now) names q ≡ among (flat_map packages (f ∷ reached f.dependency (reverse files))) q)
+    × ((q : List ℕ) → is_there q names ≡ among (flat_map packages (f ∷ reached f.dependency (reverse files))) q)

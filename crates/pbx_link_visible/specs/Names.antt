@@ -4,6 +4,9 @@ use Rattle.std.specs.List.{list_any}
 use Rattle.std.specs.Cmp.Lexicographic.{slice_cmp}
 use Rattle.std.specs.Ordering.{nat_cmp}
 use Rattle.std.specs.BTreeSet.{BTreeSet, contains_by}
+use Rattle.pbx_link_names.specs.Packages.{is_there, IsSound}
+use Rattle.pbx_link_names.specs.declared.package_names.PackageNames.{PackageNames}
+use Rattle.pbx_link_definitions.specs.Names.{among}
 use Rattle.pbx_desc_records.specs.declared.file.FileDescriptorProto.{FileDescriptorProto}
 use Rattle.pbx_link_scope.specs.Scope.{packages}
 
@@ -14,6 +17,10 @@ has_text text s name = contains_by (λ k. slice_cmp nat_cmp name (text k)) s
 -- the set has what it had, and the names that pass the test
 abbrev pub HasAddedNames : {K : Type 0} → (K → List ℕ) → (List ℕ → Bool) → BTreeSet K → BTreeSet K → Type 0
 HasAddedNames text test old new = (name : List ℕ) → has_text text new name ≡ (test name || has_text text old name)
+
+-- the names have what they had, and these packages; their nodes are those of names before and after
+abbrev pub HasAddedPackages : List (List ℕ) → PackageNames → PackageNames → Type 0
+HasAddedPackages names old new = IsSound old → ((q : List ℕ) → is_there q new ≡ (among names q || is_there q old)) × IsSound new
 
 -- the index of the first item that passes the test, counted from this number
 abbrev pub first_index : {X : Type 0} → (X → Bool) → ℕ → List X → Option ℕ

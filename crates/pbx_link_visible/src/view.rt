@@ -13,6 +13,7 @@ use crate::imports::visible_files;
 use crate::own_names::{first_indexes, first_part, scope_names};
 use crate::packages::package_names;
 use pbx_link_definitions::FileParts;
+use pbx_link_names::PackageNames;
 use pbx_link_scope::{Bound, Pooled, Visible};
 use pbx_wire::NoMemory;
 use std::alloc::Global;
@@ -102,7 +103,7 @@ pub struct VisibleFiles<'a, P: Pooled> {
     messages: BTreeMap<String, usize>,
     enums: BTreeMap<String, usize>,
     scopes: BTreeSet<String>,
-    packages: BTreeSet<&'a str>,
+    packages: PackageNames,
 }
 
 impl<'a, P: Pooled> Model for VisibleFiles<'a, P> {

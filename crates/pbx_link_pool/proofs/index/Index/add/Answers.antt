@@ -2,13 +2,15 @@ use Rattle.std.proofs.Common.{◌∙◌, sym}
 use Rattle.pbx_link_names.proofs.Values.{on_ok_at}
 use Rattle.pbx_link_pool.specs.Index.{all_items}
 use Rattle.pbx_link_pool.proofs.Indexed.{index_with, index_kept}
+use Rattle.pbx_link_pool.proofs.Packaged.{package_back}
 use Rattle.pbx_link_pool.proofs.Whole.{on_err_at, added_all, back_all}
 use Rattle.pbx_link_pool.proofs.index.Index.add.Goals as goal
 
 pub returns-then-is_err-clause-unchanged : goal.returns-then-is_err-clause-unchanged
 returns-then-is_err-clause-unchanged c =
     index_kept c.args.self.now c.forget.new.self
-    (back_all (all_items c.args.index c.args.parts.now) c.in_ok-items.items c.args.self.now c.add_all.new.self c.forget.new.self c.in_ok-items.ensures c.add_all.ensures.alike c.forget.ensures
+    (back_all (all_items c.args.index c.args.parts.now) c.in_ok-items.items c.args.self.now c.add_all.new.self c.forget.new.self c.in_ok-items.ensures c.add_all.ensures.alike c.forget.ensures.forgotten
+    (package_back c.args.self.now.packages c.add_all.new.self.packages c.forget.new.self.packages c.file.result.now.«package» c.missing_package-missing.result c.missing_package-missing.ensures c.add_all.ensures.rest c.forget.ensures.«package»)
     (on_err_at c.add_all.result (sym c.is_err.ensures.value ∙ c.if-is_err.true) c.add_all.ensures.extended))
 
 pub returns-clause-added : goal.returns-clause-added
@@ -16,3 +18,5 @@ returns-clause-added c =
     index_with c.args.index c.args.parts.now c.args.self.now c.add_all.new.self
     (added_all (all_items c.args.index c.args.parts.now) c.in_ok-items.items c.args.self.now c.add_all.new.self c.in_ok-items.ensures
     (on_ok_at c.add_all.result (sym c.is_err.ensures.value ∙ c.if-is_err.false) c.add_all.ensures.added))
+    (λ s. on_ok_at c.add_all.result (sym c.is_err.ensures.value ∙ c.if-is_err.false) c.add_all.ensures.packaged c.args.parts.now.«package» s
+    (rw c.file.ensures at c.missing_package-missing.ensures))
