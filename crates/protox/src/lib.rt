@@ -15,7 +15,7 @@ pub use pbx_types;
 pub use pbx_wire;
 pub use pbx_wkt;
 pub use protox_compile;
-pub use protox_compile::{Compiled, Compiler, compile};
+pub use protox_compile::{Compiled, Compiler, Opened, compile};
 pub use protox_file;
 pub use protox_file as file;
 pub use protox_file::Error;

@@ -1,3 +1,5 @@
 pub mod Listed
 pub mod Causes
 pub mod Standard
+pub mod Kept
+pub mod Repeats

@@ -1,3 +1,4 @@
 pub mod State
 pub mod Sets
+pub mod Repeats
 pub mod Compiling

@@ -1,25 +1,24 @@
 //! The compiler: files and all that they import.
 
-ghost use Rattle.std.specs.Prelude.{◌≡◌, ◌≤◌, [], IfOk, IfErr, OnOk, OnErr, IsTrue, length, map, min, true};
+ghost use Rattle.std.specs.Prelude.{◌≡◌, ◌≤◌, [], IfOk, IfErr, OnOk, OnErr, IsTrue, Some, length, map, min, true};
 ghost use Rattle.std.specs.Slice.Iter.{iter_rest};
-ghost use Rattle.protox_io.specs.Count.{Later};
 ghost use Rattle.protox_file_sources.specs.Causes.{FaultCause};
 ghost use Rattle.pbx_link_rules.specs.Pool.{ArePooled};
 ghost use Rattle.protox_file_sources.specs.Told.{ByLookups};
 ghost use Rattle.protox_compile_walk.specs.Walk.{is_done, records};
-ghost use Rattle.protox_compile_walk.specs.Opening.{opening, closure, root_of, Accepted};
+ghost use Rattle.protox_compile_walk.specs.Opening.{opening, closure, root_of, report_of, Accepted};
 ghost use Rattle.protox_compile_walk.specs.Refusals.{RefusesOpening, HasOpeningCause, HasOpeningsCause, Grows};
 ghost use Rattle.protox_compile_walk.specs.Opens.{Opens, OpensTimes, GrowsWithin, is_settled};
 ghost use Rattle.protox_compile_walk.specs.Closures.{StopsAt};
 ghost use Rattle.protox_compile_walk.specs.Compiled.{IsOrdered, metadata_of};
-ghost use Rattle.protox_compile.specs.State.{fresh, most_files};
+ghost use Rattle.protox_compile.specs.State.{KeepsSettings, fresh, most_files};
 ghost use Rattle.protox_compile.specs.Sets.{listed as listed_of, IsSet, AreDecodable, IsUnencodable};
 
 use crate::sets::{encode_listed, listed};
 use pbx_desc_records::FileDescriptorSet;
 use pbx_link::DescriptorPool;
 use pbx_wire::{NoMemory, Recs, Texts};
-use protox_compile_walk::{FinishedFiles, open_path};
+use protox_compile_walk::{FinishedFiles, Opened, open_path};
 use protox_file::StandardResolver;
 use protox_file_sources::{Disk, Error, FileMetadata, FileResolver, looked_up_once};
 use std::alloc::Global;
@@ -106,13 +105,20 @@ impl<R: FileResolver> Compiler<R> {
 
     /// Opens the file at a path, with all that it imports, each before what imports it.
     ///
+    /// Answers what the name of the path was before: `Compiled` where it was not compiled, `Import` where it was compiled and
+    /// only imported, and `Again` where it was opened.
+    ///
     /// The name of the path is what the resolver says, and else `path_to_file_name`. A file that is there already is
     /// marked as opened, unless the path was resolved and is another than the file's, and nothing is read. A refused call
     /// leaves the files that were there with their marks, and adds the imports that were finished, as imports.
-    pub fn open_file(&mut self, path: &str) -> Result<(), Error>
+    pub fn open_file(&mut self, path: &str) -> Result<Opened, Error>
         // Over a resolver that tells, it does what opening is, by look-ups of the names that it asked for.
         ensures ok { IsTrue (R.library self.old.resolver).tells → OnOk result (ByLookups (R.library self.old.resolver).files
             (λ lookups. opening lookups (R.library self.old.resolver).resolves self.old.limit path.now self.old.done ≡ (self.new.done, Accepted))) }
+
+        // It answers what the name was before.
+        ensures report { IsTrue (R.library self.old.resolver).tells →
+            IfOk result (λ report. report_of (R.library self.old.resolver).resolves path.now self.old.done ≡ Some report) }
 
         // It is refused with the fault of the opening, or for want of memory or a fault of the resolver.
         ensures err { IsTrue (R.library self.old.resolver).tells → IfErr result (λ error. ByLookups (R.library self.old.resolver).files
@@ -126,9 +132,7 @@ impl<R: FileResolver> Compiler<R> {
         ensures grows { OnErr result (Grows self.old.done self.new.done) }
         ensures cause { IfErr result (HasOpeningCause self.old.limit path.now self.new.done
             (FaultCause (R.library self.old.resolver) (R.count self.old.resolver) (R.count self.new.resolver))) }
-        ensures later { Later (R.count self.old.resolver) (R.count self.new.resolver) }
-        ensures settings { self.new ≡ record self.old { resolver = self.new.resolver; done = self.new.done } }
-        ensures keeps { R.library self.new.resolver ≡ R.library self.old.resolver }
+        ensures keeps { KeepsSettings R.library R.count self.old self.new }
     {
         open_path(
             &mut self.resolver,
@@ -139,7 +143,7 @@ impl<R: FileResolver> Compiler<R> {
         )
     }
 
-    /// Opens the files at paths in order, up to the first that is refused, as `open_file` does each.
+    /// Opens the files at paths in order, up to the first that is refused, as `open_file` does each. What the names were before is not told.
     pub fn open_files(&mut self, paths: &Texts) -> Result<(), Error>
         ensures ok { IsTrue (R.library self.old.resolver).tells → OnOk result (ByLookups (R.library self.old.resolver).files
             (λ lookups. closure lookups (R.library self.old.resolver).resolves self.old.limit paths.now self.old.done ≡ (self.new.done, Accepted))) }
@@ -150,15 +154,13 @@ impl<R: FileResolver> Compiler<R> {
         ensures grows { OnErr result (GrowsWithin (length paths.now) self.old.done self.new.done) }
         ensures cause { IfErr result (HasOpeningsCause self.old.limit paths.now self.new.done
             (FaultCause (R.library self.old.resolver) (R.count self.old.resolver) (R.count self.new.resolver))) }
-        ensures later { Later (R.count self.old.resolver) (R.count self.new.resolver) }
-        ensures settings { self.new ≡ record self.old { resolver = self.new.resolver; done = self.new.done } }
-        ensures keeps { R.library self.new.resolver ≡ R.library self.old.resolver }
+        ensures keeps { KeepsSettings R.library R.count self.old self.new }
     {
         // So the look-ups of all paths agree.
         looked_up_once();
         for path in paths.as_slice() {
             match self.open_file(path.as_str()) {
-                Ok(()) => {}
+                Ok(_) => {}
                 Err(error) => return Err(error),
             }
         }

@@ -1,20 +1,22 @@
 //! Compiling the files at paths at once.
 
-ghost use Rattle.std.specs.Prelude.{◌≡◌, [], IsTrue, IfOk, IfErr, List};
+ghost use Rattle.std.specs.Prelude.{◌≡◌, ◌++◌, [], IsTrue, IfOk, IfErr, OnOk, Some, List as ListOf};
 ghost use Rattle.pbx_link_rules.specs.Pool.{ArePooled};
 ghost use Rattle.pbx_wkt_files.specs.Files.{wkt_files};
-ghost use Rattle.protox_io.specs.Count.{Later};
 ghost use Rattle.protox_file_sources.specs.Causes.{FaultCause};
 ghost use Rattle.protox_file.specs.Standard.{standard};
 ghost use Rattle.protox_compile_walk.specs.Walk.{Done, records};
 ghost use Rattle.protox_compile_walk.specs.Compiled.{IsOrdered};
+ghost use Rattle.protox_compile.specs.State.{KeepsFiles, KeepsSettings, fresh};
+ghost use Rattle.protox_compile.specs.Repeats.{index_if, is_again, repeats};
 ghost use Rattle.protox_compile.specs.Compiling.{Compiles, StopsCompiling, HasCompilingCause, whole_set};
 
 use crate::compiler::Compiler;
 use pbx_desc_records::FileDescriptorSet;
-use pbx_wire::{NoMemory, Texts};
+use pbx_wire::{List, NoMemory, Texts};
+use protox_compile_walk::Opened;
 use protox_file::StandardResolver;
-use protox_file_sources::{Disk, Error, FileResolver};
+use protox_file_sources::{Disk, Error, FileResolver, looked_up_once};
 use std::alloc::Global;
 
 /// What compiling leaves: the disk, and the set of the files.
@@ -26,24 +28,73 @@ pub struct Compiled<D> {
     pub result: Result<FileDescriptorSet, Error>,
 }
 
-/// A compiler of the resolver, with the files at the paths opened in order; or the resolver, and why one is refused.
+/// A compiler with files opened, and which of the paths were given again.
+#[derive(Drop)]
+pub struct OpenedAll<R> {
+    /// The compiler.
+    pub compiler: Compiler<R>,
+    /// The indices of the paths whose name is that of an earlier path, in their order.
+    pub repeated: List<u64>,
+}
+
+/// Adds the index of a path that was opened again.
+fn note(repeated: &mut List<u64>, index: u64, report: Opened) -> Result<(), NoMemory>
+    ensures { OnOk result (repeated.new ≡ repeated.old ++ index_if (is_again (Some report)) index []) }
+{
+    match report {
+        Opened::Again => repeated.add(index),
+        Opened::Compiled | Opened::Import => Ok(()),
+    }
+}
+
+/// Opens the files at the paths in order, up to the first that is refused, and notes which ones are opened again.
+fn open_each<R: FileResolver>(
+    compiler: &mut Compiler<R>,
+    files: &Texts,
+    repeated: &mut List<u64>,
+) -> Result<(), Error>
+    requires empty { compiler.old ≡ fresh compiler.old.resolver }
+    requires none { repeated.old ≡ [] }
+    ensures ok { IsTrue (R.library compiler.old.resolver).tells →
+        OnOk result (Compiles (R.library compiler.old.resolver) files.now (λ done. compiler.new.done ≡ done)) }
+    ensures repeated { IsTrue (R.library compiler.old.resolver).tells →
+        OnOk result (repeated.new ≡ repeats (R.library compiler.old.resolver).resolves files.now) }
+    ensures err { IsTrue (R.library compiler.old.resolver).tells → IfErr result (StopsCompiling (R.library compiler.old.resolver) files.now) }
+    ensures cause { IfErr result (HasCompilingCause files.now
+        (FaultCause (R.library compiler.old.resolver) (R.count compiler.old.resolver) (R.count compiler.new.resolver))) }
+    ensures keeps { KeepsSettings R.library R.count compiler.old compiler.new }
+{
+    // So the look-ups of all paths agree.
+    looked_up_once();
+    let paths = files.as_slice();
+    for index in 0..paths.len() {
+        let report = compiler.open_file(paths[index].as_str())?;
+        note(repeated, index as u64, report)?;
+    }
+    Ok(())
+}
+
+/// A compiler of the resolver, with the files at the paths opened in order, and which of them were given again; or the resolver, and
+/// why one is refused.
 pub fn open_all<R: FileResolver>(
     alloc: Global,
     resolver: R,
     files: &Texts,
-) -> Result<Compiler<R>, (R, Error)>
-    ensures ok { IsTrue (R.library resolver).tells → IfOk result (λ c. Compiles (R.library resolver) files.now (λ done. c.done ≡ done)) }
+) -> Result<OpenedAll<R>, (R, Error)>
+    ensures ok { IsTrue (R.library resolver).tells → IfOk result (λ o. Compiles (R.library resolver) files.now (λ done. o.compiler.done ≡ done)) }
+    ensures repeated { IsTrue (R.library resolver).tells → IfOk result (λ o. o.repeated ≡ repeats (R.library resolver).resolves files.now) }
     ensures err { IsTrue (R.library resolver).tells → IfErr result (λ e. StopsCompiling (R.library resolver) files.now e.1) }
     ensures cause { IfErr result (λ e. HasCompilingCause files.now (FaultCause (R.library resolver) (R.count resolver) (R.count e.0)) e.1) }
-    ensures kept { IfOk result (λ c. (R.library c.resolver ≡ R.library resolver) × Later (R.count resolver) (R.count c.resolver)) }
-    ensures back { IfErr result (λ e. (R.library e.0 ≡ R.library resolver) × Later (R.count resolver) (R.count e.0)) }
+    ensures keeps { IfOk result (λ o. KeepsFiles R.library R.count resolver o.compiler.resolver) }
+    ensures back { IfErr result (λ e. KeepsFiles R.library R.count resolver e.0) }
 {
     let mut compiler = match Compiler::with_file_resolver(alloc, resolver) {
         Ok(compiler) => compiler,
         Err(resolver) => return Err((resolver, Error::from(NoMemory))),
     };
-    match compiler.open_files(files) {
-        Ok(()) => Ok(compiler),
+    let mut repeated = List::new(alloc);
+    match open_each(&mut compiler, files, &mut repeated) {
+        Ok(()) => Ok(OpenedAll { compiler, repeated }),
         Err(error) => Err((compiler.into_resolver(), error)),
     }
 }
@@ -56,13 +107,12 @@ fn compile_with<R: FileResolver>(
 ) -> (R, Result<FileDescriptorSet, Error>)
     ensures ok { IsTrue (R.library resolver).tells → IfOk result.1 (λ set. Compiles (R.library resolver) files.now (λ done. set ≡ whole_set done)) }
     ensures err { IsTrue (R.library resolver).tells → IfErr result.1 (StopsCompiling (R.library resolver) files.now) }
-    ensures ordered { IfOk result.1 (λ set. (done : List Done) × IsOrdered [] done × ArePooled [] (records done) × (set ≡ whole_set done)) }
+    ensures ordered { IfOk result.1 (λ set. (done : ListOf Done) × IsOrdered [] done × ArePooled [] (records done) × (set ≡ whole_set done)) }
     ensures cause { IfErr result.1 (HasCompilingCause files.now (FaultCause (R.library resolver) (R.count resolver) (R.count result.0))) }
-    ensures later { Later (R.count resolver) (R.count result.0) }
-    ensures keeps { R.library result.0 ≡ R.library resolver }
+    ensures keeps { KeepsFiles R.library R.count resolver result.0 }
 {
     let mut compiler = match open_all(alloc, resolver, files) {
-        Ok(compiler) => compiler,
+        Ok(opened) => opened.compiler,
         Err((resolver, error)) => return (resolver, Err(error)),
     };
     let _ = compiler.include_imports(true);
@@ -88,11 +138,10 @@ pub fn compile<D: Disk>(alloc: Global, disk: D, files: &Texts, includes: &Texts)
         (StopsCompiling (standard wkt_files (D.volume disk) includes.now) files.now) }
 
     // Over every disk, the files stand in order, each once and behind its imports, and each is linked among those before it.
-    ensures ordered { IfOk result.result (λ set. (done : List Done) × IsOrdered [] done × ArePooled [] (records done) × (set ≡ whole_set done)) }
+    ensures ordered { IfOk result.result (λ set. (done : ListOf Done) × IsOrdered [] done × ArePooled [] (records done) × (set ≡ whole_set done)) }
     ensures cause { IfErr result.result (HasCompilingCause files.now
         (FaultCause (standard wkt_files (D.volume disk) includes.now) (D.count disk) (D.count result.disk))) }
-    ensures later { Later (D.count disk) (D.count result.disk) }
-    ensures keeps { D.volume result.disk ≡ D.volume disk }
+    ensures keeps { KeepsFiles D.volume D.count disk result.disk }
 {
     let resolver = match StandardResolver::new(alloc, disk, includes) {
         Ok(resolver) => resolver,

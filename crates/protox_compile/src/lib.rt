@@ -3,8 +3,10 @@
 
 mod compiler;
 mod compiling;
+mod laws;
 mod sets;
 
 pub use compiler::{Compiler, Files};
-pub use compiling::{Compiled, compile, open_all};
-pub use protox_compile_walk::{opening_again_marks, opens_by_all, opens_once};
+pub use compiling::{Compiled, OpenedAll, compile, open_all};
+pub use laws::repeats_are_again;
+pub use protox_compile_walk::{Opened, opening_again_marks, opens_by_all, opens_once};

@@ -58,6 +58,7 @@ settled files before later (top.File (kinds.CircularImport a b)) h = inl refl
 settled files before later (top.File (kinds.FileNotIncluded a)) h = inl refl
 settled files before later (top.File (kinds.FileShadowed a b c)) h = inl refl
 settled files before later (top.File (kinds.DuplicateImport a b c d)) h = inl refl
+settled files before later (top.File (kinds.ImportEscapes a b c d)) h = inl refl
 settled files before later (top.File (kinds.Custom a b)) h = absurd (none h.1.1)
 settled files before later (top.File (kinds.NameMismatch a b)) h = inl refl
 settled files before later (top.File (kinds.FileLimit a)) h = inl refl

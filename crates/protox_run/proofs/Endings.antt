@@ -5,10 +5,10 @@ use Rattle.protox_io.specs.Paths.{disk_key}
 use Rattle.protox_io.specs.Read.{Input as Drawn}
 use Rattle.protox_io.specs.Sink.{Appends, Prints}
 use Rattle.protox_words.specs.Words.{Args, WordFault, fault_pieces}
-use Rattle.protox_run.specs.Class.{Write, Ready, Refusing, Judges}
-use Rattle.protox_run.specs.Outcome.{Obeys, Wrote, error_line}
+use Rattle.protox_run.specs.Class.{Write, Ready, Refusing, Judges, repeated_of}
+use Rattle.protox_run.specs.Outcome.{Obeys, Wrote, error_line, notes_at}
 use Rattle.protox_run.specs.Stops.{Object, Input, Reading, Writing, Printing, ForArgs, RoseOf, Reached, Untouched, StoppedAt, IsWriteTo, StopsWriting, StopsPrinting, Carrying, LeftBy, Leftover, object_line, memory_line}
-use Rattle.protox_run.specs.Parts.{PlanStops, CarryStops, Carries, WriteStops, WritesOne, IsWriteStop, IsPrintStop, IsCarryStop, WorkStops, Works, Comes, Caused, CausedEnd, EndsFor}
+use Rattle.protox_run.specs.Parts.{PlanStops, CarryStops, Carries, WriteStops, WritesOne, IsWriteStop, IsPrintStop, IsCarryStop, WorkStops, Works, Comes, Caused, CausedEnd, EndsFor, HasNotes}
 use Rattle.protox_run.specs.Run.{ReadsInput}
 use Rattle.protox_run.specs.Told.{Stop, Words, Refused, Broken, NoMemory, write_told, stop_told, ended, line_of, status_of}
 use Rattle.protox_run.specs.declared.carry.Write.{Write as WriteHeld}
@@ -269,6 +269,15 @@ pub causes_end : {T : Type 0} {P : StopHeld → Type 0} (args : Args) (disk inpu
 causes_end args disk input out (Ok x) f h = tt
 causes_end args disk input out (Err stop) f h = f stop h
 
+-- the notes of the paths of the arguments
+pub has_notes : (read : Result Args WordFault) (args : Args) (repeated : List ℕ) → read ≡ Ok args → repeated ≡ repeated_of args → HasNotes read (notes_at args.files repeated)
+has_notes read args repeated is e = let P : Result Args WordFault → Type 0 = λ x. HasNotes x (notes_at args.files repeated) in subst P (sym is) (ap (notes_at args.files) e)
+
+-- what holds of a result that is done gives more
+pub done_then : {T : Type 0} {P Q : Type 0} (r : Result T StopHeld) → (P → Q) → OnOk r P → OnOk r Q
+done_then (Ok x) f h = f h
+done_then (Err stop) f h = tt
+
 -- ---- the whole run
 
 pub small : (e : Option Stop) (status : ℕ) → status ≡ status_of e → status ≤ 4
@@ -294,24 +303,24 @@ abbrev pub WordStatus : ℕ → (List ℕ → Type 0) → Result Args WordFault 
 WordStatus status T (Err fault) = ((status ≡ 2) × T (error_line (fault_pieces fault))) ⊎ (status ≡ 4)
 WordStatus status T (Ok args) = ¬ (status ≡ 2)
 
-pub ran_words : (read : Result Args WordFault) (disk input out : Type 0) (e : Option Stop) (status : ℕ) (T : List ℕ → Type 0) → status ≡ status_of e → EndsFor read disk input out e → T (line_of e) → WordStatus status T read
-ran_words (Err fault) disk input out None status T h ends t = absurd ends
-ran_words (Err fault) disk input out (Some (Words f)) status T h ends t = let P : WordFault → Type 0 = λ x. T (error_line (fault_pieces x)) in inl (h, subst P ends t)
-ran_words (Err fault) disk input out (Some (Refused r)) status T h ends t = absurd ends
-ran_words (Err fault) disk input out (Some (Broken object)) status T h ends t = absurd ends
-ran_words (Err fault) disk input out (Some NoMemory) status T h ends t = inr h
-ran_words (Ok args) disk input out None status T h ends t = λ two. absurd (omega arith)
-ran_words (Ok args) disk input out (Some (Words f)) status T h ends t = absurd ends
-ran_words (Ok args) disk input out (Some (Refused r)) status T h ends t = λ two. absurd (omega arith)
-ran_words (Ok args) disk input out (Some (Broken object)) status T h ends t = λ two. absurd (omega arith)
-ran_words (Ok args) disk input out (Some NoMemory) status T h ends t = λ two. absurd (omega arith)
+pub ran_words : (read : Result Args WordFault) (disk input out : Type 0) (e : Option Stop) (status : ℕ) (notes : List ℕ) (T : List ℕ → Type 0) → status ≡ status_of e → EndsFor read disk input out e → T (line_of notes e) → WordStatus status T read
+ran_words (Err fault) disk input out None status notes T h ends t = absurd ends
+ran_words (Err fault) disk input out (Some (Words f)) status notes T h ends t = let P : WordFault → Type 0 = λ x. T (error_line (fault_pieces x)) in inl (h, subst P ends t)
+ran_words (Err fault) disk input out (Some (Refused r)) status notes T h ends t = absurd ends
+ran_words (Err fault) disk input out (Some (Broken object)) status notes T h ends t = absurd ends
+ran_words (Err fault) disk input out (Some NoMemory) status notes T h ends t = inr h
+ran_words (Ok args) disk input out None status notes T h ends t = λ two. absurd (omega arith)
+ran_words (Ok args) disk input out (Some (Words f)) status notes T h ends t = absurd ends
+ran_words (Ok args) disk input out (Some (Refused r)) status notes T h ends t = λ two. absurd (omega arith)
+ran_words (Ok args) disk input out (Some (Broken object)) status notes T h ends t = λ two. absurd (omega arith)
+ran_words (Ok args) disk input out (Some NoMemory) status notes T h ends t = λ two. absurd (omega arith)
 
-pub ran_memory : (e : Option Stop) (status : ℕ) (T : List ℕ → Type 0) → status ≡ status_of e → T (line_of e) → status ≡ 4 → T (error_line memory_line)
-ran_memory None status T h t four = absurd (omega arith)
-ran_memory (Some (Words fault)) status T h t four = absurd (omega arith)
-ran_memory (Some (Refused r)) status T h t four = absurd (omega arith)
-ran_memory (Some (Broken object)) status T h t four = absurd (omega arith)
-ran_memory (Some NoMemory) status T h t four = t
+pub ran_memory : (e : Option Stop) (status : ℕ) (notes : List ℕ) (T : List ℕ → Type 0) → status ≡ status_of e → T (line_of notes e) → status ≡ 4 → T (error_line memory_line)
+ran_memory None status notes T h t four = absurd (omega arith)
+ran_memory (Some (Words fault)) status notes T h t four = absurd (omega arith)
+ran_memory (Some (Refused r)) status notes T h t four = absurd (omega arith)
+ran_memory (Some (Broken object)) status notes T h t four = absurd (omega arith)
+ran_memory (Some NoMemory) status notes T h t four = t
 
 -- which object failed
 abbrev pub IsObject : Option Stop → Object → Type 0
@@ -331,8 +340,8 @@ by_object (Ok args) disk input out object h = h
 pub rose_of : (read : Result Args WordFault) (disk input out : Type 0) (object : Object) (e : Option Stop) → IsObject e object → EndsFor read disk input out e → ForArgs read (RoseOf disk input out object)
 rose_of read disk input out object e is h = let P : Option Stop → Type 0 = λ x. EndsFor read disk input out x in by_object read disk input out object (subst P is h)
 
-pub line_is : (object : Object) (e : Option Stop) (T : List ℕ → Type 0) → IsObject e object → T (line_of e) → T (error_line (object_line object))
-line_is object e T is t = let P : Option Stop → Type 0 = λ x. T (line_of x) in subst P is t
+pub line_is : (object : Object) (e : Option Stop) (notes : List ℕ) (T : List ℕ → Type 0) → IsObject e object → T (line_of notes e) → T (error_line (object_line object))
+line_is object e notes T is t = let P : Option Stop → Type 0 = λ x. T (line_of notes x) in subst P is t
 
 reached_by : (read : Result Args WordFault) (disk later : Volume) (input : List ℕ) (rose refused : Type 0) (object : Object) (out : List ℕ) → Comes read disk input later rose refused (Some (Broken object)) out → ForArgs read (Reached disk input object)
 reached_by (Err fault) disk later input rose refused object out h = absurd h
@@ -361,23 +370,23 @@ ran_left read disk later input rose refused object e old new is h =
     record { added = h.added; is = h.is; so = left_by read disk later input rose refused object h.added (subst P is h.so) }
 
 module _ (disk later : Volume) (input : List ℕ) (rose refused : Type 0) where
-  obeys : (read : Result Args WordFault) (e : Option Stop) (out : List ℕ) → status_of e ≤ 2 → Comes read disk input later rose refused e out → Obeys read disk input (status_of e) out later (line_of e)
-  obeys (Err fault) None out few h = absurd h
-  obeys (Err fault) (Some (Words f)) out few h = (refl, h.1.silent, h.1.same, ap (λ x. error_line (fault_pieces x)) h.0)
-  obeys (Err fault) (Some (Refused r)) out few h = absurd h
-  obeys (Err fault) (Some (Broken object)) out few h = absurd h
-  obeys (Err fault) (Some NoMemory) out few h = absurd (omega arith)
-  obeys (Ok args) None out few h = (Ready h.0 h.1, h.2, (refl, h.3.1, h.3.0, refl))
-  obeys (Ok args) (Some (Words f)) out few h = absurd h
-  obeys (Ok args) (Some (Refused r)) out few h = (Refusing r, h.0, (refl, h.1.silent, h.1.same, refl))
-  obeys (Ok args) (Some (Broken object)) out few h = absurd (omega arith)
-  obeys (Ok args) (Some NoMemory) out few h = absurd (omega arith)
+  obeys : (read : Result Args WordFault) (e : Option Stop) (notes out : List ℕ) → (e ≡ None → HasNotes read notes) → status_of e ≤ 2 → Comes read disk input later rose refused e out → Obeys read disk input (status_of e) out later (line_of notes e)
+  obeys (Err fault) None notes out noted few h = absurd h
+  obeys (Err fault) (Some (Words f)) notes out noted few h = (refl, h.1.silent, h.1.same, ap (λ x. error_line (fault_pieces x)) h.0)
+  obeys (Err fault) (Some (Refused r)) notes out noted few h = absurd h
+  obeys (Err fault) (Some (Broken object)) notes out noted few h = absurd h
+  obeys (Err fault) (Some NoMemory) notes out noted few h = absurd (omega arith)
+  obeys (Ok args) None notes out noted few h = (Ready h.0 h.1, h.2, (refl, h.3.1, h.3.0, noted refl))
+  obeys (Ok args) (Some (Words f)) notes out noted few h = absurd h
+  obeys (Ok args) (Some (Refused r)) notes out noted few h = (Refusing r, h.0, (refl, h.1.silent, h.1.same, refl))
+  obeys (Ok args) (Some (Broken object)) notes out noted few h = absurd (omega arith)
+  obeys (Ok args) (Some NoMemory) notes out noted few h = absurd (omega arith)
 
-  pub ran_outcome : (read : Result Args WordFault) (e : Option Stop) (old new : List ℕ) (status : ℕ) → status ≡ status_of e → status ≤ 2 → Appends old new (Comes read disk input later rose refused e) → Appends old new (λ out. Obeys read disk input status out later (line_of e))
-  ran_outcome read e old new status h few a = record {
+  pub ran_outcome : (read : Result Args WordFault) (e : Option Stop) (notes old new : List ℕ) (status : ℕ) → (e ≡ None → HasNotes read notes) → status ≡ status_of e → status ≤ 2 → Appends old new (Comes read disk input later rose refused e) → Appends old new (λ out. Obeys read disk input status out later (line_of notes e))
+  ran_outcome read e notes old new status noted h few a = record {
     added = a.added;
     is = a.is;
-    so = (let P : ℕ → Type 0 = λ n. Obeys read disk input n a.added later (line_of e) in subst P (sym h) (obeys read e a.added (let Q : ℕ → Type 0 = λ n. n ≤ 2 in subst Q h few) a.so));
+    so = (let P : ℕ → Type 0 = λ n. Obeys read disk input n a.added later (line_of notes e) in subst P (sym h) (obeys read e notes a.added noted (let Q : ℕ → Type 0 = λ n. n ≤ 2 in subst Q h few) a.so));
   }
 
   stands : (read : Result Args WordFault) (e : Option Stop) (out : List ℕ) → 3 ≤ status_of e → Comes read disk input later rose refused e out → Leftover read disk input later out (rose ⊎ (status_of e ≡ 4)) refused

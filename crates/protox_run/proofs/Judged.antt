@@ -15,9 +15,13 @@ use Rattle.protox_file_error.specs.declared.error.ErrorKind.{ErrorKind}
 use Rattle.protox_file_error.specs.declared.error.ErrorKind.TheVariants as kinds
 use Rattle.protox_file_sources.specs.Causes.{IsNamedFault, FaultCause}
 use Rattle.protox_file_sources.specs.Library.{Library, below, pooled, may_fail_at}
-use Rattle.protox_io.specs.FileNames.{joined}
+use Rattle.protox_io.specs.FileNames.{joined, resolved}
 use Rattle.protox_file_sources.specs.Told.{ByLookups}
+use Rattle.std.specs.Option.{option_or}
+use Rattle.protox_file.specs.Chained.{first_resolved}
 use Rattle.protox_file.specs.Standard.{Folders, standard}
+use Rattle.protox_compile.specs.Repeats.{repeats}
+use Rattle.protox_compile.proofs.Repeats.{repeats_alike}
 use Rattle.protox_compile_walk.specs.Walk.{Done, records}
 use Rattle.protox_compile_walk.specs.Opening.{Accepted, closure}
 use Rattle.protox_compile.specs.State.{most_files}
@@ -31,7 +35,7 @@ use Rattle.protox_transcode.proofs.Determined.{no_fault}
 use Rattle.protox_transcode.proofs.Judged.{walk_caused}
 use Rattle.protox_generate.specs.Summary.{RefusesNumber}
 use Rattle.protox_words.specs.Words.{Args, folders}
-use Rattle.protox_run.specs.Class.{limit, json_of, library_of, Write, Refusing, write_to, Ending, Transcoded, RefusesSet, set_of, Task, Generate, Transcode, Compile, task, ComesTo, Judges, is_transcode, reads_input}
+use Rattle.protox_run.specs.Class.{limit, json_of, library_of, Write, Refusing, write_to, Ending, Transcoded, RefusesSet, set_of, Task, Generate, Transcode, Compile, task, ComesTo, Judges, is_transcode, reads_input, repeated_by, repeated_of, resolves_of}
 use Rattle.protox_run.specs.Stops.{Input, Reading, Writing, Printing}
 use Rattle.protox_run.specs.Parts.{IsInputStop, IsStopOf, IsTreeStop, IsTranscodingStop, IsSetRefusal, IsSetStop, IsFileCause, IsGeneratedStop, PlanStops}
 use Rattle.protox_run.specs.Told.{Stop, Words, Refused, Broken, NoMemory}
@@ -77,6 +81,7 @@ faulted files (kinds.CircularImport name cycle) f h = h
 faulted files (kinds.FileNotIncluded path) f h = h
 faulted files (kinds.FileShadowed name path shadow) f h = h
 faulted files (kinds.DuplicateImport file index place name) f h = h
+faulted files (kinds.ImportEscapes file index place name) f h = h
 faulted files (kinds.Custom text is_io) f h = h
 faulted files (kinds.NameMismatch asked declared) f h = h
 faulted files (kinds.FileLimit n) f h = h
@@ -96,6 +101,7 @@ fault_of rose args (kinds.CircularImport name cycle) f c = absurd (cc)
 fault_of rose args (kinds.FileNotIncluded path) f c = absurd (cc)
 fault_of rose args (kinds.FileShadowed name path shadow) f c = absurd (cc)
 fault_of rose args (kinds.DuplicateImport file index place name) f c = absurd (cc)
+fault_of rose args (kinds.ImportEscapes file index place name) f c = absurd (cc)
 fault_of rose args (kinds.Custom text is_io) f c = c
 fault_of rose args (kinds.NameMismatch asked declared) f c = absurd (cc)
 fault_of rose args (kinds.FileLimit n) f c = absurd (cc)
@@ -201,6 +207,7 @@ unencodable_refused args library done (kinds.CircularImport a b) all given h = a
 unencodable_refused args library done (kinds.FileNotIncluded a) all given h = absurd h
 unencodable_refused args library done (kinds.FileShadowed a b c) all given h = absurd h
 unencodable_refused args library done (kinds.DuplicateImport a b c d) all given h = absurd h
+unencodable_refused args library done (kinds.ImportEscapes a b c d) all given h = absurd h
 unencodable_refused args library done (kinds.Custom a b) all given h = absurd h
 unencodable_refused args library done (kinds.NameMismatch a b) all given h = absurd h
 unencodable_refused args library done (kinds.FileLimit a) all given h = absurd h
@@ -219,6 +226,7 @@ unencodable_caused files fault (kinds.CircularImport a b) h = absurd h
 unencodable_caused files fault (kinds.FileNotIncluded a) h = absurd h
 unencodable_caused files fault (kinds.FileShadowed a b c) h = absurd h
 unencodable_caused files fault (kinds.DuplicateImport a b c d) h = absurd h
+unencodable_caused files fault (kinds.ImportEscapes a b c d) h = absurd h
 unencodable_caused files fault (kinds.Custom a b) h = absurd h
 unencodable_caused files fault (kinds.NameMismatch a b) h = absurd h
 unencodable_caused files fault (kinds.FileLimit a) h = absurd h
@@ -244,10 +252,21 @@ named_alike d e args (kinds.CircularImport name cycle) h = h
 named_alike d e args (kinds.FileNotIncluded path) h = h
 named_alike d e args (kinds.FileShadowed name path shadow) h = h
 named_alike d e args (kinds.DuplicateImport file index place name) h = h
+named_alike d e args (kinds.ImportEscapes file index place name) h = h
 named_alike d e args (kinds.NameMismatch asked declared) h = h
 named_alike d e args (kinds.FileLimit n) h = h
 named_alike d e args (kinds.Undecodable file) h = h
 named_alike d e args kinds.NoMemory h = h
+
+-- neither do the names that paths are resolved to
+same_resolves : (d e : Volume) (names : List (List ℕ)) (others : List Library) (path : List ℕ)
+    → first_resolved (map (below d) names ++ others) path ≡ first_resolved (map (below e) names ++ others) path
+same_resolves d e [] others path = refl
+same_resolves d e (n ∷ ns) others path = ap (λ r. option_or (resolved n path) r) (same_resolves d e ns others path)
+
+-- so which paths are given again does not depend on it
+pub repeats_told : (args : Args) (disk : Volume) → repeats (library_of args disk).resolves args.files ≡ repeats (resolves_of args) args.files
+repeats_told args disk = repeats_alike (library_of args disk).resolves (resolves_of args) (same_resolves disk untold (folders args) (pooled wkt_files ∷ [])) args.files
 
 -- one cause gives another
 caused_then : (f g : ErrorKind → Type 0) (error : TopError) → ((e : ErrorKind) → f e → g e) → IsCaused f error → IsCaused g error
@@ -263,6 +282,7 @@ caused_then f g (top.File (kinds.CircularImport name cycle)) k h = tt
 caused_then f g (top.File (kinds.FileNotIncluded path)) k h = tt
 caused_then f g (top.File (kinds.FileShadowed name path shadow)) k h = tt
 caused_then f g (top.File (kinds.DuplicateImport file index place name)) k h = tt
+caused_then f g (top.File (kinds.ImportEscapes file index place name)) k h = tt
 caused_then f g (top.File (kinds.NameMismatch asked declared)) k h = tt
 caused_then f g (top.File (kinds.FileLimit n)) k h = tt
 caused_then f g (top.File (kinds.Undecodable file)) k h = tt
@@ -315,6 +335,9 @@ tree_judged args name disk input tree (Broken (Reading line)) short is h = (shor
 tree_judged args name disk input tree (Broken (Writing path)) short is h = absurd h
 tree_judged args name disk input tree (Broken Printing) short is h = absurd h
 tree_judged args name disk input tree NoMemory short is h = tt
+
+pub as_repeated : (a : Args) (t : Task) (found : List ℕ) → task a ≡ t → found ≡ repeated_by t a → found ≡ repeated_of a
+as_repeated a t found is h = let P : Task → Type 0 = λ o. found ≡ repeated_by o a in subst P (sym is) h
 
 pub as_task : (a : Args) (t : Task) (disk : Volume) (input : List ℕ) (ending : Ending) → task a ≡ t → ComesTo t a disk input ending → Judges a disk input ending
 as_task a t disk input ending is h = let P : Task → Type 0 = λ o. ComesTo o a disk input ending in subst P (sym is) h

@@ -7,12 +7,13 @@ use Rattle.serde_json.specs.Read.{read as read_text}
 use Rattle.serde_json.specs.Written.{compact_text}
 use Rattle.pbx_desc_records.specs.declared.file.FileDescriptorProto.{FileDescriptorProto}
 use Rattle.pbx_wkt_files.specs.Files.{wkt_files}
-use Rattle.protox_io.specs.Disk.{Volume}
+use Rattle.protox_io.specs.Disk.{Volume, untold}
 use Rattle.protox_file_error.specs.Lines.{long_line_of}
 use Rattle.protox_file_error.specs.declared.error.ErrorKind.{ErrorKind}
 use Rattle.protox_file_sources.specs.Library.{Library}
 use Rattle.protox_file.specs.Standard.{standard}
 use Rattle.protox_compile_walk.specs.Walk.{Done}
+use Rattle.protox_compile.specs.Repeats.{repeats}
 use Rattle.protox_compile.specs.Sets.{listed, IsSet, AreDecodable, IsUndecodable}
 use Rattle.protox_compile.specs.Compiling.{Compiles, StopsWalk}
 use Rattle.protox_transcode.specs.Top.{ForFiles, IsTranscoded, Refuses, is_fault, is_refusal, top_line}
@@ -29,6 +30,10 @@ limit = 1073741824
 -- where the files come from: the folders, and behind them the built-in files
 abbrev pub library_of : Args → Volume → Library
 library_of a disk = standard wkt_files disk (folders a)
+
+-- the name of each path that a folder resolves, which does not depend on what the disk holds
+abbrev pub resolves_of : Args → List ℕ → Option (List ℕ)
+resolves_of a = (library_of a untold).resolves
 
 -- the tree of a JSON text in UTF-8 (RFC 8259), nested at most 127 deep
 abbrev pub json_of : List ℕ → Option Data
@@ -131,6 +136,14 @@ ComesTo Compile a disk input ending = Compiling a disk ending
 -- the same of all arguments
 abbrev pub Judges : Args → Volume → List ℕ → Ending → Type 0
 Judges a disk input ending = ComesTo (task a) a disk input ending
+
+-- the indices of the paths that are given again, which are those of files that are compiled
+abbrev pub repeated_by : Task → Args → List ℕ
+repeated_by (Generate number) a = []
+repeated_by t a = repeats (resolves_of a) a.files
+
+abbrev pub repeated_of : Args → List ℕ
+repeated_of a = repeated_by (task a) a
 
 abbrev pub is_transcode : Task → Bool
 is_transcode (Transcode name) = true

@@ -11,7 +11,7 @@ use Rattle.protox_transcode.specs.declared.error.TopError.TheVariants as top
 use Rattle.protox_words.specs.Words.{Args, WordFault}
 use Rattle.protox_run.specs.Class.{limit, json_of, ForTree, Write, Refusing, Judges, RefusedWith}
 use Rattle.protox_run.specs.Class.{RefusesSet, Transcoding, Compiling, Generating, library_of, reads_input}
-use Rattle.protox_run.specs.Outcome.{Wrote}
+use Rattle.protox_run.specs.Outcome.{Wrote, notes_of}
 use Rattle.protox_run.specs.Stops.{Input, Reading, Writing, Printing, IsToldFaultLine, IsFaultLine, IsWriteTo}
 use Rattle.protox_run.specs.Stops.{RoseOf, Reached, StoppedAt, Untouched, Carrying, ForReady, StopsWriting, StopsPrinting}
 use Rattle.protox_run.specs.Told.{Stop, Words, Refused, Broken, NoMemory, stop_told}
@@ -191,6 +191,11 @@ abbrev pub IsWordEnd : WordFault → Option Stop → Type 0
 IsWordEnd fault (Some (Words f)) = f ≡ fault
 IsWordEnd fault (Some NoMemory) = Unit {0}
 IsWordEnd fault end = ⊥
+
+-- a run that was not stopped has the notes of its arguments
+abbrev pub HasNotes : Result Args WordFault → List ℕ → Type 0
+HasNotes (Err fault) notes = ⊥
+HasNotes (Ok args) notes = notes ≡ notes_of args
 
 abbrev pub CausedEnd : Args → Type 0 → Type 0 → Type 0 → Option Stop → Type 0
 CausedEnd args disk input out None = Unit {0}

@@ -4,10 +4,11 @@ use Rattle.protox_io.specs.Count.{Count, Later}
 use Rattle.protox_words.specs.Words.{WordFault, fault_pieces}
 use Rattle.protox_words.specs.Told.{fault_told}
 use Rattle.protox_run.specs.Class.{Write}
-use Rattle.protox_run.specs.Outcome.{Pieces, error_line, refusal_line}
+use Rattle.protox_run.specs.Outcome.{Pieces, error_line, notes_at, refusal_line}
 use Rattle.protox_run.specs.Stops.{Object, Input, Reading, Writing, Printing, object_line, memory_line}
 use Rattle.protox_run.specs.declared.carry.Write.{Write as WriteHeld}
 use Rattle.protox_run.specs.declared.carry.Ready.{Ready as ReadyHeld}
+use Rattle.protox_run.specs.declared.stop.Notes.{Notes}
 use Rattle.protox_run.specs.declared.stop.Refusal.{Refusal}
 use Rattle.protox_run.specs.declared.stop.Object.{Object as ObjectHeld}
 use Rattle.protox_run.specs.declared.stop.Object.TheVariants as objects
@@ -57,9 +58,14 @@ stop_line (Refused refusal) = refusal_line refusal
 stop_line (Broken object) = object_line object
 stop_line NoMemory = memory_line
 
-abbrev pub line_of : Option Stop → List ℕ
-line_of None = []
-line_of (Some stop) = error_line (stop_line stop)
+-- what err is told of an end: these notes, or why the run was stopped
+abbrev pub line_of : List ℕ → Option Stop → List ℕ
+line_of notes None = notes
+line_of notes (Some stop) = error_line (stop_line stop)
+
+-- the notes of paths that were given again
+abbrev pub notes_told : Notes → List ℕ
+notes_told notes = notes_at notes.files notes.repeated
 
 abbrev pub stop_status : Stop → ℕ
 stop_status (Words fault) = 2

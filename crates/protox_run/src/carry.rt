@@ -9,7 +9,7 @@ ghost use Rattle.protox_run.specs.Parts.{Carries, WritesOne, IsWriteStop, IsPrin
 ghost use Rattle.protox_run.specs.Told.{stop_told, write_told, writes_told, line_told, Lasts};
 
 use crate::stop::{Object, Stop};
-use pbx_wire::Blob;
+use pbx_wire::{Blob, List};
 use protox_io::{Disk, DiskError, Sink, SinkError, write_pieces};
 use std::alloc::Global;
 
@@ -20,12 +20,14 @@ pub(crate) struct Write<'w> {
     pub(crate) bytes: Blob,
 }
 
-/// What is to be written and printed: the set, and behind it the wire bytes, where a path is given for them, and a line.
+/// What is to be written and printed: the set, and behind it the wire bytes, where a path is given for them, and a line; and the indices
+/// of the paths that were given again.
 #[derive(Drop)]
 pub(crate) struct Ready<'w> {
     pub(crate) set: Option<Write<'w>>,
     pub(crate) wire: Option<Write<'w>>,
     pub(crate) line: Option<String>,
+    pub(crate) repeated: List<u64>,
 }
 
 /// The write of the bytes, where a path is given.

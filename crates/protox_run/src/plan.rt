@@ -9,9 +9,11 @@ ghost use Rattle.serde_json.specs.Written.{has_float, compact_text};
 ghost use Rattle.protox_words.specs.Words.{folders};
 ghost use Rattle.protox_words.specs.Told.{args_told};
 ghost use Rattle.protox_file_sources.specs.Causes.{FaultCause};
+ghost use Rattle.protox_compile.specs.State.{KeepsFiles};
+ghost use Rattle.protox_compile.specs.Repeats.{repeats};
 ghost use Rattle.protox_compile.specs.Sets.{listed, IsUnencodable};
 ghost use Rattle.protox_transcode.specs.Top.{IsCaused};
-ghost use Rattle.protox_run.specs.Class.{limit, json_of, library_of, reads_input, write_to as write_to_of, WritesSet};
+ghost use Rattle.protox_run.specs.Class.{limit, json_of, library_of, reads_input, repeated_of, resolves_of, write_to as write_to_of, WritesSet};
 ghost use Rattle.protox_run.specs.Class.{Ready as IsReady, Transcoded as IsTranscoded, Transcoding, Compiled, Compiling, Generated, Judges};
 ghost use Rattle.protox_run.specs.Parts.{IsJsonStop, IsInputStop, IsInputCause, IsTreeStop, IsTranscodingStop, IsFileCause, IsStopOf};
 ghost use Rattle.protox_run.specs.Parts.{IsSetRefusal, IsSetStop, IsGeneratedStop, PlanStops, Caused};
@@ -20,8 +22,8 @@ ghost use Rattle.protox_run.specs.Told.{NoMemory as MemoryStop, stop_told, write
 use crate::carry::{Ready, Write, write_to};
 use crate::stop::{Object, Refusal, Stop};
 use pbx_json_meaning::canonical_is_plain;
-use pbx_wire::{Blob, NoMemory};
-use protox_compile::{Compiler, open_all};
+use pbx_wire::{Blob, List, NoMemory};
+use protox_compile::{Compiler, OpenedAll, open_all};
 use protox_file::StandardResolver;
 use protox_file_sources::{Error, FileResolver};
 use protox_generate::transcode_generated;
@@ -129,6 +131,7 @@ fn write_transcoded<'w>(
         ≡ write_to_of (option_copied args.now.output) done.set ++ write_to_of (option_copied args.now.wire) done.wire) }
     ensures text { IfOk result (λ ready. has_float (view done.tree) ≡ false →
         line_told (option_map string_bytes ready.line) ≡ compact_text (view done.tree) ++ codes "\n") }
+    ensures repeated { IfOk result (λ ready. ready.repeated ≡ done.repeated) }
     ensures stop { IfErr result (λ stop. stop_told stop ≡ MemoryStop) }
 {
     match done.tree.to_string(alloc) {
@@ -136,6 +139,7 @@ fn write_transcoded<'w>(
             set: write_to(args.output, done.set),
             wire: write_to(args.wire, done.wire),
             line: Some(line),
+            repeated: done.repeated,
         }),
         Err(_) => Err(Stop::NoMemory),
     }
@@ -151,6 +155,7 @@ fn transcode<'w, D: Disk>(
 ) -> Planned<'w, D>
     ensures done { IsTrue (D.volume disk).tells → IfOk result.result (λ ready. IsTranscoded (args_told args.now) name.now
         (library_of (args_told args.now) (D.volume disk)) (view tree) (writes_told ready) (line_told (option_map string_bytes ready.line))) }
+    ensures repeated { IsTrue (D.volume disk).tells → IfOk result.result (λ ready. ready.repeated ≡ repeats (resolves_of (args_told args.now)) args.now.files) }
     ensures stop { IsTrue (D.volume disk).tells →
         IfErr result.result (λ stop. IsTreeStop (args_told args.now) name.now (D.volume disk) (view tree) (stop_told stop)) }
     ensures cause { IfErr result.result (λ stop. IsFileCause (args_told args.now) (Rose (D.count disk) (D.count result.disk)) (stop_told stop)) }
@@ -196,6 +201,7 @@ fn plan_transcoding<'w, D: Disk, S: Source>(
     ensures done { IsTrue (D.volume disk).tells → IsTrue (S.input input.old).tells → IfOk result.result (λ ready.
         Transcoding (args_told args.now) name.now (D.volume disk) (S.input input.old).left
         (IsReady (writes_told ready) (line_told (option_map string_bytes ready.line)))) }
+    ensures repeated { IsTrue (D.volume disk).tells → IfOk result.result (λ ready. ready.repeated ≡ repeats (resolves_of (args_told args.now)) args.now.files) }
     ensures stop { IsTrue (D.volume disk).tells → IsTrue (S.input input.old).tells → IfErr result.result (λ stop.
         IsTranscodingStop (args_told args.now) name.now (D.volume disk) (S.input input.old).left (stop_told stop)) }
     ensures end { IsTrue (S.input input.old).tells → OnOk result.result ((S.input input.new).left ≡ []) }
@@ -219,10 +225,12 @@ fn write_set<'w, R: FileResolver>(
     alloc: Global,
     path: Option<&'w str>,
     compiler: &Compiler<R>,
+    repeated: List<u64>,
 ) -> Result<Ready<'w>, Error>
     ensures writes { IfOk result (λ ready.
         WritesSet (option_copied path.entry) (listed compiler.now.imports compiler.now.info compiler.now.done) (writes_told ready)) }
     ensures line { IfOk result (λ ready. line_told (option_map string_bytes ready.line) ≡ []) }
+    ensures repeated { IfOk result (λ ready. ready.repeated ≡ repeated) }
     ensures err { IfErr result (λ error. (is_some (option_copied path.entry) ≡ true)
         × IsUnencodable (listed compiler.now.imports compiler.now.info compiler.now.done) error) }
 {
@@ -231,6 +239,7 @@ fn write_set<'w, R: FileResolver>(
             set: None,
             wire: None,
             line: None,
+            repeated,
         });
     };
     let bytes = match compiler.encode_file_descriptor_set() {
@@ -242,6 +251,7 @@ fn write_set<'w, R: FileResolver>(
             set: Some(Write { path, bytes }),
             wire: None,
             line: None,
+            repeated,
         }),
         Err(NoMemory) => Err(Error::from(NoMemory)),
     }
@@ -256,18 +266,19 @@ fn compile_files<'w, R: FileResolver>(
 ) -> (R, Result<Ready<'w>, TopError>)
     ensures ok { IsTrue (R.library resolver).tells → IfOk result.1 (λ ready.
         Compiled (args_told args.now) (R.library resolver) (writes_told ready) (line_told (option_map string_bytes ready.line))) }
+    ensures repeated { IsTrue (R.library resolver).tells → IfOk result.1 (λ ready. ready.repeated ≡ repeats (R.library resolver).resolves args.now.files) }
     ensures err { IsTrue (R.library resolver).tells → IfErr result.1 (IsSetRefusal (args_told args.now) (R.library resolver)) }
     ensures cause { IfErr result.1 (IsCaused (FaultCause (R.library resolver) (R.count resolver) (R.count result.0))) }
-    ensures later { Later (R.count resolver) (R.count result.0) }
-    ensures keeps { R.library result.0 ≡ R.library resolver }
+    ensures keeps { KeepsFiles R.library R.count resolver result.0 }
 {
-    let mut compiler = match open_all(alloc, resolver, &args.files) {
-        Ok(compiler) => compiler,
+    let OpenedAll { compiler, repeated } = match open_all(alloc, resolver, &args.files) {
+        Ok(opened) => opened,
         Err((resolver, error)) => return (resolver, Err(file_error(error))),
     };
+    let mut compiler = compiler;
     let _ = compiler.include_imports(args.include_imports);
     let _ = compiler.include_source_info(args.include_source_info);
-    let result = match write_set(alloc, args.output, &compiler) {
+    let result = match write_set(alloc, args.output, &compiler, repeated) {
         Ok(ready) => Ok(ready),
         Err(error) => Err(file_error(error)),
     };
@@ -278,6 +289,7 @@ fn compile_files<'w, R: FileResolver>(
 fn compile<'w, D: Disk>(alloc: Global, args: &Args<'w>, disk: D) -> Planned<'w, D>
     ensures done { IsTrue (D.volume disk).tells → IfOk result.result (λ ready.
         Compiling (args_told args.now) (D.volume disk) (IsReady (writes_told ready) (line_told (option_map string_bytes ready.line)))) }
+    ensures repeated { IsTrue (D.volume disk).tells → IfOk result.result (λ ready. ready.repeated ≡ repeats (resolves_of (args_told args.now)) args.now.files) }
     ensures stop { IsTrue (D.volume disk).tells → IfErr result.result (λ stop. IsSetStop (args_told args.now) (D.volume disk) (stop_told stop)) }
     ensures cause { IfErr result.result (λ stop. IsFileCause (args_told args.now) (Rose (D.count disk) (D.count result.disk)) (stop_told stop)) }
     ensures later { Later (D.count disk) (D.count result.disk) }
@@ -309,6 +321,7 @@ fn compile<'w, D: Disk>(alloc: Global, args: &Args<'w>, disk: D) -> Planned<'w, 
 /// The summary of the schema of that number, to be printed.
 fn generate<'w>(alloc: Global, number: u16) -> Result<Ready<'w>, Stop<'w>>
     ensures done { IfOk result (λ ready. Generated number (writes_told ready) (line_told (option_map string_bytes ready.line))) }
+    ensures repeated { IfOk result (λ ready. ready.repeated ≡ []) }
     ensures stop { IfErr result (λ stop. IsGeneratedStop number (stop_told stop)) }
 {
     match transcode_generated(alloc, number) {
@@ -316,6 +329,7 @@ fn generate<'w>(alloc: Global, number: u16) -> Result<Ready<'w>, Stop<'w>>
             set: None,
             wire: None,
             line: Some(line),
+            repeated: List::new(alloc),
         }),
         Err(error) => Err(stop_of(alloc, &error)),
     }
@@ -331,6 +345,7 @@ pub(crate) fn plan<'w, D: Disk, S: Source>(
     ensures done { IsTrue (D.volume disk).tells → IsTrue (S.input input.old).tells → IfOk result.result (λ ready.
         Judges (args_told args.now) (D.volume disk) (S.input input.old).left
         (IsReady (writes_told ready) (line_told (option_map string_bytes ready.line)))) }
+    ensures repeated { IsTrue (D.volume disk).tells → IfOk result.result (λ ready. ready.repeated ≡ repeated_of (args_told args.now)) }
     ensures stop { IsTrue (D.volume disk).tells → IsTrue (S.input input.old).tells →
         IfErr result.result (λ stop. PlanStops (args_told args.now) (D.volume disk) (S.input input.old).left (stop_told stop)) }
     ensures end { IsTrue (S.input input.old).tells → IsTrue (reads_input (args_told args.now)) → OnOk result.result ((S.input input.new).left ≡ []) }

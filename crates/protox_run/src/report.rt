@@ -1,16 +1,17 @@
-//! What err is told of a run that was stopped.
+//! What err is told of a run: why it was stopped, or which paths were given again.
 
-ghost use Rattle.std.specs.Prelude.{◌≡◌, ◌∷◌, [], codes};
-ghost use Rattle.protox_io.specs.Count.{Rose};
-ghost use Rattle.protox_io.specs.Sink.{Says, SinkRefuses};
+ghost use Rattle.std.specs.Prelude.{◌≡◌, ◌∷◌, [], IfErr, IsTrue, codes, get_or};
+ghost use Rattle.protox_io.specs.Count.{Later, Rose};
+ghost use Rattle.protox_io.specs.Sink.{Appends, Prints, RefusesFor, Says, SinkRefuses};
 ghost use Rattle.protox_words.specs.Words.{fault_pieces};
 ghost use Rattle.protox_words.specs.Told.{fault_told};
-ghost use Rattle.protox_run.specs.Outcome.{error_line, refusal_line};
+ghost use Rattle.protox_run.specs.Outcome.{error_line, note_line, notes_at, refusal_line};
 ghost use Rattle.protox_run.specs.Stops.{object_line};
-ghost use Rattle.protox_run.specs.Told.{object_told, stop_told, ended as ended_told, line_of, status_of, stop_line, stop_status, Lasts};
+ghost use Rattle.protox_run.specs.Told.{object_told, stop_told, ended as ended_told, line_of, notes_told, status_of, stop_line, stop_status, Lasts};
 
-use crate::stop::{Object, Refusal, Stop};
-use protox_io::{Sink, write_line};
+use crate::stop::{Notes, Object, Refusal, Stop};
+use pbx_wire::Text;
+use protox_io::{Sink, SinkError, write_line};
 use protox_words::WordFault;
 
 /// Writes the line of an error; a refused write ends it.
@@ -106,15 +107,61 @@ fn status(stop: &Stop<'_>) -> u8
     }
 }
 
-/// Says on err why the run ended, and gives its status.
-pub(crate) fn report<E: Sink>(err: &mut E, ended: &Result<(), Stop<'_>>) -> u8
+/// Writes the note of the path at the index.
+#[tactic(auto, unfolding(crate::specs::Outcome::note_line))]
+fn write_note<E: Sink>(err: &mut E, files: &[Text], index: u64) -> Result<(), SinkError>
+    ensures told { IsTrue (E.output err.old).tells →
+        Appends (E.output err.old).held (E.output err.new).held (Prints (note_line (get_or files.now index [])) result) }
+    ensures cause { IfErr result (RefusesFor (Rose (E.count err.old) (E.count err.new)) (IsTrue (E.output err.new).short)) }
+    ensures later { Later (E.count err.old) (E.count err.new) }
+    ensures keeps_tells { (E.output err.new).tells ≡ (E.output err.old).tells }
+{
+    let path = match files.get(index as usize) {
+        Some(path) => path.as_str(),
+        None => "",
+    };
+    write_line(err, &["note: path '", path, "' was given twice"])
+}
+
+/// Writes the notes, unless a write is refused; takes no memory.
+fn write_notes<E: Sink>(err: &mut E, notes: &Notes) -> Result<(), SinkError>
+    ensures told { IsTrue (E.output err.old).tells →
+        Appends (E.output err.old).held (E.output err.new).held (Prints (notes_at notes.now.files notes.now.repeated) result) }
+    ensures cause { IfErr result (RefusesFor (Rose (E.count err.old) (E.count err.new)) (IsTrue (E.output err.new).short)) }
+    ensures later { Later (E.count err.old) (E.count err.new) }
+    ensures keeps_tells { (E.output err.new).tells ≡ (E.output err.old).tells }
+{
+    let files = notes.files.as_slice();
+    for index in notes.repeated.as_slice() {
+        match write_note(err, files, *index) {
+            Ok(()) => {}
+            Err(error) => return Err(error),
+        }
+    }
+    Ok(())
+}
+
+/// Says which paths were given again; a refused write ends it.
+fn say_notes<E: Sink>(err: &mut E, notes: &Notes)
+    ensures said { Says (E.output err.old).tells (SinkRefuses (Rose (E.count err.old) (E.count err.new)) (E.output err.new).short) (E.output err.old).held
+        (E.output err.new).held (notes_at notes.now.files notes.now.repeated) }
+    ensures lasts { Lasts (E.output err.old).tells (E.output err.new).tells (E.count err.old) (E.count err.new) }
+{
+    let _ = write_notes(err, notes);
+}
+
+/// Says on err which paths were given again, or why the run was stopped, and gives its status.
+pub(crate) fn report<E: Sink>(err: &mut E, ended: &Result<(), Stop<'_>>, notes: &Notes) -> u8
     ensures status { result ≡ status_of (ended_told ended.now) }
     ensures said { Says (E.output err.old).tells (SinkRefuses (Rose (E.count err.old) (E.count err.new)) (E.output err.new).short)
-        (E.output err.old).held (E.output err.new).held (line_of (ended_told ended.now)) }
+        (E.output err.old).held (E.output err.new).held (line_of (notes_told notes.now) (ended_told ended.now)) }
     ensures lasts { Lasts (E.output err.old).tells (E.output err.new).tells (E.count err.old) (E.count err.new) }
 {
     match ended {
-        Ok(()) => 0,
+        Ok(()) => {
+            say_notes(err, notes);
+            0
+        }
         Err(stop) => {
             say_stop(err, stop);
             status(stop)

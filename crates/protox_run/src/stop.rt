@@ -1,5 +1,8 @@
-use pbx_wire::Text;
+ghost use Rattle.std.specs.Prelude.{◌≡◌, []};
+
+use pbx_wire::{List, Text, Texts};
 use protox_words::WordFault;
+use std::alloc::Global;
 
 /// Why an input is refused, with status 1.
 #[derive(Debug, Drop)]
@@ -23,6 +26,28 @@ pub(crate) enum Object<'w> {
     Path(&'w str),
     /// Printing the text.
     Output,
+}
+
+/// Which of the paths were given again.
+#[derive(Debug, Drop)]
+pub(crate) struct Notes {
+    /// The paths.
+    pub(crate) files: Texts,
+    /// The indices of those whose name an earlier one has, in their order.
+    pub(crate) repeated: List<u64>,
+}
+
+impl Notes {
+    /// No paths.
+    pub(crate) fn new(alloc: Global) -> Self
+        ensures files { result.files ≡ [] }
+        ensures repeated { result.repeated ≡ [] }
+    {
+        Notes {
+            files: List::new(alloc),
+            repeated: List::new(alloc),
+        }
+    }
 }
 
 /// Why a run ends before all is written.

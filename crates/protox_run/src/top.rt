@@ -3,16 +3,16 @@ ghost use Rattle.protox_io.specs.Count.{Rose};
 ghost use Rattle.protox_io.specs.Sink.{Appends, SinkRefuses};
 ghost use Rattle.protox_words.specs.Words.{args_of};
 ghost use Rattle.protox_words.specs.Told.{args_told};
-ghost use Rattle.protox_run.specs.Class.{reads_input};
-ghost use Rattle.protox_run.specs.Parts.{Works, Comes, CausedEnd, EndsFor};
+ghost use Rattle.protox_run.specs.Class.{reads_input, repeated_of};
+ghost use Rattle.protox_run.specs.Parts.{Works, Comes, CausedEnd, EndsFor, HasNotes};
 ghost use Rattle.protox_run.specs.Run.{Runs, ReadsInput};
-ghost use Rattle.protox_run.specs.Told.{ended, Lasts};
+ghost use Rattle.protox_run.specs.Told.{ended, notes_told, Lasts};
 
 use crate::carry::carry;
 use crate::plan::{Planned, plan};
 use crate::report::report;
-use crate::stop::Stop;
-use pbx_wire::Texts;
+use crate::stop::{Notes, Stop};
+use pbx_wire::{List, Texts};
 use protox_io::{Disk, Sink, Source};
 use protox_words::{Args, WordsError, read_words};
 use std::alloc::Global;
@@ -27,11 +27,20 @@ pub struct Ran<D> {
     pub status: u8,
 }
 
-/// What the work leaves: the disk, and how it ended.
+/// What the work leaves: the disk, how it ended, and the indices of the paths that were given again where all was done.
 #[derive(Drop)]
 struct Worked<'w, D> {
     disk: D,
     ended: Result<(), Stop<'w>>,
+    repeated: List<u64>,
+}
+
+/// What obeying the words leaves: the disk, how it ended, and what err is to be told where all was done.
+#[derive(Drop)]
+struct Obeyed<'w, D> {
+    disk: D,
+    ended: Result<(), Stop<'w>>,
+    notes: Notes,
 }
 
 /// Does what the arguments ask for.
@@ -49,6 +58,7 @@ fn work<'w, D: Disk, S: Source, K: Sink>(
         (SinkRefuses (Rose (K.count out.old) (K.count out.new)) (K.output out.new).short) (ended result.ended)) }
     ensures cause { CausedEnd (args_told args.now) (Rose (D.count disk) (D.count result.disk))
         (Rose (S.count input.old) (S.count input.new)) (Rose (K.count out.old) (K.count out.new)) (ended result.ended) }
+    ensures repeated { IsTrue (D.volume disk).tells → OnOk result.ended (result.repeated ≡ repeated_of (args_told args.now)) }
     ensures end { IsTrue (S.input input.old).tells → IsTrue (reads_input (args_told args.now)) → OnOk result.ended ((S.input input.new).left ≡ []) }
     ensures unread { IsFalse (reads_input (args_told args.now)) → S.input input.new ≡ S.input input.old }
     ensures lasts { Lasts (S.input input.old).tells (S.input input.new).tells (S.count input.old) (S.count input.new) }
@@ -60,11 +70,16 @@ fn work<'w, D: Disk, S: Source, K: Sink>(
         Ok(ready) => {
             let mut disk = disk;
             let ended = carry(alloc, &mut disk, out, &ready);
-            Worked { disk, ended }
+            Worked {
+                disk,
+                ended,
+                repeated: ready.repeated,
+            }
         }
         Err(stop) => Worked {
             disk,
             ended: Err(stop),
+            repeated: List::new(alloc),
         },
     }
 }
@@ -76,7 +91,7 @@ fn obey<'w, D: Disk, S: Source, K: Sink>(
     disk: D,
     input: &mut S,
     out: &mut K,
-) -> Worked<'w, D>
+) -> Obeyed<'w, D>
     ensures told { IsTrue (D.volume disk).tells → IsTrue (S.input input.old).tells → IsTrue (K.output out.old).tells →
         Appends (K.output out.old).held (K.output out.new).held
         (Comes (args_of words.now) (D.volume disk) (S.input input.old).left (D.volume result.disk)
@@ -84,20 +99,37 @@ fn obey<'w, D: Disk, S: Source, K: Sink>(
         (SinkRefuses (Rose (K.count out.old) (K.count out.new)) (K.output out.new).short) (ended result.ended)) }
     ensures cause { EndsFor (args_of words.now) (Rose (D.count disk) (D.count result.disk))
         (Rose (S.count input.old) (S.count input.new)) (Rose (K.count out.old) (K.count out.new)) (ended result.ended) }
+    ensures notes { IsTrue (D.volume disk).tells → OnOk result.ended (HasNotes (args_of words.now) (notes_told result.notes)) }
     ensures read { IsTrue (S.input input.old).tells → ReadsInput (args_of words.now) (S.input input.old) (S.input input.new) (ended result.ended ≡ None) }
     ensures lasts { Lasts (S.input input.old).tells (S.input input.new).tells (S.count input.old) (S.count input.new) }
     ensures disk_lasts { Lasts (D.volume disk).tells (D.volume result.disk).tells (D.count disk) (D.count result.disk) }
     ensures out_lasts { Lasts (K.output out.old).tells (K.output out.new).tells (K.count out.old) (K.count out.new) }
 {
     match read_words(alloc, words) {
-        Ok(args) => work(alloc, &args, disk, input, out),
-        Err(WordsError::Fault(fault)) => Worked {
+        Ok(args) => {
+            let Worked {
+                disk,
+                ended,
+                repeated,
+            } = work(alloc, &args, disk, input, out);
+            Obeyed {
+                disk,
+                ended,
+                notes: Notes {
+                    files: args.files,
+                    repeated,
+                },
+            }
+        }
+        Err(WordsError::Fault(fault)) => Obeyed {
             disk,
             ended: Err(Stop::Words(fault)),
+            notes: Notes::new(alloc),
         },
-        Err(WordsError::NoMemory) => Worked {
+        Err(WordsError::NoMemory) => Obeyed {
             disk,
             ended: Err(Stop::NoMemory),
+            notes: Notes::new(alloc),
         },
     }
 }
@@ -111,6 +143,8 @@ fn obey<'w, D: Disk, S: Source, K: Sink>(
 /// message of that type; the set, with all imports and source information, is written with `-o` and the wire bytes are
 /// written with `--wire`, and the message is printed as canonical JSON. `--generate N` transcodes a tree over N files in
 /// memory, and prints the lengths of what comes of it.
+///
+/// With status 0 err has a note for each path whose name an earlier path has, which is compiled once.
 ///
 /// A run is a process's work: without `--type`, the memory of the files that were compiled is not given back before the process ends.
 pub fn run<D: Disk, S: Source, K: Sink, E: Sink>(
@@ -130,10 +164,7 @@ pub fn run<D: Disk, S: Source, K: Sink, E: Sink>(
       status = result.status;
     }) }
 {
-    let worked = obey(alloc, words, disk, input, out);
-    let status = report(err, &worked.ended);
-    Ran {
-        disk: worked.disk,
-        status,
-    }
+    let Obeyed { disk, ended, notes } = obey(alloc, words, disk, input, out);
+    let status = report(err, &ended, &notes);
+    Ran { disk, status }
 }

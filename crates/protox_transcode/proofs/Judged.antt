@@ -1,21 +1,19 @@
 -- From the answers of the parts to what the whole run comes to.
-use Rattle.std.proofs.Common.{◌≡◌, ◌∷◌, [], ◌≤◌, Bool, true, false, inl, inr, if◌then◌else◌, IsTrue, Result, Ok, Err, IfOk, IfErr, MatchOption, ℕ, List, length, Option, Some, ap, ◌∙◌, sym, subst}
+use Rattle.std.proofs.Common.{◌≡◌, ◌∷◌, [], ◌≤◌, Bool, true, false, inl, inr, if◌then◌else◌, Result, Ok, Err, IfOk, IfErr, MatchOption, ℕ, List, length, Option, Some, ap, refl, ◌∙◌, sym, subst}
 use Rattle.serde_json.specs.Data.{Data}
 use Rattle.pbx_desc_records.specs.declared.file.FileDescriptorProto.{FileDescriptorProto}
 use Rattle.pbx_link_rules.specs.Pool.{ArePooled}
-use Rattle.protox_io.specs.Count.{Count}
-use Rattle.protox_file_sources.specs.Causes.{FaultCause}
 use Rattle.protox_file_sources.specs.Library.{Library}
 use Rattle.protox_file_sources.specs.Told.{Told, ByLookups}
 use Rattle.protox_file_error.specs.declared.error.ErrorKind.{ErrorKind}
 use Rattle.protox_file_error.specs.declared.error.ErrorKind.TheVariants as kinds
 use Rattle.protox_compile_walk.specs.Walk.{Done, records}
 use Rattle.protox_compile_walk.specs.Opening.{Accepted, closure}
-use Rattle.protox_compile_walk.specs.Closures.{StopsAt}
 use Rattle.protox_compile_walk.specs.Compiled.{IsOrdered}
-use Rattle.protox_compile_walk.specs.Refusals.{HasOpeningCause, HasOpeningsCause}
-use Rattle.protox_compile.specs.State.{State, fresh, most_files}
+use Rattle.protox_compile_walk.specs.Refusals.{HasOpeningCause}
+use Rattle.protox_compile.specs.State.{most_files}
 use Rattle.protox_compile.specs.Sets.{IsUndecodable}
+use Rattle.protox_compile.specs.Compiling.{Compiles, StopsCompiling, HasCompilingCause}
 use Rattle.protox_transcode.specs.Top.{ForFiles, IsCaused, IsJudged, IsRefused, IsStopped, IsTranscoded, Refuses, is_memory, of_error}
 use Rattle.protox_transcode.specs.declared.error.TopError.{TopError}
 use Rattle.protox_transcode.specs.declared.error.TopError.TheVariants as top
@@ -34,30 +32,26 @@ err_of {X = X} {E = E} P r x e h = let Q : Result X E → Type 0 = λ y. IfErr y
 pub some_of : {X : Type 0} (N : Type 0) (P : X → Type 0) (o : Option X) (x : X) → o ≡ Some x → MatchOption o N P → P x
 some_of {X = X} N P o x e h = let Q : Option X → Type 0 = λ y. MatchOption y N P in subst Q e h
 
--- ---- what a compiler without files answers
+-- ---- what opening all paths answers
 
-module _ {R : Type 0} (library : R → Library) (r : R) (s : State R) (paths : List (List ℕ)) (later : List Done) where
-  pub stopped : (name : List ℕ) (tree : Data) (error : ErrorKind) → s ≡ fresh r
-      → (IsTrue (library s.resolver).tells → ByLookups (library s.resolver).files (λ ls. StopsAt ls (library s.resolver).resolves s.limit paths s.done later error))
-      → IsTrue (library r).tells → Refuses (library r).files (library r).resolves paths name tree (of_error error)
-  stopped name tree error e h t = at (is_memory error)
-    where
-      P : State R → Type 0
-      P c = (IsTrue (library c.resolver).tells → ByLookups (library c.resolver).files (λ ls. StopsAt ls (library c.resolver).resolves c.limit paths c.done later error))
+not_memory : {P : Type 0} (error : ErrorKind) → is_memory error ≡ false → error ≡ kinds.NoMemory → P
+not_memory error e memory = let no : true ≡ false = sym (ap is_memory memory) ∙ e in absurd (cc)
 
-      stops : ByLookups (library r).files (λ ls. StopsAt ls (library r).resolves most_files paths [] later error)
-      stops = (subst P e h) t
+-- why the paths were not opened
+pub stopped : (library : Library) (paths : List (List ℕ)) (name : List ℕ) (tree : Data) (error : ErrorKind) → StopsCompiling library paths error
+    → Refuses library.files library.resolves paths name tree (of_error error)
+stopped library paths name tree error h = at (is_memory error) refl
+  where
+    at : (b : Bool) → is_memory error ≡ b → Refuses library.files library.resolves paths name tree (if b then top.NoMemory else top.File error)
+    at true e = tt
+    at false e = elim h [ inl memory ↦ not_memory error e memory | inr walk ↦ inl walk ]
 
-      at : (b : Bool) → Refuses (library r).files (library r).resolves paths name tree (if b then top.NoMemory else top.File error)
-      at true = tt
-      at false = inl (stops.0, stops.1, (later, stops.2))
-
-  pub accepted : s ≡ fresh r
-      → (IsTrue (library s.resolver).tells → ByLookups (library s.resolver).files (λ ls. closure ls (library s.resolver).resolves s.limit paths s.done ≡ (later, Accepted)))
-      → IsTrue (library r).tells → ByLookups (library r).files (λ ls. closure ls (library r).resolves most_files paths [] ≡ (later, Accepted))
-  accepted e h t =
-      let P : State R → Type 0 = λ c. (IsTrue (library c.resolver).tells → ByLookups (library c.resolver).files (λ ls. closure ls (library c.resolver).resolves c.limit paths c.done ≡ (later, Accepted))) in
-      (subst P e h) t
+-- the files that are there are those of the paths
+pub accepted : (library : Library) (paths : List (List ℕ)) (now : List Done) → Compiles library paths (λ done. now ≡ done)
+    → ByLookups library.files (λ ls. closure ls library.resolves most_files paths [] ≡ (now, Accepted))
+accepted library paths now h =
+    let P : List Done → Type 0 = λ d. closure h.0 library.resolves most_files paths [] ≡ (d, Accepted) in
+    (h.0, h.1, subst P (sym h.2.2) h.2.1)
 
 module _ (told : List ℕ → Told) (resolves : List ℕ → Option (List ℕ)) (paths : List (List ℕ)) (later : List Done) (all : ByLookups told (λ ls. closure ls resolves most_files paths [] ≡ (later, Accepted))) (files : List FileDescriptorProto) (is : files ≡ records later) where
   -- what is said of the files of the closure
@@ -83,18 +77,6 @@ pub all_pooled : (name : List ℕ) (tree : Data) (later : List Done) (files : Li
 all_pooled name tree later files set wire written e ordered pooled h =
     (later, ordered, pooled, (let P : List FileDescriptorProto → Type 0 = λ fs. IsTranscoded name tree fs set wire written in subst P e h))
 
--- the cause is that of the resolver that is handed back
-pub of_resolver : {R : Type 0} (library : R → Library) (count : R → Count) (a b x y : R) (error : TopError) → x ≡ a → b ≡ y
-    → IsCaused (FaultCause (library x) (count x) (count y)) error → IsCaused (FaultCause (library a) (count a) (count b)) error
-of_resolver {R = R} library count a b x y error e k h =
-    let P : R → Type 0 = λ r. IsCaused (FaultCause (library r) (count r) (count y)) error in
-    let Q : R → Type 0 = λ r. IsCaused (FaultCause (library a) (count a) (count r)) error in
-    subst Q (sym k) (subst P e h)
-
--- what is kept of the resolver that is handed back
-pub resolver_kept : {R : Type 0} (library : R → Library) (a b x y : R) → x ≡ a → b ≡ y → library y ≡ library x → library b ≡ library a
-resolver_kept library a b x y e k h = ap library k ∙ h ∙ ap library e
-
 -- the cause that an error of a walk has over every resolver
 pub walk_caused : (most : ℕ) (path : List ℕ) (later : List Done) (fault : ErrorKind → Type 0) (error : ErrorKind) → HasOpeningCause most path later fault error → IsCaused fault (of_error error)
 walk_caused most path later fault (kinds.Parse e) h = tt
@@ -108,11 +90,16 @@ walk_caused most path later fault (kinds.CircularImport name cycle) h = tt
 walk_caused most path later fault (kinds.FileNotIncluded p) h = tt
 walk_caused most path later fault (kinds.FileShadowed name asked shadow) h = tt
 walk_caused most path later fault (kinds.DuplicateImport file index place name) h = tt
+walk_caused most path later fault (kinds.ImportEscapes file index place name) h = tt
 walk_caused most path later fault (kinds.Custom text is_io) h = h
 walk_caused most path later fault (kinds.NameMismatch asked declared) h = tt
 walk_caused most path later fault (kinds.FileLimit n) h = tt
 walk_caused most path later fault (kinds.Undecodable file) h = tt
 walk_caused most path later fault kinds.NoMemory h = tt
+
+pub compiling_caused : (paths : List (List ℕ)) (fault : ErrorKind → Type 0) (error : ErrorKind) → HasCompilingCause paths fault error → IsCaused fault (of_error error)
+compiling_caused paths fault error (inl memory) = let P : ErrorKind → Type 0 = λ e. IsCaused fault (of_error e) in subst P (sym memory) tt
+compiling_caused paths fault error (inr h) = walk_caused most_files h.1.0 h.0 fault error h.1.2
 
 -- an error that is told of the pool has no cause outside
 pub pool_caused : (fault : ErrorKind → Type 0) (name : List ℕ) (tree : Data) (files : List FileDescriptorProto) (error : TopError) → IsRefused name tree files error → IsCaused fault error
@@ -127,6 +114,7 @@ pool_caused fault name tree files (top.File (kinds.CircularImport file cycle)) h
 pool_caused fault name tree files (top.File (kinds.FileNotIncluded p)) h = absurd h
 pool_caused fault name tree files (top.File (kinds.FileShadowed file asked shadow)) h = absurd h
 pool_caused fault name tree files (top.File (kinds.DuplicateImport file index place n)) h = absurd h
+pool_caused fault name tree files (top.File (kinds.ImportEscapes file index place n)) h = absurd h
 pool_caused fault name tree files (top.File (kinds.Custom text is_io)) h = absurd h
 pool_caused fault name tree files (top.File (kinds.NameMismatch asked declared)) h = absurd h
 pool_caused fault name tree files (top.File (kinds.FileLimit n)) h = absurd h
@@ -141,20 +129,14 @@ pool_caused fault name tree files (top.Json e) h = h.2.2.0
 
 -- ---- over every resolver
 
--- why the walk stopped, of the resolver that is handed back
-pub walk_judged : {R : Type 0} (library : R → Library) (count : R → Count) (a b : R) (s t : State R) (paths : List (List ℕ)) (name : List ℕ) (tree : Data)
-    (error : ErrorKind) → s ≡ fresh a → b ≡ t.resolver
-    → HasOpeningsCause s.limit paths t.done (FaultCause (library s.resolver) (count s.resolver) (count t.resolver)) error
-    → IsJudged paths name tree (FaultCause (library a) (count a) (count b)) (of_error error)
-walk_judged {R = R} library count a b s t paths name tree error e k h =
-    let P : State R → Type 0 = λ c. HasOpeningsCause c.limit paths t.done (FaultCause (library c.resolver) (count c.resolver) (count t.resolver)) error in
-    let Q : R → Type 0 = λ r. HasOpeningsCause most_files paths t.done (FaultCause (library a) (count a) (count r)) error in
-    inl (at (is_memory error) (subst Q (sym k) (subst P e h)))
+-- why the paths were not opened
+pub walk_judged : (paths : List (List ℕ)) (name : List ℕ) (tree : Data) (fault : ErrorKind → Type 0) (error : ErrorKind) → HasCompilingCause paths fault error
+    → IsJudged paths name tree fault (of_error error)
+walk_judged paths name tree fault error h = inl (at (is_memory error) refl)
   where
-    at : (b' : Bool) → HasOpeningsCause most_files paths t.done (FaultCause (library a) (count a) (count b)) error
-        → IsStopped paths (FaultCause (library a) (count a) (count b)) (if b' then top.NoMemory else top.File error)
-    at true h = tt
-    at false h = (t.done, h)
+    at : (b : Bool) → is_memory error ≡ b → IsStopped paths fault (if b then top.NoMemory else top.File error)
+    at true e = tt
+    at false e = elim h [ inl memory ↦ not_memory error e memory | inr walk ↦ walk ]
 
 -- why the files are refused that the compiler holds
 pub pool_judged : (paths : List (List ℕ)) (fault : ErrorKind → Type 0) (name : List ℕ) (tree : Data) (later : List Done) (files : List FileDescriptorProto)

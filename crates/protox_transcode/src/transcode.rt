@@ -1,6 +1,6 @@
 //! From files, a type's name and a tree to the set of the files, the wire bytes and the canonical tree.
 
-ghost use Rattle.std.specs.Prelude.{◌≡◌, ◌≤◌, ◌⊎◌, [], IfOk, IfErr, OnOk, IsTrue, List};
+ghost use Rattle.std.specs.Prelude.{◌≡◌, ◌≤◌, ◌⊎◌, [], IfOk, IfErr, OnOk, IsTrue, List as ListOf};
 ghost use Rattle.serde_json.specs.View.{view};
 ghost use Rattle.pbx_json_meaning.specs.Canonical.{canonical};
 ghost use Rattle.pbx_json_meaning.specs.Options.{default_reading, default_writing};
@@ -9,10 +9,11 @@ ghost use Rattle.pbx_link_rules.specs.Pool.{ArePooled};
 ghost use Rattle.pbx_link_meaning.specs.Descriptors.{message_of_name};
 ghost use Rattle.pbx_link_meaning.specs.Shapes.{shape_of, place_of};
 ghost use Rattle.pbx_message_dynamic.specs.Trees.{IsRead};
-ghost use Rattle.protox_io.specs.Count.{Later};
 ghost use Rattle.protox_file_sources.specs.Causes.{FaultCause};
 ghost use Rattle.protox_compile_walk.specs.Walk.{Done, records};
 ghost use Rattle.protox_compile_walk.specs.Compiled.{IsOrdered};
+ghost use Rattle.protox_compile.specs.State.{KeepsFiles};
+ghost use Rattle.protox_compile.specs.Repeats.{repeats};
 ghost use Rattle.protox_transcode.specs.Input.{data_of};
 ghost use Rattle.protox_transcode.specs.Parts.{IsClear, IsNotClear, IsNotTold, IsNamed, IsNotNamed, IsNotWritten, IsWire, IsWritten};
 ghost use Rattle.protox_transcode.specs.Top.{ForFiles, HaveClearNames, IsTranscoded, IsRefused, Refuses, IsCaused, IsJudged, Transcodes};
@@ -29,13 +30,13 @@ use pbx_json_laws::{
 use pbx_link::{DescriptorPool, MessageDescriptor};
 use pbx_message_dynamic::DynamicMessage;
 use pbx_message_laws::kinds_have_types;
-use pbx_wire::{Blob, NoMemory, Text, Texts};
-use protox_compile::Compiler;
+use pbx_wire::{Blob, List, NoMemory, Text, Texts};
+use protox_compile::{OpenedAll, open_all};
 use protox_file_sources::FileResolver;
 use serde_json::Value;
 use std::alloc::Global;
 
-/// The set of the files, the wire bytes and the canonical tree.
+/// The set of the files, the wire bytes and the canonical tree, and which paths were given again.
 #[derive(Drop)]
 pub struct Transcoded {
     /// The `google.protobuf.FileDescriptorSet` of the files, each behind all that it imports.
@@ -44,6 +45,8 @@ pub struct Transcoded {
     pub wire: Blob,
     /// The message in canonical JSON.
     pub tree: Value,
+    /// The indices of the paths whose name is that of an earlier path, in their order.
+    pub repeated: List<u64>,
 }
 
 /// What a transcoding leaves: the resolver, and what came of it.
@@ -173,8 +176,10 @@ fn transcode_in(
     pool: &DescriptorPool,
     type_name: &str,
     tree: InputTree<'_>,
+    repeated: List<u64>,
 ) -> Result<Transcoded, TopError>
     ensures ok { IfOk result (λ done. IsTranscoded type_name.now (data_of tree.entry) pool.now done.set done.wire (view done.tree)) }
+    ensures repeated { IfOk result (λ done. done.repeated ≡ repeated) }
     ensures err { IfErr result (IsRefused type_name.now (data_of tree.entry) pool.now) }
 {
     let set = match set_of(alloc, pool) {
@@ -186,7 +191,12 @@ fn transcode_in(
         Err(error) => return Err(error),
     }
     match transcode_named(alloc, pool, type_name, tree) {
-        Ok((wire, tree)) => Ok(Transcoded { set, wire, tree }),
+        Ok((wire, tree)) => Ok(Transcoded {
+            set,
+            wire,
+            tree,
+            repeated,
+        }),
         Err(error) => Err(error),
     }
 }
@@ -202,6 +212,7 @@ pub fn transcode_files<R: FileResolver>(
     // Over a resolver that tells, the files are the closure of the paths.
     ensures ok { IsTrue (R.library resolver).tells → IfOk result.result (λ done. ForFiles (R.library resolver).files (R.library resolver).resolves paths.now
         (λ files. IsTranscoded type_name.now (data_of tree.entry) files done.set done.wire (view done.tree))) }
+    ensures repeated { IsTrue (R.library resolver).tells → IfOk result.result (λ done. done.repeated ≡ repeats (R.library resolver).resolves paths.now) }
     ensures err { IsTrue (R.library resolver).tells → IfErr result.result
         (Refuses (R.library resolver).files (R.library resolver).resolves paths.now type_name.now (data_of tree.entry)) }
     ensures cause { IfErr result.result (IsCaused (FaultCause (R.library resolver) (R.count resolver) (R.count result.resolver))) }
@@ -209,33 +220,23 @@ pub fn transcode_files<R: FileResolver>(
     // Over every resolver, the files stand in order, each once and behind its imports, and each is linked among those before it;
     // and an error is one of the walk or of such files.
     ensures ordered { IfOk result.result
-        (λ done. (files : List Done) × IsOrdered [] files × ArePooled [] (records files)
+        (λ done. (files : ListOf Done) × IsOrdered [] files × ArePooled [] (records files)
         × IsTranscoded type_name.now (data_of tree.entry) (records files) done.set done.wire (view done.tree)) }
     ensures judged { IfErr result.result (IsJudged paths.now type_name.now (data_of tree.entry)
         (FaultCause (R.library resolver) (R.count resolver) (R.count result.resolver))) }
-    ensures later { Later (R.count resolver) (R.count result.resolver) }
-    ensures keeps { R.library result.resolver ≡ R.library resolver }
+    ensures keeps { KeepsFiles R.library R.count resolver result.resolver }
 {
-    let mut compiler = match Compiler::with_file_resolver(alloc, resolver) {
-        Ok(compiler) => compiler,
-        Err(resolver) => {
+    let OpenedAll { compiler, repeated } = match open_all(alloc, resolver, paths) {
+        Ok(opened) => opened,
+        Err((resolver, error)) => {
             return Attempt {
                 resolver,
-                result: Err(TopError::NoMemory),
-            };
-        }
-    };
-    match compiler.open_files(paths) {
-        Ok(()) => {}
-        Err(error) => {
-            return Attempt {
-                resolver: compiler.into_resolver(),
                 result: Err(file_error(error)),
             };
         }
-    }
+    };
     let pool = compiler.descriptor_pool();
-    let result = transcode_in(alloc, &pool, type_name, tree);
+    let result = transcode_in(alloc, &pool, type_name, tree, repeated);
     Attempt {
         resolver: compiler.into_resolver(),
         result,
@@ -248,7 +249,7 @@ pub fn transcode_files<R: FileResolver>(
 /// reader of the set would take it; neither is a message that nests so deep, or has a payload that does. The resolver is
 /// handed back.
 ///
-/// The names of the paths are as those of `Compiler::open_file`. The tree is read last: refused are, in this order, a
+/// The names of the paths are as those of `Compiler::open_file`; a path whose name an earlier one has is told. The tree is read last: refused are, in this order, a
 /// file, a key with two meanings in the JSON of any message of the files, a message of a well-known name without its
 /// shape, the type's name, a tree that stands for no message of the type, and a message that nests too deep, itself or in
 /// a payload.
@@ -262,6 +263,7 @@ pub fn compile_and_transcode<R: FileResolver>(
     // Over a resolver that tells, the files are the closure of the paths.
     ensures ok { IsTrue (R.library resolver).tells → IfOk result.result (λ done. ForFiles (R.library resolver).files (R.library resolver).resolves paths.now
         (λ files. IsTranscoded type_name.now (view tree.now) files done.set done.wire (view done.tree))) }
+    ensures repeated { IsTrue (R.library resolver).tells → IfOk result.result (λ done. done.repeated ≡ repeats (R.library resolver).resolves paths.now) }
     ensures err { IsTrue (R.library resolver).tells → IfErr result.result
         (Refuses (R.library resolver).files (R.library resolver).resolves paths.now type_name.now (view tree.now)) }
     ensures cause { IfErr result.result (IsCaused (FaultCause (R.library resolver) (R.count resolver) (R.count result.resolver))) }
@@ -269,12 +271,11 @@ pub fn compile_and_transcode<R: FileResolver>(
     // Over every resolver, the files stand in order, each once and behind its imports, and each is linked among those before it;
     // and an error is one of the walk or of such files.
     ensures ordered { IfOk result.result
-        (λ done. (files : List Done) × IsOrdered [] files × ArePooled [] (records files)
+        (λ done. (files : ListOf Done) × IsOrdered [] files × ArePooled [] (records files)
         × IsTranscoded type_name.now (view tree.now) (records files) done.set done.wire (view done.tree)) }
     ensures judged { IfErr result.result (IsJudged paths.now type_name.now (view tree.now)
         (FaultCause (R.library resolver) (R.count resolver) (R.count result.resolver))) }
-    ensures later { Later (R.count resolver) (R.count result.resolver) }
-    ensures keeps { R.library result.resolver ≡ R.library resolver }
+    ensures keeps { KeepsFiles R.library R.count resolver result.resolver }
 {
     transcode_files(alloc, resolver, paths, type_name, InputTree::Borrowed(tree))
 }

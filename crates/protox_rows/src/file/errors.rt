@@ -101,6 +101,12 @@ fn of_import(alloc: Global, row: &Row) -> Result<Error, NoMemory> {
             place,
             name,
         }),
+        "import escapes" => Error::from_kind(ErrorKind::ImportEscapes {
+            file,
+            index,
+            place,
+            name,
+        }),
         _ => Error::from_kind(ErrorKind::DuplicateImport {
             file,
             index,
@@ -135,7 +141,7 @@ fn of_fields(alloc: Global, row: &Row) -> Result<Error, NoMemory> {
             of_one_text(alloc, row)
         }
         "file not read" | "file shadowed" | "import cycle" | "other name" => of_texts(alloc, row),
-        "import not found" | "import twice" => of_import(alloc, row),
+        "import not found" | "import twice" | "import escapes" => of_import(alloc, row),
         _ => Ok(of_no_text(alloc, row)),
     }
 }

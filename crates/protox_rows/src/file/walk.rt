@@ -10,7 +10,7 @@ use crate::file::told::Told;
 use pbx_desc_records::FieldDescriptorProto;
 use pbx_link::DescriptorPool;
 use pbx_wire::Texts;
-use protox_compile::Compiler;
+use protox_compile::{Compiler, Opened};
 use protox_file::DescriptorSetFileResolver;
 use protox_file_sources::{Error, ErrorKind, FileResolver};
 use std::alloc::Global;
@@ -62,6 +62,9 @@ fn add_import_of(kind: &ErrorKind, told: &mut Told) {
         ErrorKind::ImportNotFound { index, place, .. } => {
             add_import("not found", *index, *place, told);
         }
+        ErrorKind::ImportEscapes { index, place, .. } => {
+            add_import("leaves the folders", *index, *place, told);
+        }
         _ => told.add("no fault of an import"),
     }
 }
@@ -86,16 +89,31 @@ fn open_each<R: FileResolver>(
     compiler.open_files(&paths)
 }
 
-/// Opens the path of a step, or its paths.
+/// The word of what a path's name was before it was opened.
+fn word_of(report: Opened) -> &'static str {
+    match report {
+        Opened::Compiled => "compiled",
+        Opened::Import => "import",
+        Opened::Again => "again",
+    }
+}
+
+/// Opens the path of a step, or its paths, and gives the word of the answer.
 fn opened<R: FileResolver>(
     alloc: Global,
     compiler: &mut Compiler<R>,
     step: Step<'_>,
-) -> Result<(), Error> {
-    match step.word {
-        "each" => open_each(alloc, compiler, step.text),
-        _ => compiler.open_file(step.text),
+) -> Result<&'static str, Error> {
+    if step.word == "each" {
+        open_each(alloc, compiler, step.text)?;
+        return Ok("ok");
     }
+    let report = compiler.open_file(step.text)?;
+    Ok(if step.word == "report" {
+        word_of(report)
+    } else {
+        "ok"
+    })
 }
 
 /// Opens, and tells the answer, and then the files that are there or how many they are.
@@ -108,7 +126,7 @@ fn open<R: FileResolver>(
     told.next();
     let answer = opened(alloc, compiler, step);
     match &answer {
-        Ok(()) => told.add("ok"),
+        Ok(word) => told.add(word),
         Err(error) => add_error(alloc, error, step.word, told),
     }
     drop(answer);
@@ -210,7 +228,7 @@ fn take<R: FileResolver>(
     told: &mut Told,
 ) {
     match step.word {
-        "open" | "each" | "count" | "import" => open(alloc, compiler, step, told),
+        "open" | "each" | "report" | "count" | "import" => open(alloc, compiler, step, told),
         "limit" => set_limit(compiler, step),
         "has" => told.say(if compiler.is_compiled(step.text) {
             "yes"

@@ -1,12 +1,14 @@
-use Rattle.std.proofs.Common.{IfOk, IfErr, string_bytes, option_map}
+use Rattle.std.proofs.Common.{◌≡◌, ◌∙◌, IfOk, IfErr, string_bytes, option_map}
 use Rattle.protox_io.specs.Count.{Rose}
+use Rattle.protox_compile.specs.Repeats.{repeats}
+use Rattle.protox_compile.proofs.Kept.{disk_keeps}
 use Rattle.protox_compile.proofs.Standard.{of_folders}
 use Rattle.protox_words.specs.Words.{folders}
 use Rattle.protox_words.specs.Told.{args_told}
 use Rattle.protox_run.specs.Class.{Compiled}
 use Rattle.protox_run.specs.Parts.{IsSetRefusal}
 use Rattle.protox_run.specs.Told.{stop_told, writes_told, line_told}
-use Rattle.protox_run.proofs.Judged.{ok_of, err_of, set_stop, file_caused, of_disk}
+use Rattle.protox_run.proofs.Judged.{ok_of, err_of, repeats_told, set_stop, file_caused, of_disk}
 use Rattle.protox_run.proofs.plan.compile.Goals as goal
 
 pub returns-in-Ok-result-clause-done : goal.returns-in-Ok-result-clause-done
@@ -36,3 +38,30 @@ returns-in-Err-result-clause-cause g c =
     (of_disk g.D.Disk.volume g.D.Disk.count a c.in-Ok.files c.compile_files-resolver.result.0 c.args.disk c.into_disk-disk.result c.in-Err-result.error
     c.in-Ok.ensures.ok c.into_disk-disk.ensures
     (err_of _ c.compile_files-resolver.result.1 c.in-Err-result.error c.in-Err-result.is c.compile_files-resolver.ensures.cause))
+
+pub returns-in-Ok-result-clause-repeated : goal.returns-in-Ok-result-clause-repeated
+returns-in-Ok-result-clause-repeated g c tells =
+    let a = args_told c.args.args.now in
+    let told = of_folders g.D.Disk.volume c.in-Ok.files c.args.disk (folders a) (λ l. IfOk c.compile_files-resolver.result.1 (λ ready. ready.repeated ≡ repeats l.resolves a.files))
+    c.in-Ok.ensures.ok c.compile_files-resolver.ensures.repeated tells in
+    ok_of _ c.compile_files-resolver.result.1 c.in-Ok-result.ready c.in-Ok-result.is told ∙ repeats_told a (g.D.Disk.volume c.args.disk)
+
+pub returns-in-Ok-result-clause-keeps : goal.returns-in-Ok-result-clause-keeps
+returns-in-Ok-result-clause-keeps g c =
+    (disk_keeps g.D.Disk.volume g.D.Disk.count (folders (args_told c.args.args.now)) c.in-Ok.files c.compile_files-resolver.result.0 c.args.disk c.into_disk-disk.result c.in-Ok.ensures.ok c.into_disk-disk.ensures
+    c.compile_files-resolver.ensures.keeps).keeps
+
+pub returns-in-Ok-result-clause-later : goal.returns-in-Ok-result-clause-later
+returns-in-Ok-result-clause-later g c =
+    (disk_keeps g.D.Disk.volume g.D.Disk.count (folders (args_told c.args.args.now)) c.in-Ok.files c.compile_files-resolver.result.0 c.args.disk c.into_disk-disk.result c.in-Ok.ensures.ok c.into_disk-disk.ensures
+    c.compile_files-resolver.ensures.keeps).later
+
+pub returns-in-Err-result-clause-keeps : goal.returns-in-Err-result-clause-keeps
+returns-in-Err-result-clause-keeps g c =
+    (disk_keeps g.D.Disk.volume g.D.Disk.count (folders (args_told c.args.args.now)) c.in-Ok.files c.compile_files-resolver.result.0 c.args.disk c.into_disk-disk.result c.in-Ok.ensures.ok c.into_disk-disk.ensures
+    c.compile_files-resolver.ensures.keeps).keeps
+
+pub returns-in-Err-result-clause-later : goal.returns-in-Err-result-clause-later
+returns-in-Err-result-clause-later g c =
+    (disk_keeps g.D.Disk.volume g.D.Disk.count (folders (args_told c.args.args.now)) c.in-Ok.files c.compile_files-resolver.result.0 c.args.disk c.into_disk-disk.result c.in-Ok.ensures.ok c.into_disk-disk.ensures
+    c.compile_files-resolver.ensures.keeps).later

@@ -1,13 +1,15 @@
-use Rattle.std.proofs.Common.{IfOk, IfErr, string_bytes, option_map}
+use Rattle.std.proofs.Common.{◌≡◌, ◌∙◌, IfOk, IfErr, string_bytes, option_map}
 use Rattle.serde_json.specs.View.{view}
 use Rattle.protox_io.specs.Count.{Rose}
-use Rattle.protox_compile.proofs.Standard.{of_folders, disk_kept}
+use Rattle.protox_compile.specs.Repeats.{repeats}
+use Rattle.protox_compile.proofs.Kept.{disk_keeps}
+use Rattle.protox_compile.proofs.Standard.{of_folders}
 use Rattle.protox_transcode.specs.Top.{ForFiles, IsTranscoded, Refuses}
 use Rattle.protox_words.specs.Words.{folders}
 use Rattle.protox_words.specs.Told.{args_told}
 use Rattle.protox_run.specs.Class.{library_of}
 use Rattle.protox_run.specs.Told.{stop_told, writes_told, line_told}
-use Rattle.protox_run.proofs.Judged.{ok_of, err_of, ok_both, gives, tree_stop, file_caused, of_disk}
+use Rattle.protox_run.proofs.Judged.{ok_of, err_of, ok_both, ok_then, repeats_told, gives, tree_stop, file_caused, of_disk}
 use Rattle.protox_run.proofs.plan.transcode.Goals as goal
 
 pub returns-in-Ok-result-clause-done : goal.returns-in-Ok-result-clause-done
@@ -43,10 +45,30 @@ returns-in-Err-result-clause-cause g c =
     c.in-Ok.ensures.ok c.into_disk-disk.ensures
     (err_of _ c.transcode_files-resolver.result.result c.in-Err-result.error c.in-Err-result.is c.transcode_files-resolver.ensures.cause))
 
+pub returns-in-Ok-result-clause-repeated : goal.returns-in-Ok-result-clause-repeated
+returns-in-Ok-result-clause-repeated g c tells =
+    let a = args_told c.args.args.now in
+    let told = of_folders g.D.Disk.volume c.in-Ok.files c.args.disk (folders a) (λ l. IfOk c.transcode_files-resolver.result.result (λ done. done.repeated ≡ repeats l.resolves a.files))
+    c.in-Ok.ensures.ok c.transcode_files-resolver.ensures.repeated tells in
+    let done = ok_of _ c.transcode_files-resolver.result.result c.in-Ok-result.done c.in-Ok-result.is told in
+    ok_then c.write_transcoded.result (λ ready same. same ∙ done ∙ repeats_told a (g.D.Disk.volume c.args.disk)) c.write_transcoded.ensures.repeated
+
 pub returns-in-Ok-result-clause-keeps : goal.returns-in-Ok-result-clause-keeps
 returns-in-Ok-result-clause-keeps g c =
-    disk_kept g.D.Disk.volume (folders (args_told c.args.args.now)) c.in-Ok.files c.transcode_files-resolver.result.resolver c.args.disk c.into_disk-disk.result c.in-Ok.ensures.ok c.into_disk-disk.ensures c.transcode_files-resolver.ensures.keeps
+    (disk_keeps g.D.Disk.volume g.D.Disk.count (folders (args_told c.args.args.now)) c.in-Ok.files c.transcode_files-resolver.result.resolver c.args.disk c.into_disk-disk.result c.in-Ok.ensures.ok c.into_disk-disk.ensures
+    c.transcode_files-resolver.ensures.keeps).keeps
+
+pub returns-in-Ok-result-clause-later : goal.returns-in-Ok-result-clause-later
+returns-in-Ok-result-clause-later g c =
+    (disk_keeps g.D.Disk.volume g.D.Disk.count (folders (args_told c.args.args.now)) c.in-Ok.files c.transcode_files-resolver.result.resolver c.args.disk c.into_disk-disk.result c.in-Ok.ensures.ok c.into_disk-disk.ensures
+    c.transcode_files-resolver.ensures.keeps).later
 
 pub returns-in-Err-result-clause-keeps : goal.returns-in-Err-result-clause-keeps
 returns-in-Err-result-clause-keeps g c =
-    disk_kept g.D.Disk.volume (folders (args_told c.args.args.now)) c.in-Ok.files c.transcode_files-resolver.result.resolver c.args.disk c.into_disk-disk.result c.in-Ok.ensures.ok c.into_disk-disk.ensures c.transcode_files-resolver.ensures.keeps
+    (disk_keeps g.D.Disk.volume g.D.Disk.count (folders (args_told c.args.args.now)) c.in-Ok.files c.transcode_files-resolver.result.resolver c.args.disk c.into_disk-disk.result c.in-Ok.ensures.ok c.into_disk-disk.ensures
+    c.transcode_files-resolver.ensures.keeps).keeps
+
+pub returns-in-Err-result-clause-later : goal.returns-in-Err-result-clause-later
+returns-in-Err-result-clause-later g c =
+    (disk_keeps g.D.Disk.volume g.D.Disk.count (folders (args_told c.args.args.now)) c.in-Ok.files c.transcode_files-resolver.result.resolver c.args.disk c.into_disk-disk.result c.in-Ok.ensures.ok c.into_disk-disk.ensures
+    c.transcode_files-resolver.ensures.keeps).later

@@ -1,4 +1,4 @@
-use Rattle.std.proofs.Common.{◌≡◌, ap, IsTrue, true}
+use Rattle.std.proofs.Common.{◌≡◌, ap, refl, IsTrue, true}
 use Rattle.protox_compile_walk.specs.Opening.{root_of}
 use Rattle.protox_compile_walk.specs.Opens.{is_settled}
 use Rattle.protox_compile.proofs.compiler.Compiler.open_file.Goals as goal
@@ -26,5 +26,14 @@ returns-clause-again g c tells settled =
 pub returns-clause-unread : goal.returns-clause-unread
 returns-clause-unread g c = rw (← c.self.view_is) c.open_path.ensures.unread
 
+pub returns-clause-report : goal.returns-clause-report
+returns-clause-report g c tells =
+    let same : c.self.inside.resolver ≡ c.args.self.now.resolver = ap (λ s. s.resolver) c.self.view_is in
+    let told : IsTrue (g.R.FileResolver.library c.self.inside.resolver).tells = rw same tells in
+    rw (← c.self.view_is) (c.open_path.ensures.report told)
+
 pub returns-clause-keeps : goal.returns-clause-keeps
-returns-clause-keeps g c = rw (← c.self.view_is) c.open_path.ensures.keeps
+returns-clause-keeps g c = record {
+  settings = rw (← c.self.view_is) refl;
+  files = record { keeps = rw (← c.self.view_is) c.open_path.ensures.keeps; later = rw (← c.self.view_is) c.open_path.ensures.later };
+}
