@@ -1,5 +1,5 @@
 -- What calls leave as it was.
-use Rattle.std.proofs.Common.{◌≡◌, ◌∙◌, List, ℕ, refl, ap, sym, subst}
+use Rattle.std.proofs.Common.{◌≡◌, ◌∙◌, List, ℕ, Result, Err, IfErr, refl, ap, sym, subst}
 use Rattle.pbx_wkt_files.specs.Files.{wkt_files}
 use Rattle.protox_io.specs.Count.{Count, Later}
 use Rattle.protox_io.specs.Disk.{Volume}
@@ -15,9 +15,6 @@ files_join tells count a b c h k = record { keeps = k.keeps ∙ h.keeps; later =
 -- of what is handed back under another name
 pub files_as : {S T : Type 0} (tells : S → T) (count : S → Count) (old x y : S) → y ≡ x → KeepsFiles tells count old x → KeepsFiles tells count old y
 files_as {S = S} tells count old x y e h = let P : S → Type 0 = λ z. KeepsFiles tells count old z in subst P (sym e) h
-
-pub files_of : {S T : Type 0} (tells : S → T) (count : S → Count) (old x new : S) → x ≡ old → KeepsFiles tells count x new → KeepsFiles tells count old new
-files_of {S = S} tells count old x new e h = let P : S → Type 0 = λ z. KeepsFiles tells count z new in subst P e h
 
 pub settings_same : {R : Type 0} (library : R → Library) (count : R → Count) (s : State R) → KeepsSettings library count s s
 settings_same library count s = record { settings = refl; files = record { keeps = refl; later = later_same _ } }
@@ -36,3 +33,7 @@ disk_keeps volume count names r s disk later is e h = record {
   keeps = disk_kept volume names r s disk later is e h.keeps;
   later = of_counts volume count r s disk later names (λ l a b. Later a b) is e h.later;
 }
+
+-- what holds of the error holds of the result that hands it on
+pub err_is : {T E : Type 0} (P : E → Type 0) (r : Result T E) (y x : E) → r ≡ Err y → y ≡ x → P x → IfErr r P
+err_is {T = T} {E = E} P r y x e k h = let Q : Result T E → Type 0 = λ z. IfErr z P in subst Q (sym e) (subst P (sym k) h)

@@ -1,19 +1,17 @@
 -- The sets of compiled files.
-use Rattle.std.proofs.Common.{◌≡◌, ◌∷◌, ◌++◌, ◌∙◌, ◌⊎◌, inl, inr, [], ℕ, zero, suc, ◌<◌, ◌+◌, add-one, List, Bool, true, false, refl, sym, ap, subst, map, drop, drop-cons, get_or, length, find, position, Option, Some, None, cond, is_some, MatchOption, Result, Ok, Err, IfOk, OnOk}
+use Rattle.std.proofs.Common.{◌≡◌, ◌∷◌, ◌++◌, ◌∙◌, ◌⊎◌, inl, inr, [], ℕ, suc, ◌<◌, ◌+◌, add-one, List, Bool, true, false, refl, sym, ap, subst, map, drop, drop-cons, get_or, length, find, Option, Some, None, MatchOption, Result, Ok, Err, IfOk, OnOk}
 use Rattle.std.specs.Prelude.{◌||◌, not, if◌then◌else◌}
 use Rattle.std.specs.List.{filter}
-use Rattle.std.specs.Option.{option_or}
 use Rattle.std.proofs.lemmas.List.{append_assoc}
-use Rattle.std.proofs.lemmas.List.Folds.{find-append}
 use Rattle.pbx_desc_records.specs.declared.file.FileDescriptorProto.{FileDescriptorProto}
 use Rattle.pbx_link_definitions.specs.Names.{text_or_empty}
-use Rattle.pbx_link_meaning.specs.Descriptors.{FileDescribed, all_files}
+use Rattle.pbx_link_meaning.specs.Descriptors.{FileDescribed}
 use Rattle.protox_file_error.specs.declared.error.ErrorKind.{ErrorKind}
 use Rattle.protox_file_error.specs.declared.error.ErrorKind.TheVariants as kinds
 use Rattle.protox_file_sources.specs.Metadata.{Metadata}
 use Rattle.protox_compile_walk.specs.Walk.{Done, records}
 use Rattle.protox_compile_walk.specs.Compiled.{done_by, done_of, metadata_of}
-use Rattle.protox_compile.specs.Sets.{with_info, listed, next_done, is_undecodable, AreDecodable, IsUndecodable, IsUnencodable}
+use Rattle.protox_compile.specs.Sets.{with_info, listed, next_done, is_undecodable, IsUnencodable}
 
 -- the record of a file of a pool
 abbrev pub file : FileDescribed → FileDescriptorProto

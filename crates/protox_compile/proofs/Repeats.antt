@@ -1,9 +1,8 @@
 -- Paths that are given again.
-use Rattle.std.proofs.Common.{◌≡◌, ◌+◌, ◌-◌, ◌<◌, ◌∷◌, ◌++◌, ◌∙◌, [], ℕ, zero, suc, List, Bool, true, false, refl, sym, ap, ap₂, length, take, drop, get_or, add-one, arith}
+use Rattle.std.proofs.Common.{◌≡◌, ◌+◌, ◌<◌, ◌∷◌, ◌++◌, ◌∙◌, [], ℕ, zero, suc, List, Bool, true, false, refl, sym, ap, ap₂, length, take, drop, get_or, add-one, arith}
 use Rattle.std.specs.Prelude.{◌||◌, nat_lt, option_map, if◌then◌else◌, reverse, Option, Some, None}
-use Rattle.std.specs.List.{list_any}
 use Rattle.std.specs.Str.{bytes_eq}
-use Rattle.std.proofs.lemmas.List.{length_push, append-nil, append_assoc, drop_all, drop_more, take_more, length-take-le}
+use Rattle.std.proofs.lemmas.List.{length_push, append-nil, append_assoc, drop_more, take_more, length-take-le}
 use Rattle.std.proofs.lemmas.List.Folds.{list_any-append}
 use Rattle.pbx_link_rules.specs.Breaches.{keeps_rules}
 use Rattle.pbx_link_definitions.specs.Names.{among}
@@ -54,10 +53,10 @@ imports_marks : (v : List Done → List ℕ → List Done × Visited) → ((d : 
 imports_marks v k chain n places seen [] done = same_marks done
 imports_marks v k chain n places seen (m ∷ ms) done =
     marks_cond (among seen m) done (done, Some (Duplicate n (length seen) (places (length seen)) m)) _ (same_marks done)
+    (marks_cond (escapes m) done (done, Some (Escapes n (length seen) (places (length seen)) m)) _ (same_marks done)
     (marks_cond (among chain m) done (done, Some (Circular m (chain_text (reverse (m ∷ chain))))) _ (same_marks done)
-    (marks_cond (is_done done m) done (visit_imports v chain n places (seen ++ m ∷ []) ms done) _ (imports_marks v k chain n places (seen ++ m ∷ []) ms done)
-    (marks_cond (escapes m) done (done, Some (Escapes n (length seen) (places (length seen)) m)) (after_visit n (length seen) (places (length seen)) m (v done m) (visit_imports v chain n places (seen ++ m ∷ []) ms))
-    (same_marks done)
+    (marks_cond (is_done done m) done (visit_imports v chain n places (seen ++ m ∷ []) ms done) (after_visit n (length seen) (places (length seen)) m (v done m) (visit_imports v chain n places (seen ++ m ∷ []) ms))
+    (imports_marks v k chain n places (seen ++ m ∷ []) ms done)
     (after_marks n (length seen) (places (length seen)) m done (v done m) (visit_imports v chain n places (seen ++ m ∷ []) ms) (k done m) (imports_marks v k chain n places (seen ++ m ∷ []) ms)))))
 
 finish_marks : (n : List ℕ) (entry : Entry) (done : List Done) (r : List Done × Option Fault) → SameMarks done r.0 → SameMarks done (finish n entry r).0
@@ -125,7 +124,7 @@ visit_root lookups limit (suc room) chain asked n done =
 
 mark_opened : (n m : List ℕ) (done : List Done) → is_done done n ≡ true → is_opened m (mark n done) ≡ (bytes_eq n m || is_opened m done)
 mark_opened n m [] h = absurd (cc)
-mark_opened n m (d ∷ ds) h = at (bytes_eq d.name n) refl h
+mark_opened n m (d ∷ ds) h = at (λ k. mark_opened n m ds k) (bytes_eq d.name n) refl h
   where
     own : (b c : Bool) → b ≡ c → (if b then true else is_opened m ds) ≡ (c || (if b then d.opened else is_opened m ds))
     own true c e = rw (← e) refl
@@ -142,10 +141,11 @@ mark_opened n m (d ∷ ds) h = at (bytes_eq d.name n) refl h
         let no : true ≡ false = sym (same_bytes n) ∙ ap (λ x. bytes_eq x n) (sym both) ∙ k in
         absurd (cc)
 
-    at : (b : Bool) → bytes_eq d.name n ≡ b → (b || is_done ds n) ≡ true → is_opened m (if b then record d { opened = true } ∷ ds else d ∷ mark n ds) ≡ (bytes_eq n m || is_opened m (d ∷ ds))
-    at true e k = own (bytes_eq d.name m) (bytes_eq n m) (ap (λ x. bytes_eq x m) (bytes_are d.name n e))
-    at false e k =
-        ap (λ r. if bytes_eq d.name m then d.opened else r) (mark_opened n m ds k)
+    at : (is_done ds n ≡ true → is_opened m (mark n ds) ≡ (bytes_eq n m || is_opened m ds))
+        → (b : Bool) → bytes_eq d.name n ≡ b → (b || is_done ds n) ≡ true → is_opened m (if b then record d { opened = true } ∷ ds else d ∷ mark n ds) ≡ (bytes_eq n m || is_opened m (d ∷ ds))
+    at rest true e k = own (bytes_eq d.name m) (bytes_eq n m) (ap (λ x. bytes_eq x m) (bytes_are d.name n e))
+    at rest false e k =
+        ap (λ r. if bytes_eq d.name m then d.opened else r) (rest k)
         ∙ other (bytes_eq d.name m) (bytes_eq n m) (apart (bytes_eq n m) refl e)
 
 done_marked : (n : List ℕ) (asked known : Option (List ℕ)) (done new : List Done) → open_done n asked known done ≡ (new, Accepted) → new ≡ mark n done
@@ -153,7 +153,7 @@ done_marked n None known done new h = sym (ap (λ o. o.0) h)
 done_marked n (Some asked) None done new h = sym (ap (λ o. o.0) h)
 done_marked n (Some asked) (Some path) done new h = at (path_equal path asked) h
   where
-    at : (b : Bool) → (if b then (mark n done, Accepted) else (done, Refused (Shadowed n asked path))) ≡ (new, Accepted) → new ≡ mark n done
+    at : (b : Bool) → ◌≡◌ {A = List Done × Ended} (if b then (mark n done, Accepted) else (done, Refused (Shadowed n asked path))) (new, Accepted) → new ≡ mark n done
     at true e = sym (ap (λ o. o.0) e)
     at false e = let no : Refused (Shadowed n asked path) ≡ Accepted = ap (λ o. o.1) e in absurd (cc)
 
@@ -201,11 +201,11 @@ module _ (lookups : List ℕ → Lookup) (limit : ℕ) where
 
     opened_done : (m : List ℕ) (done : List Done) → is_opened m done ≡ true → is_done done m ≡ true
     opened_done m [] h = absurd (cc)
-    opened_done m (d ∷ ds) h = at (bytes_eq d.name m) h
+    opened_done m (d ∷ ds) h = at (λ k. opened_done m ds k) (bytes_eq d.name m) h
       where
-        at : (b : Bool) → (if b then d.opened else is_opened m ds) ≡ true → (b || is_done ds m) ≡ true
-        at true k = refl
-        at false k = opened_done m ds k
+        at : (is_opened m ds ≡ true → is_done ds m ≡ true) → (b : Bool) → (if b then d.opened else is_opened m ds) ≡ true → (b || is_done ds m) ≡ true
+        at rest true k = refl
+        at rest false k = rest k
 
     report_again : (m : List ℕ) (done : List Done) → is_again (Some (report_in m done)) ≡ is_opened m done
     report_again m done = at (is_done done m) (is_opened m done) (opened_done m done)
@@ -231,7 +231,7 @@ module _ (lookups : List ℕ → Lookup) (limit : ℕ) where
         let first = first_accepted (opening lookups resolves limit path done) (closure lookups resolves limit paths) later k in
         let longer : closure lookups resolves limit (before ++ path ∷ []) [] ≡ (first.0, Accepted) =
         closure_push lookups resolves limit before path [] ∙ ap (λ o. after_opening o (opening lookups resolves limit path)) h ∙ first.1 in
-        let one : suc (length before) ≡ length (before ++ path ∷ []) = sym (length_push before path ∙ add-one) in
+        let one : suc (length before) ≡ length (before ++ path ∷ []) = sym (length_push before path ∙ add-one (length before)) in
         let rest : opened_again lookups resolves limit (suc (length before)) paths (opening lookups resolves limit path done).0 ≡ repeats_behind resolves (before ++ path ∷ []) paths =
         ap₂ (λ i d. opened_again lookups resolves limit i paths d) one (ap (λ o. o.0) first.1) ∙ again_behind paths (before ++ path ∷ []) first.0 later longer first.2 in
         ap₂ (λ b r. index_if b (length before) r) (again_asked before path done h) rest
@@ -292,9 +292,3 @@ pub noted_next : (lookups : List ℕ → Lookup) (limit : ℕ) (resolves : List 
 noted_next lookups limit resolves paths i path found done report fits is before told h =
     let again : is_again (Some report) ≡ is_asked_by resolves (take i paths) (root_of resolves path) = ap is_again (sym told) ∙ again_asked lookups limit resolves (take i paths) path done before in
     ap (λ b. (found ++ index_if b i []) ++ repeats_behind resolves (take (i + 1) paths) (drop (i + 1) paths)) again ∙ repeats_push resolves paths i path found fits is h
-
-pub noted_all : (resolves : List ℕ → Option (List ℕ)) (paths : List (List ℕ)) (i : ℕ) (found : List ℕ) → i ≡ length paths
-    → found ++ repeats_behind resolves (take i paths) (drop i paths) ≡ repeats resolves paths → found ≡ repeats resolves paths
-noted_all resolves paths i found e h =
-    let none : drop i paths ≡ [] = drop_all i paths (omega (arith, e)) in
-    sym (append-nil found) ∙ ap (λ ps. found ++ repeats_behind resolves (take i paths) ps) (sym none) ∙ h

@@ -1,5 +1,5 @@
 -- What an input is transcoded to is determined, and it is refused for no reason.
-use Rattle.std.proofs.Common.{◌≡◌, ◌≤◌, ◌∙◌, ◌++◌, ◌∷◌, [], inl, inr, ℕ, List, length, true, false, Bool, if◌then◌else◌, Option, Some, None, ap, sym, subst, refl, arith}
+use Rattle.std.proofs.Common.{◌≡◌, ◌∙◌, ◌++◌, ◌∷◌, [], inl, inr, ℕ, List, true, false, Bool, if◌then◌else◌, Option, Some, None, ap, sym, subst, refl}
 use Rattle.serde_json.specs.Data.{Data}
 use Rattle.pbx_content.specs.Encoding.{encoded}
 use Rattle.pbx_content.specs.declared.shape.Shape.{Shape}

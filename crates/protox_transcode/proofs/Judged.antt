@@ -1,5 +1,5 @@
 -- From the answers of the parts to what the whole run comes to.
-use Rattle.std.proofs.Common.{◌≡◌, ◌∷◌, [], ◌≤◌, Bool, true, false, inl, inr, if◌then◌else◌, Result, Ok, Err, IfOk, IfErr, MatchOption, ℕ, List, length, Option, Some, ap, refl, ◌∙◌, sym, subst}
+use Rattle.std.proofs.Common.{◌≡◌, [], Bool, true, false, inl, inr, if◌then◌else◌, Result, Ok, Err, IfOk, IfErr, MatchOption, ℕ, List, Option, Some, ap, refl, ◌∙◌, sym, subst}
 use Rattle.serde_json.specs.Data.{Data}
 use Rattle.pbx_desc_records.specs.declared.file.FileDescriptorProto.{FileDescriptorProto}
 use Rattle.pbx_link_rules.specs.Pool.{ArePooled}

@@ -1,5 +1,5 @@
 -- What the parts of the transcoding answer.
-use Rattle.std.specs.Prelude.{◌≡◌, ◌<◌, ◌^◌, ℕ, List, length, true, false, Option, Some, None}
+use Rattle.std.specs.Prelude.{◌≡◌, ◌<◌, ◌^◌, ℕ, List, length, false, Option, Some, None}
 use Rattle.serde_json.specs.Data.{Data}
 use Rattle.pbx_content.specs.Content.{Content}
 use Rattle.pbx_content.specs.Encoding.{encoded}

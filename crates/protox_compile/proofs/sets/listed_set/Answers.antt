@@ -1,7 +1,6 @@
-use Rattle.std.proofs.Common.{rules, ap, refl, ◌∙◌, ◌++◌, [], sym}
-use Rattle.protox_compile_walk.specs.Compiled.{done_of}
+use Rattle.std.proofs.Common.{rules, refl, ◌++◌, []}
 use Rattle.protox_compile.specs.Sets.{listed as listed_of, next_done}
-use Rattle.protox_compile.proofs.Listed.{file, files_of, listed_next}
+use Rattle.protox_compile.proofs.Listed.{files_of, listed_next}
 use Rattle.protox_compile.proofs.sets.listed_set.Goals as goal
 
 pub loop-metadata-init : goal.loop-metadata-init

@@ -1,7 +1,5 @@
-use Rattle.std.proofs.Common.{◌≡◌, ◌∙◌, find, map, refl, sym, ap, rules}
-use Rattle.protox_compile.specs.Sets.{is_undecodable}
+use Rattle.std.proofs.Common.{◌∙◌, refl, rules}
 use Rattle.protox_compile.proofs.Listed.{files_of}
-use Rattle.protox_transcode.proofs.SetOf.{file}
 use Rattle.protox_transcode.proofs.set.first_undecodable.Goals as goal
 
 pub loop-file-init : goal.loop-file-init

@@ -18,12 +18,14 @@ returns-in-Err-clause-err g c tells =
 pub returns-in-Err-clause-cause : goal.returns-in-Err-clause-cause
 returns-in-Err-clause-cause g c =
     let P : TopError → Type 0 = λ e. IsCaused (FaultCause (g.R.FileResolver.library c.args.resolver) (g.R.FileResolver.count c.args.resolver) (g.R.FileResolver.count c.in-Err.resolver)) e in
-    subst P (sym c.file_error.ensures) (compiling_caused c.args.paths.now _ c.in-Err.error c.in-Err.ensures.cause)
+    subst P (sym c.file_error.ensures) (compiling_caused c.args.paths.now
+    (FaultCause (g.R.FileResolver.library c.args.resolver) (g.R.FileResolver.count c.args.resolver) (g.R.FileResolver.count c.in-Err.resolver)) c.in-Err.error c.in-Err.ensures.cause)
 
 pub returns-in-Err-clause-judged : goal.returns-in-Err-clause-judged
 returns-in-Err-clause-judged g c =
     let P : TopError → Type 0 = λ e. IsJudged c.args.paths.now c.args.type_name.now (data_of c.args.tree) (FaultCause (g.R.FileResolver.library c.args.resolver) (g.R.FileResolver.count c.args.resolver) (g.R.FileResolver.count c.in-Err.resolver)) e in
-    subst P (sym c.file_error.ensures) (walk_judged c.args.paths.now c.args.type_name.now (data_of c.args.tree) _ c.in-Err.error c.in-Err.ensures.cause)
+    subst P (sym c.file_error.ensures) (walk_judged c.args.paths.now c.args.type_name.now (data_of c.args.tree)
+    (FaultCause (g.R.FileResolver.library c.args.resolver) (g.R.FileResolver.count c.args.resolver) (g.R.FileResolver.count c.in-Err.resolver)) c.in-Err.error c.in-Err.ensures.cause)
 
 pub returns-clause-ok : goal.returns-clause-ok
 returns-clause-ok g c tells =
