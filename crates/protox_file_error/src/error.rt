@@ -72,13 +72,13 @@ pub enum ErrorKind {
         cycle: Text,
     },
     /// A path stands in no include folder.
-    #[error("file '{path}' is not in any include path")]
+    #[error("path '{path}' stands in no include folder")]
     FileNotIncluded {
         /// The path.
         path: Text,
     },
     /// A file of the same name stands in an earlier include folder.
-    #[error("path '{path}' is shadowed by '{shadow}' in the include paths")]
+    #[error("path '{path}' is shadowed by '{shadow}' of an earlier include folder")]
     FileShadowed {
         /// The name of the file.
         name: Text,
