@@ -7,7 +7,7 @@ use protox::pbx_json::JsonMessage;
 use protox::pbx_link::{DescriptorError, DescriptorPool};
 use protox::pbx_message::DynamicMessage;
 use protox::pbx_wire::NoMemory;
-use protox::protox_file::{ErrorKind, FileResolver, MemoryResolver};
+use protox::protox_file::{ErrorKind, File, MemoryResolver};
 use protox::{Compiler, Error};
 use std::alloc::Global;
 
@@ -33,40 +33,51 @@ fn sources(alloc: Global) -> Result<MemoryResolver, NoMemory> {
     Ok(resolver)
 }
 
-/// A message from JSON, its bytes, and its canonical JSON.
-fn transcode(rt: &HostRuntime, pool: &DescriptorPool) -> Result<()> {
+/// A message from JSON.
+fn read(rt: &HostRuntime, pool: &DescriptorPool) -> Result<DynamicMessage> {
+    let tree = serde_json::from_str(rt.alloc(), JSON)?;
     let order = pool
         .get_message_by_name("shop.Order")
         .context("no type shop.Order")?;
-    let tree = serde_json::from_str(rt.alloc(), JSON)?;
-    let message = DynamicMessage::deserialize(rt.alloc(), order, &tree)?;
-    println!(rt; "{} bytes", message.encode_to_vec(rt.alloc())?.len())?;
+    Ok(DynamicMessage::deserialize(rt.alloc(), order, &tree)?)
+}
+
+/// Prints how long the message is on the wire, and its canonical JSON.
+fn show(rt: &HostRuntime, message: &DynamicMessage) -> Result<()> {
+    let bytes = message.encode_to_vec(rt.alloc())?;
+    println!(rt; "{} bytes", bytes.len())?;
     println!(rt; "{}", message.serialize(rt.alloc())?)?;
     Ok(())
 }
 
 /// Prints an error, and the line and the column where a rule is broken.
-fn explain(rt: &HostRuntime, resolver: &mut MemoryResolver, error: &Error) -> Result<()> {
+fn explain(rt: &HostRuntime, error: &Error) -> Result<()> {
     println!(rt; "{}", error.long_line(rt.alloc())?)?;
-    if let ErrorKind::Check(DescriptorError::Rule { file, place, .. }) = error.kind() {
-        let source = resolver.open_file(rt.alloc(), file.as_str())?;
-        if let Some((line, column)) = source.place_in_source(place.as_slice()) {
+    if let ErrorKind::Check(DescriptorError::Rule { place, .. }) = error.kind() {
+        let start = File::from_source(rt.alloc(), "wrong.proto", WRONG)?.place_in_source(
+            place.as_slice(),
+        );
+        if let Some((line, column)) = start {
             println!(rt; "that is line {line}, column {column}")?;
         }
     }
     Ok(())
 }
 
-fn main(rt: HostRuntime) -> Result<()> {
-    let mut compiler = Compiler::with_file_resolver(rt.alloc(), sources(rt.alloc())?).map_err(
-        |_| NoMemory,
-    )?;
+fn run(rt: &HostRuntime, compiler: &mut Compiler<MemoryResolver>) -> Result<()> {
     compiler.open_file("order.proto")?;
     let set = compiler.include_imports(true).encode_file_descriptor_set()?;
     println!(rt; "a set of {} bytes", set.len())?;
-    transcode(&rt, &compiler.descriptor_pool())?;
-    if let Err(error) = compiler.open_file("wrong.proto") {
-        explain(&rt, &mut compiler.into_resolver(), &error)?;
+    show(rt, &read(rt, &compiler.descriptor_pool())?)?;
+    match compiler.open_file("wrong.proto") {
+        Ok(_) => Ok(()),
+        Err(error) => explain(rt, &error),
     }
-    Ok(())
+}
+
+fn main(rt: HostRuntime) -> Result<()> {
+    match Compiler::with_file_resolver(rt.alloc(), sources(rt.alloc())?) {
+        Ok(mut compiler) => run(&rt, &mut compiler),
+        Err(_) => Err(NoMemory.into()),
+    }
 }
