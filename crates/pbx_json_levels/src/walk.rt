@@ -15,7 +15,7 @@ use pbx_content_map::NumberMap;
 use pbx_json_payload_laws::fits_by_content;
 use pbx_json_schema::{TypeNames, payload_bytes, type_url};
 use pbx_wire::{DecodeError, List, NoMemory};
-use pbx_wkt_types::{Form, form_of};
+use pbx_wkt_types::Form;
 use std::alloc::Global;
 
 /// How many levels may stand below the top of a message whose bytes are read again.
@@ -186,7 +186,7 @@ fn contents_fit(
     if room == 0 {
         return Err(NoMemory);
     }
-    if matches!(form_of(schema, place), Form::Any) {
+    if matches!(types.form(schema, place)?, Form::Any) {
         if !own_payload_fits(contents, alloc, schema, types, room - 1)? {
             return Ok(false);
         }
@@ -211,6 +211,6 @@ pub fn fits(
     if depth(contents) > LEVELS {
         return Ok(false);
     }
-    let mut types = TypeNames::new(schema);
+    let mut types = TypeNames::new(alloc, schema);
     contents_fit(contents, alloc, schema, &mut types, place, DEEPEST)
 }

@@ -34,7 +34,6 @@ use pbx_json_meaning::{DeserializeOptions, JsonError, JsonKind};
 use pbx_json_schema::{SchemaNames, is_object_form, kind_at};
 use pbx_json_walk::{fault_is_first, message_is_told};
 use pbx_wire::List;
-use pbx_wkt_types::form_of;
 use serde_json::Value;
 use std::alloc::Global;
 
@@ -125,7 +124,9 @@ fn read_message(
     if levels == 0 {
         return Err(at_tree(reading.alloc, JsonKind::NoMemory));
     }
-    let form = form_of(reading.schema, place);
+    let Ok(form) = names.form(reading.schema, place) else {
+        return Err(at_tree(reading.alloc, JsonKind::NoMemory));
+    };
     if is_object_form(form) {
         let skips = skips_keys(form, reading.allow);
         return read_object(reading, names, levels - 1, place, skips, false, tree);

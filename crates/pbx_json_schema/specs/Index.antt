@@ -13,7 +13,10 @@ use Rattle.pbx_json_schema.specs.declared.field_names.FieldNames.{FieldNames}
 use Rattle.std.specs.BTreeMap.{get}
 use Rattle.std.specs.Ordering.{nat_cmp}
 use Rattle.pbx_json_schema.specs.declared.schema_names.SchemaNames.{SchemaNames}
+use Rattle.pbx_json_schema.specs.declared.type_forms.TypeForms.{TypeForms}
 use Rattle.pbx_json_schema.specs.declared.type_names.TypeNames.{TypeNames}
+use Rattle.pbx_wkt_types.specs.declared.form.Form.{Form}
+use Rattle.pbx_wkt_types.specs.Shapes.{form_of}
 use Rattle.pbx_content.specs.declared.shape.MessageShape.{MessageShape}
 use Rattle.std.specs.List.{position}
 use Rattle.std.specs.Option.{IfSome}
@@ -54,9 +57,14 @@ AreNamesOf vs places = (name : List ℕ) → item_under vs places name ≡ value
 unfoldable pub ArePlacesOf : List MessageShape → NamePlaces → Type 0
 ArePlacesOf ms places = (name : List ℕ) → place_under name places ≡ position (λ m. bytes_eq m.full_name name) ms
 
--- the places that are kept, if some are, are those of the message types
-abbrev pub AreTypesIn : Shape → TypeNames → Type 0
-AreTypesIn shape names = IfSome names.places (ArePlacesOf shape.messages)
+-- the form that is kept of a type is the type's
+abbrev pub AreFormsIn : Shape → TypeForms → Type 0
+AreFormsIn shape forms = (t : ℕ) (own : Form) → get nat_cmp forms.forms t ≡ Some own → own ≡ form_of shape t
+
+-- the places that are kept, if some are, are those of the message types, and the forms are the types'
+pub record AreTypesIn (shape : Shape) (names : TypeNames) : Type 0 where
+  pub places : IfSome names.places (ArePlacesOf shape.messages)
+  pub forms : AreFormsIn shape names.forms
 
 -- the index that is kept of a type is of its fields, that of an enum is of its values, and the places are those of the types
 pub record AreNamesIn (shape : Shape) (names : SchemaNames) : Type 0 where

@@ -10,6 +10,7 @@ mod items;
 mod kinds;
 mod name_places;
 mod schema_names;
+mod type_forms;
 mod type_names;
 
 pub use any::{payload_bytes, type_url};

@@ -1,5 +1,6 @@
 ghost use Rattle.std.specs.Prelude.{◌≡◌, IfOk, option_map};
 ghost use Rattle.pbx_content.specs.Shape.{declared_of, enum_values_of};
+ghost use Rattle.pbx_wkt_types.specs.Shapes.{form_of};
 ghost use Rattle.pbx_json_meaning.specs.Names.{field_named};
 ghost use Rattle.pbx_json_meaning.specs.Scalars.{value_named};
 ghost use Rattle.pbx_json_meaning.specs.Urls.{type_of_url};
@@ -11,6 +12,7 @@ use crate::name_places::NamePlaces;
 use crate::type_names::TypeNames;
 use pbx_content::{EnumValueShape, FieldShape, Schema};
 use pbx_wire::NoMemory;
+use pbx_wkt_types::Form;
 use std::alloc::Global;
 use std::collections::BTreeMap;
 
@@ -54,7 +56,7 @@ impl SchemaNames {
         SchemaNames {
             types: BTreeMap::new(alloc),
             enums: BTreeMap::new(alloc),
-            urls: TypeNames::new(schema),
+            urls: TypeNames::new(alloc, schema),
         }
     }
 
@@ -124,6 +126,14 @@ impl SchemaNames {
             Some(places) => Ok(find_value(declared_values(schema, place), places, name)),
             None => Err(NoMemory),
         }
+    }
+
+    /// How JSON tells the messages of the type at a place, where the indices are of this schema. The only error is want of memory.
+    pub fn form(&mut self, schema: &Schema, place: usize) -> Result<Form, NoMemory>
+        ensures form { AreNamesIn schema.now self.old → IfOk result (λ form. form ≡ form_of schema.now place) }
+        ensures names { AreNamesIn schema.now self.old → AreNamesIn schema.now self.new }
+    {
+        self.urls.form(schema, place)
     }
 
     /// The place of the message type that a type's URL names, where the indices are of this schema: by log n comparisons, and by n log n

@@ -1,20 +1,25 @@
-// Message types by the URLs that name them.
+// Message types by the URLs that name them, and their forms.
 ghost use Rattle.std.specs.Prelude.{◌≡◌, ℕ, List as ListOf, cond, IfOk, OnOk, option_map};
 ghost use Rattle.std.specs.Option.{option_or};
 ghost use Rattle.std.specs.Str.{bytes_eq};
+ghost use Rattle.pbx_wkt_types.specs.Shapes.{form_of};
 ghost use Rattle.pbx_json_meaning.specs.Urls.{after_slash, type_of_url};
 ghost use Rattle.pbx_json_schema.specs.Index.{ArePlacesOf, AreTypesIn};
 ghost use Rattle.pbx_json_schema.specs.Places.{place_under};
 
 use crate::name_places::NamePlaces;
+use crate::type_forms::TypeForms;
 use pbx_content::{MessageShape, Schema};
 use pbx_wire::NoMemory;
+use pbx_wkt_types::Form;
 use std::alloc::Global;
 
-/// The places of a schema's message types under their full names, made where a type is first asked for and kept from then on.
+/// The places of a schema's message types under their full names, made where a type is first asked for and kept from then on, and the forms
+/// of its well-known types.
 #[derive(Drop)]
 pub struct TypeNames {
     places: Option<NamePlaces>,
+    forms: TypeForms,
 }
 
 /// The full name in a type's URL: what stands behind its last `/`, if it has one.
@@ -61,10 +66,22 @@ fn type_places(alloc: Global, messages: &[MessageShape]) -> Result<NamePlaces, N
 
 impl TypeNames {
     /// No index yet; takes no memory.
-    pub fn new(schema: &Schema) -> TypeNames
+    pub fn new(alloc: Global, schema: &Schema) -> TypeNames
         ensures { AreTypesIn schema.now result }
     {
-        TypeNames { places: None }
+        TypeNames {
+            places: None,
+            forms: TypeForms::new(alloc, schema),
+        }
+    }
+
+    /// How JSON tells the messages of the type at a place, where the forms are of this schema: a well-known type is compared with its
+    /// public file where it is asked for first. The only error is want of memory.
+    pub fn form(&mut self, schema: &Schema, place: usize) -> Result<Form, NoMemory>
+        ensures form { AreTypesIn schema.now self.old → IfOk result (λ form. form ≡ form_of schema.now place) }
+        ensures names { AreTypesIn schema.now self.old → AreTypesIn schema.now self.new }
+    {
+        self.forms.find(schema, place)
     }
 
     /// Makes the index, where there is none yet.

@@ -1,6 +1,7 @@
 // What was looked up in a schema.
 ghost use Rattle.std.specs.Prelude.{◌≡◌, IfOk, option_map};
 ghost use Rattle.pbx_content.specs.Shape.{enum_values_of};
+ghost use Rattle.pbx_wkt_types.specs.Shapes.{form_of};
 ghost use Rattle.pbx_json_meaning.specs.Canonical.{value_of_number as value_of_number_of};
 ghost use Rattle.pbx_json_meaning.specs.Urls.{type_of_url};
 ghost use Rattle.pbx_json_writing.specs.Indexes.{AreIndexes};
@@ -9,6 +10,7 @@ use crate::enums::{EnumIndexes, value_by_index};
 use pbx_content::{EnumValueShape, Schema};
 use pbx_json_schema::TypeNames;
 use pbx_wire::NoMemory;
+use pbx_wkt_types::Form;
 use std::alloc::Global;
 
 /// Values of enums by their numbers, and message types by their URLs, of those that were asked for.
@@ -25,7 +27,7 @@ impl Indexes {
     {
         Indexes {
             enums: EnumIndexes::new(alloc),
-            types: TypeNames::new(schema),
+            types: TypeNames::new(alloc, schema),
         }
     }
 
@@ -42,6 +44,15 @@ impl Indexes {
         ensures value { IfOk result (λ found. option_map (λ it. it.now) found ≡ value_of_number_of number (enum_values_of schema.now place)) }
     {
         value_by_index(alloc, schema, &mut self.enums, place, number)
+    }
+
+    /// How JSON tells the messages of the type at a place.
+    pub(crate) fn form(&mut self, schema: &Schema, place: usize) -> Result<Form, NoMemory>
+        requires { AreIndexes schema.now self.old }
+        ensures known { AreIndexes schema.now self.new }
+        ensures form { IfOk result (λ form. form ≡ form_of schema.now place) }
+    {
+        self.types.form(schema, place)
     }
 
     /// The message type that a URL names.

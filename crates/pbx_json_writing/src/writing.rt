@@ -28,7 +28,7 @@ use pbx_content_codec::{Contents, Held, Pair};
 use pbx_json_meaning::{JsonError, JsonKind, SerializeOptions};
 use pbx_json_schema::{is_object_form, kind_at, type_url};
 use pbx_wire::List;
-use pbx_wkt_types::{Form, form_of};
+use pbx_wkt_types::Form;
 use serde_json::{Map, Value};
 use std::alloc::Global;
 
@@ -294,7 +294,9 @@ fn message_tree(
     if room == 0 {
         return Err(Refusal::Memory);
     }
-    let form = form_of(schema, message_type(kind));
+    let Ok(form) = indexes.form(schema, message_type(kind)) else {
+        return Err(Refusal::Memory);
+    };
     if is_passed_form(form) {
         return passed_tree(
             contents,

@@ -1,13 +1,14 @@
 // All that a file defines, in the order of places.
 ghost use Rattle.std.specs.Prelude.{◌≡◌, ◌++◌, ◌∷◌, [], map, IfOk, OnOk};
 ghost use Rattle.std.specs.List.{flat_map};
-ghost use Rattle.pbx_link_definitions.specs.Definitions.{parts as parts_of, defined, enum_definitions, service_definitions, definitions_from, definitions};
+ghost use Rattle.pbx_link_definitions.specs.Definitions.{parts as parts_of, defined, full_name, is_scope as is_scope_of};
+ghost use Rattle.pbx_link_definitions.specs.Definitions.{enum_definitions, service_definitions, definitions_from, definitions};
 
 use crate::absent::text_or_empty;
+use crate::named::Named;
 use crate::parts::{name_in, place_copy, place_in};
 use pbx_desc_records::{
-    DescriptorProto, EnumDescriptorProto, EnumValueDescriptorProto, FieldDescriptorProto,
-    FileDescriptorProto, MethodDescriptorProto, OneofDescriptorProto, ServiceDescriptorProto,
+    DescriptorProto, EnumDescriptorProto, FileDescriptorProto, ServiceDescriptorProto,
 };
 use pbx_wire::{List, NoMemory, Text};
 use std::alloc::Global;
@@ -32,6 +33,15 @@ pub enum Sort {
     Service,
     /// A method of a service.
     Method,
+}
+
+impl Sort {
+    /// Whether names may be looked up in what is defined: a message, an enum or a service.
+    pub fn is_scope(self) -> bool
+        ensures { result ≡ is_scope_of self }
+    {
+        matches!(self, Sort::Message | Sort::Enum | Sort::Service)
+    }
 }
 
 /// A definition of a file: the full name of what holds it, its own name, its sort and its place.
@@ -78,49 +88,6 @@ impl Definition {
         ensures { result.now ≡ self.now.place }
     {
         self.place.as_slice()
-    }
-}
-
-/// A record that has a name of its own.
-trait Named {
-    ghost use Rattle.std.specs.Prelude.{List as ListOf, Option as OptionOf, ℕ};
-    ghost use Rattle.pbx_link_definitions.specs.Names.{text_or_empty as text_or_empty_of};
-
-    ghost name: { Self → OptionOf (ListOf ℕ) };
-
-    fn own_name(&self) -> &str
-        ensures { result.now ≡ text_or_empty_of (name self.now) };
-}
-
-impl Named for FieldDescriptorProto {
-    ghost name = { λ x. x.name };
-
-    fn own_name(&self) -> &str {
-        text_or_empty(&self.name)
-    }
-}
-
-impl Named for OneofDescriptorProto {
-    ghost name = { λ x. x.name };
-
-    fn own_name(&self) -> &str {
-        text_or_empty(&self.name)
-    }
-}
-
-impl Named for EnumValueDescriptorProto {
-    ghost name = { λ x. x.name };
-
-    fn own_name(&self) -> &str {
-        text_or_empty(&self.name)
-    }
-}
-
-impl Named for MethodDescriptorProto {
-    ghost name = { λ x. x.name };
-
-    fn own_name(&self) -> &str {
-        text_or_empty(&self.name)
     }
 }
 
@@ -311,7 +278,7 @@ fn add_messages(
 }
 
 /// All that a file defines, in the order of places. The only error is want of memory.
-pub fn file_definitions(
+pub(crate) fn file_definitions(
     alloc: Global,
     file: &FileDescriptorProto,
 ) -> Result<List<Definition>, NoMemory>
@@ -332,4 +299,15 @@ pub fn file_definitions(
         &mut table,
     )?;
     Ok(table)
+}
+
+/// The full names of the definitions. The only error is want of memory.
+pub(crate) fn full_names(alloc: Global, definitions: &[Definition]) -> Result<List<Text>, NoMemory>
+    ensures { IfOk result (λ names. names ≡ map full_name definitions.now) }
+{
+    let mut names = List::with_capacity(alloc, definitions.len())?;
+    for definition in definitions {
+        names.add(name_in(alloc, definition.scope(), definition.name())?)?;
+    }
+    Ok(names)
 }

@@ -6,13 +6,15 @@ mod definitions;
 mod error;
 mod file_parts;
 mod laws;
+mod named;
 mod names;
 mod parts;
 
 pub use absent::{is_named, number_or_zero, text_or_empty};
-pub use definitions::{Definition, Sort, file_definitions};
+pub use definitions::{Definition, Sort};
 pub use error::DescriptorError;
 pub use file_parts::FileParts;
 pub use laws::nested_are_told;
+pub use named::Named;
 pub use names::is_ident;
 pub use parts::{Part, PartRef, name_in, place_at, place_in};

@@ -76,7 +76,8 @@ impl NumberedNames {
         added: &mut Vec<&'a (Text, i32)>,
     ) -> Result<(), NoMemory>
         ensures added { OnOk result ((q : ListOf ℕ) (z : ℤ) → is_there q z self.new ≡ (is_there q z self.old || is_item q z item.now)) }
-        ensures undone { (q : ListOf ℕ) (z : ℤ) → (is_there q z self.new && not (is_noted q z added.new.items)) ≡ (is_there q z self.old && not (is_noted q z added.old.items)) }
+        ensures undone { (q : ListOf ℕ) (z : ℤ) →
+            (is_there q z self.new && not (is_noted q z added.new.items)) ≡ (is_there q z self.old && not (is_noted q z added.old.items)) }
     {
         let name = item.0.as_str();
         let number = item.1;
@@ -89,7 +90,8 @@ impl NumberedNames {
 
     /// Adds each item's number under its name. A refused call changes nothing. The only error is want of memory.
     pub fn add_all(&mut self, alloc: Global, items: &[(Text, i32)]) -> Result<(), NoMemory>
-        ensures ok { OnOk result ((name : ListOf ℕ) (number : ℤ) → is_there name number self.new ≡ (is_there name number self.old || is_among name number items.now)) }
+        ensures ok { OnOk result ((name : ListOf ℕ) (number : ℤ) →
+            is_there name number self.new ≡ (is_there name number self.old || is_among name number items.now)) }
         ensures err { OnErr result ((name : ListOf ℕ) (number : ℤ) → is_there name number self.new ≡ is_there name number self.old) }
     {
         let mut added = Vec::with_capacity(alloc, items.len())?;

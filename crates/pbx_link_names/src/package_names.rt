@@ -124,7 +124,8 @@ impl PackageNames {
 
     /// Adds the parts below the node, one below the other. Where memory runs out, some of them are added.
     fn add_parts(&mut self, alloc: Global, node: usize, parts: &str) -> Result<(), NoMemory>
-        ensures added { OnOk result ((name : ListOf ℕ) → IsSound self.old → IsMissing self.old name (Some (record { node = node; parts = parts.entry })) → HasAdded name self.old self.new) }
+        ensures added { OnOk result ((name : ListOf ℕ) → IsSound self.old
+            → IsMissing self.old name (Some (record { node = node; parts = parts.entry })) → HasAdded name self.old self.new) }
         ensures sound { IsSound self.old → node < self.old.count → IsSound self.new }
         ensures alike { AreAlikeBut (record { node = node; parts = parts.entry }) self.old self.new }
     {

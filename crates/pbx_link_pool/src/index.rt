@@ -2,8 +2,6 @@
 ghost use Rattle.std.specs.Prelude.{◌≡◌, [], ℕ, ℤ, List as ListOf, Option as OptionOf, IfOk, OnOk, OnErr};
 ghost use Rattle.pbx_link_names.specs.Numbers.{is_there};
 ghost use Rattle.pbx_link_names.specs.Packages.{IsSound};
-ghost use Rattle.pbx_link_definitions.specs.Definitions.{definitions as definitions_of};
-ghost use Rattle.pbx_link_pool.specs.Items.{new_items, definition_items};
 ghost use Rattle.pbx_link_pool.specs.Packages.{IsMissingOf, HasPackage, IsAlikeBut, IsForgotten};
 ghost use Rattle.pbx_link_pool.specs.Index.{all_items, new_of, HasAddedAll, AreAllAlikeBut, HasForgottenAll, IsIndexOf, GoesOnWith, GoesOn};
 
@@ -11,7 +9,7 @@ use crate::items::{extended_items, new_definition_items, new_file_items};
 use crate::packages::{add_package, forget_package, missing_package};
 use crate::places::{PlaceItems, Places};
 use pbx_desc_records::FileDescriptorProto;
-use pbx_link_definitions::{FileParts, file_definitions};
+use pbx_link_definitions::FileParts;
 use pbx_link_names::{Missing, NameMap, NumberedNames, PackageNames};
 use pbx_wire::{List, NoMemory, Text};
 use std::alloc::Global;
@@ -31,24 +29,11 @@ pub(crate) struct Index {
 
 /// What is to be added of one file, besides its package.
 #[derive(Drop)]
-struct Items {
+pub(crate) struct Items {
     file_names: List<(Text, usize)>,
     definitions: List<(Text, (usize, bool))>,
     extended: List<(Text, i32)>,
     places: PlaceItems,
-}
-
-/// The definitions of the file under whose names nothing is. The only error is want of memory.
-fn new_definitions(
-    alloc: Global,
-    map: &NameMap<(usize, bool)>,
-    index: usize,
-    file: &FileDescriptorProto,
-) -> Result<List<(Text, (usize, bool))>, NoMemory>
-    ensures { IfOk result (λ items. items ≡ new_items map.now (definition_items index (definitions_of file.now))) }
-{
-    let table = file_definitions(alloc, file)?;
-    new_definition_items(alloc, map, index, table.as_slice())
 }
 
 impl Index {
@@ -66,7 +51,7 @@ impl Index {
     }
 
     /// What the file of these parts adds besides its package, where it has this index. The only error is want of memory.
-    fn new_items(
+    pub(crate) fn new_items(
         &self,
         alloc: Global,
         index: usize,
@@ -76,7 +61,8 @@ impl Index {
     {
         let file = parts.file();
         let file_names = new_file_items(alloc, &self.file_names, index, &file.name)?;
-        let definitions = new_definitions(alloc, &self.definitions, index, file)?;
+        let definitions =
+            new_definition_items(alloc, &self.definitions, index, parts.definitions())?;
         let extended = extended_items(alloc, parts.extensions())?;
         let places = self.places.new_items(alloc, index, parts)?;
         Ok(Items {
@@ -96,7 +82,8 @@ impl Index {
         items: &Items,
     ) -> Result<(), NoMemory>
         ensures added { OnOk result (HasAddedAll items.now self.old self.new) }
-        ensures packaged { OnOk result ((«package» : OptionOf (ListOf ℕ)) → IsSound self.old.packages → IsMissingOf self.old.packages «package» missing.entry → HasPackage «package» self.old.packages self.new.packages) }
+        ensures packaged { OnOk result ((«package» : OptionOf (ListOf ℕ)) → IsSound self.old.packages
+            → IsMissingOf self.old.packages «package» missing.entry → HasPackage «package» self.old.packages self.new.packages) }
         ensures alike { AreAllAlikeBut items.now self.old self.new }
         ensures rest { IsAlikeBut missing.entry self.old.packages self.new.packages }
         ensures extended { OnErr result ((q : ListOf ℕ) (z : ℤ) → is_there q z self.new.extended ≡ is_there q z self.old.extended) }
@@ -120,20 +107,20 @@ impl Index {
         self.places.forget(&items.places);
     }
 
-    /// Adds the file of these parts, whose index is this. A refused call changes nothing that is found. The only error is want of memory.
+    /// Adds the file whose items these are. A refused call changes nothing that is found. The only error is want of memory.
     pub(crate) fn add(
         &mut self,
         alloc: Global,
-        index: usize,
-        parts: &FileParts<'_>,
+        file: &FileDescriptorProto,
+        items: &Items,
     ) -> Result<(), NoMemory>
-        ensures added { OnOk result (GoesOnWith index parts.now self.old self.new) }
-        ensures unchanged { OnErr result (GoesOn self.old self.new) }
+        ensures added { OnOk result ((index : ℕ) → items.now ≡ new_of self.old (all_items index file.now)
+            → GoesOnWith index file.now self.old self.new) }
+        ensures unchanged { OnErr result ((index : ℕ) → items.now ≡ new_of self.old (all_items index file.now) → GoesOn self.old self.new) }
     {
-        let items = self.new_items(alloc, index, parts)?;
-        let missing = missing_package(&self.packages, &parts.file().package);
-        if self.add_all(alloc, missing, &items).is_err() {
-            self.forget(missing, &items);
+        let missing = missing_package(&self.packages, &file.package);
+        if self.add_all(alloc, missing, items).is_err() {
+            self.forget(missing, items);
             return Err(NoMemory);
         }
         Ok(())

@@ -2,53 +2,13 @@
 ghost use Rattle.std.specs.Prelude.{◌≡◌, ◌++◌, ◌∷◌, [], ℕ, List as ListOf, filter, map, IfOk, OnOk};
 ghost use Rattle.std.specs.List.{enumerate_from, flat_map};
 ghost use Rattle.pbx_link_definitions.specs.Names.{qualified, text_or_empty as text_or_empty_of};
-ghost use Rattle.pbx_link_definitions.specs.Definitions.{is_scope as is_scope_of};
 ghost use Rattle.pbx_link_pool.specs.Items.{is_new, new_items, file_items, definition_items, place_items, exact_item, extended_item};
 
-use pbx_desc_records::{
-    DescriptorProto, EnumDescriptorProto, FieldDescriptorProto, ServiceDescriptorProto,
-};
-use pbx_link_definitions::{Definition, Part, Sort, name_in, text_or_empty};
+use pbx_desc_records::{FieldDescriptorProto, ServiceDescriptorProto};
+use pbx_link_definitions::{Definition, Named, Part, name_in, text_or_empty};
 use pbx_link_names::NameMap;
 use pbx_wire::{List, NoMemory, Text};
 use std::alloc::Global;
-
-/// A record that has a name of its own.
-pub(crate) trait Named {
-    ghost use Rattle.std.specs.Prelude.{List as ListOf, Option as OptionOf, ℕ};
-    ghost use Rattle.pbx_link_definitions.specs.Names.{text_or_empty as text_or_empty_of};
-
-    ghost name: { Self → OptionOf (ListOf ℕ) };
-
-    fn own_name(&self) -> &str
-        ensures { result.now ≡ text_or_empty_of (name self.now) };
-}
-
-impl Named for DescriptorProto {
-    ghost use Rattle.pbx_desc_records.specs.declared.message.DescriptorProto.{out-DescriptorProto};
-
-    ghost name = { λ x. (out-DescriptorProto x).name };
-
-    fn own_name(&self) -> &str {
-        text_or_empty(&self.name)
-    }
-}
-
-impl Named for EnumDescriptorProto {
-    ghost name = { λ x. x.name };
-
-    fn own_name(&self) -> &str {
-        text_or_empty(&self.name)
-    }
-}
-
-impl Named for FieldDescriptorProto {
-    ghost name = { λ x. x.name };
-
-    fn own_name(&self) -> &str {
-        text_or_empty(&self.name)
-    }
-}
 
 /// Adds the item, where nothing is under its name. The only error is want of memory.
 fn add_new<V: Copy>(
@@ -81,13 +41,6 @@ pub(crate) fn new_file_items(
     Ok(items)
 }
 
-/// Whether names may be looked up in what is defined.
-fn is_scope(sort: Sort) -> bool
-    ensures { result ≡ is_scope_of sort }
-{
-    matches!(sort, Sort::Message | Sort::Enum | Sort::Service)
-}
-
 /// The definitions by their full names. The only error is want of memory.
 pub(crate) fn new_definition_items(
     alloc: Global,
@@ -100,7 +53,7 @@ pub(crate) fn new_definition_items(
     let mut items = List::with_capacity(alloc, definitions.len())?;
     for definition in definitions {
         let name = name_in(alloc, definition.scope(), definition.name())?;
-        add_new(map, &mut items, name, (index, is_scope(definition.sort())))?;
+        add_new(map, &mut items, name, (index, definition.sort().is_scope()))?;
     }
     Ok(items)
 }

@@ -26,7 +26,8 @@ pub(crate) fn add_package(
     packages: &mut PackageNames,
     missing: Option<Missing<'_>>,
 ) -> Result<(), NoMemory>
-    ensures added { OnOk result ((«package» : OptionOf (ListOf ℕ)) → IsSound packages.old → IsMissingOf packages.old «package» missing.entry → HasPackage «package» packages.old packages.new) }
+    ensures added { OnOk result ((«package» : OptionOf (ListOf ℕ)) → IsSound packages.old
+        → IsMissingOf packages.old «package» missing.entry → HasPackage «package» packages.old packages.new) }
     ensures alike { IsAlikeBut missing.entry packages.old packages.new }
 {
     match missing {

@@ -1,7 +1,6 @@
 // Full names that are defined twice (language guide: "Packages and Name Resolution").
-ghost use Rattle.std.specs.Prelude.{◌≡◌, ◌||◌, map, position, IfOk};
+ghost use Rattle.std.specs.Prelude.{◌≡◌, ◌||◌, position, IfOk};
 ghost use Rattle.std.specs.Str.{bytes_eq};
-ghost use Rattle.pbx_link_definitions.specs.Definitions.{full_name};
 ghost use Rattle.pbx_link_definitions.specs.Names.{among};
 ghost use Rattle.pbx_link_definitions.specs.Places.{IsAmong};
 ghost use Rattle.pbx_link_rules_record.specs.Found.{IsIndex, is_earlier};
@@ -10,22 +9,11 @@ ghost use Rattle.pbx_link_rules.specs.Rules.{taken_names, definitions_twice, nam
 use crate::imports::Place;
 use crate::packages::{is_defined, is_defined_package, is_in_package};
 use pbx_desc_records::FileDescriptorProto;
-use pbx_link_definitions::{Definition, file_definitions, name_in, place_at};
+use pbx_link_definitions::{FileParts, place_at};
 use pbx_link_scope::Pooled;
-use pbx_wire::{List, NoMemory, Text};
+use pbx_wire::{NoMemory, Text};
 use std::alloc::Global;
 use std::collections::BTreeSet;
-
-/// The full names of the definitions.
-fn full_names(alloc: Global, definitions: &[Definition]) -> Result<List<Text>, NoMemory>
-    ensures { IfOk result (λ names. names ≡ map full_name definitions.now) }
-{
-    let mut names = List::with_capacity(alloc, definitions.len())?;
-    for definition in definitions {
-        names.add(name_in(alloc, definition.scope(), definition.name())?)?;
-    }
-    Ok(names)
-}
 
 /// Whether a definition of the pool has this full name, or a package of the pool or of the file has it or begins with it.
 fn is_taken<P: Pooled>(pool: &P, file: &FileDescriptorProto, name: &str) -> bool
@@ -75,14 +63,12 @@ fn name_twice<P: Pooled>(
 fn definition_twice<P: Pooled>(
     alloc: Global,
     pool: &P,
-    file: &FileDescriptorProto,
+    parts: &FileParts<'_>,
 ) -> Result<Option<Place>, NoMemory>
-    ensures { IfOk result (IsAmong (definitions_twice (P.files pool.now) file.now)) }
+    ensures { IfOk result (IsAmong (definitions_twice (P.files pool.now) parts.now)) }
 {
-    let table = file_definitions(alloc, file)?;
-    let definitions = table.as_slice();
-    let names = full_names(alloc, definitions)?;
-    match name_twice(alloc, pool, file, names.as_slice())? {
+    let definitions = parts.definitions();
+    match name_twice(alloc, pool, parts.file(), parts.full_names())? {
         Some(index) => Ok(Some(place_at(alloc, definitions[index].place(), 1)?)),
         None => Ok(None),
     }
@@ -95,12 +81,12 @@ fn definition_twice<P: Pooled>(
 pub(crate) fn names_twice<P: Pooled>(
     alloc: Global,
     pool: &P,
-    file: &FileDescriptorProto,
+    parts: &FileParts<'_>,
 ) -> Result<Option<Place>, NoMemory>
-    ensures { IfOk result (IsAmong (names_twice_of (P.files pool.now) file.now)) }
+    ensures { IfOk result (IsAmong (names_twice_of (P.files pool.now) parts.now)) }
 {
-    if is_defined_package(pool, &file.package) {
+    if is_defined_package(pool, &parts.file().package) {
         return Ok(Some(place_at(alloc, &[], 2)?));
     }
-    definition_twice(alloc, pool, file)
+    definition_twice(alloc, pool, parts)
 }

@@ -50,7 +50,7 @@ fn name_breach<P: Pooled>(
     if let Some(place) = bad_names(alloc, parts)? {
         return Ok(Some(Breach { rule: 4, place }));
     }
-    match names_twice(alloc, pool, parts.file())? {
+    match names_twice(alloc, pool, parts)? {
         Some(place) => Ok(Some(Breach { rule: 5, place })),
         None => Ok(None),
     }

@@ -1,14 +1,13 @@
 // Rules on the syntax, the edition and the names of a file.
 ghost use Rattle.std.specs.Prelude.{◌≡◌, IfOk};
 ghost use Rattle.pbx_link_definitions.specs.Names.{is_full_ident as is_full_ident_of};
-ghost use Rattle.pbx_link_definitions.specs.Definitions.{definitions, name_place};
+ghost use Rattle.pbx_link_definitions.specs.Definitions.{name_place};
 ghost use Rattle.pbx_link_definitions.specs.Places.{IsAmong, places_where};
 ghost use Rattle.pbx_link_rules_record.specs.FileRules.{is_unknown_syntax as is_unknown_syntax_of, is_bad_package as is_bad_package_of, is_bad_name};
 ghost use Rattle.pbx_link_rules_record.specs.FileRules.{unknown_syntax as unknown_syntax_of, bad_names as bad_names_of};
 
 use crate::options::has_record;
-use pbx_desc_records::FileDescriptorProto;
-use pbx_link_definitions::{Definition, FileParts, file_definitions, is_ident, place_at};
+use pbx_link_definitions::{Definition, FileParts, is_ident, place_at};
 use pbx_wire::{List, NoMemory, Text};
 use std::alloc::Global;
 
@@ -64,13 +63,6 @@ fn bad_name(alloc: Global, definitions: &[Definition]) -> Result<Option<List<i32
     Ok(None)
 }
 
-fn bad_definition(alloc: Global, file: &FileDescriptorProto) -> Result<Option<List<i32>>, NoMemory>
-    ensures { IfOk result (IsAmong (places_where is_bad_name name_place (definitions file.now))) }
-{
-    let table = file_definitions(alloc, file)?;
-    bad_name(alloc, table.as_slice())
-}
-
 /// A file without a name, a package that is not identifiers joined by dots, or a definition whose own name is no identifier, rule 4.
 /// The only error is want of memory.
 pub fn bad_names(alloc: Global, parts: &FileParts<'_>) -> Result<Option<List<i32>>, NoMemory>
@@ -83,5 +75,5 @@ pub fn bad_names(alloc: Global, parts: &FileParts<'_>) -> Result<Option<List<i32
     if is_bad_package(&file.package) {
         return Ok(Some(place_at(alloc, &[], 2)?));
     }
-    bad_definition(alloc, file)
+    bad_name(alloc, parts.definitions())
 }

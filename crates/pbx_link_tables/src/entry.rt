@@ -2,14 +2,12 @@
 ghost use Rattle.std.specs.Prelude.{◌≡◌, [], map, IfOk};
 ghost use Rattle.pbx_link_definitions.specs.Names.{text_or_empty as text_or_empty_of, qualified};
 ghost use Rattle.pbx_link_definitions.specs.Definitions.{package_of, parts as parts_of};
-ghost use Rattle.pbx_link_tables.specs.Entries.{entry as entry_of, message_entry as message_entry_of, service_entry as service_entry_of, in_brackets, AreEntries};
+ghost use Rattle.pbx_link_tables.specs.Entries.{entry as entry_of, message_entry as message_entry_of, service_entry as service_entry_of};
+ghost use Rattle.pbx_link_tables.specs.Entries.{in_brackets, AreEntries};
 ghost use Rattle.pbx_desc_records.specs.declared.field.FieldDescriptorProto.{FieldDescriptorProto as FieldOf};
 
-use pbx_desc_records::{
-    DescriptorProto, EnumDescriptorProto, FieldDescriptorProto, FileDescriptorProto,
-    ServiceDescriptorProto,
-};
-use pbx_link_definitions::{FileParts, Part, name_in, place_in, text_or_empty};
+use pbx_desc_records::{DescriptorProto, FieldDescriptorProto, ServiceDescriptorProto};
+use pbx_link_definitions::{FileParts, Named, Part, name_in, place_in, text_or_empty};
 use pbx_wire::{List, NoMemory, Text};
 use std::alloc::Global;
 
@@ -38,33 +36,6 @@ pub struct Entries {
     pub services: List<Entry>,
     /// The full names of the extensions in brackets.
     pub json_names: List<Text>,
-}
-
-/// A record that has a name of its own.
-trait Named {
-    ghost use Rattle.std.specs.Prelude.{List as ListOf, Option as OptionOf, ℕ};
-    ghost use Rattle.pbx_link_definitions.specs.Names.{text_or_empty as text_or_empty_of};
-
-    ghost name: { Self → OptionOf (ListOf ℕ) };
-
-    fn own_name(&self) -> &str
-        ensures { result.now ≡ text_or_empty_of (name self.now) };
-}
-
-impl Named for EnumDescriptorProto {
-    ghost name = { λ x. x.name };
-
-    fn own_name(&self) -> &str {
-        text_or_empty(&self.name)
-    }
-}
-
-impl Named for FieldDescriptorProto {
-    ghost name = { λ x. x.name };
-
-    fn own_name(&self) -> &str {
-        text_or_empty(&self.name)
-    }
 }
 
 fn place_copy(alloc: Global, place: &[i32]) -> Result<List<i32>, NoMemory>
@@ -171,11 +142,11 @@ fn bracketed_names(alloc: Global, entries: &[Entry]) -> Result<List<Text>, NoMem
     Ok(names)
 }
 
-/// The entries of a file. The only error is want of memory.
-pub(crate) fn file_entries(alloc: Global, file: &FileDescriptorProto) -> Result<Entries, NoMemory>
-    ensures { IfOk result (AreEntries file.now) }
+/// The parts of a file without their records. The only error is want of memory.
+pub fn file_entries(alloc: Global, parts: &FileParts<'_>) -> Result<Entries, NoMemory>
+    ensures { IfOk result (AreEntries parts.now) }
 {
-    let parts = FileParts::new(alloc, file)?;
+    let file = parts.file();
     let messages = message_entries(alloc, parts.messages())?;
     let enums = part_entries(alloc, parts.enums())?;
     let extensions = part_entries(alloc, parts.extensions())?;

@@ -5,4 +5,5 @@ mod entry;
 mod table;
 mod walk;
 
+pub use entry::{Entries, file_entries};
 pub use table::FileTable;

@@ -1,18 +1,16 @@
 // The record of a file with its parts by index.
-ghost use Rattle.std.specs.Prelude.{◌≡◌, length, option_copied, option_map, slice_get, IfOk};
+ghost use Rattle.std.specs.Prelude.{◌≡◌, length, option_copied, option_map, slice_get};
 ghost use Rattle.pbx_link_definitions.specs.Definitions.{messages, enums, extensions, services, message_name as message_name_of};
 ghost use Rattle.pbx_link_definitions.specs.Definitions.{enum_name as enum_name_of, service_name as service_name_of, field_name as field_name_of};
-ghost use Rattle.pbx_link_tables.specs.Entries.{with_item, name_of_field, json_name};
+ghost use Rattle.pbx_link_tables.specs.Entries.{AreEntries, with_item, name_of_field, json_name};
 
-use crate::entry::{Entries, Entry, file_entries};
+use crate::entry::{Entries, Entry};
 use crate::walk::{enum_at, extension_at, holder, item, message_at};
 use pbx_desc_records::{
     DescriptorProto, EnumDescriptorProto, FieldDescriptorProto, FileDescriptorProto,
     ServiceDescriptorProto,
 };
 use pbx_link_definitions::PartRef;
-use pbx_wire::NoMemory;
-use std::alloc::Global;
 use std::marker::Model;
 
 /// The record of a file with its messages, enums, extensions and services by index, nested ones included. Contracts see the record.
@@ -62,17 +60,12 @@ fn name_of(entry: Option<&Entry>) -> Option<&str>
 }
 
 impl FileTable {
-    /// The table of the file, which is dropped where memory runs out. The only error is want of memory.
-    pub fn new(alloc: Global, file: FileDescriptorProto) -> Result<FileTable, NoMemory>
-        ensures { IfOk result (λ table. table ≡ file) }
+    /// The table of the file, whose parts these are.
+    pub fn new(file: FileDescriptorProto, entries: Entries) -> FileTable
+        requires { AreEntries file entries }
+        ensures { result ≡ file }
     {
-        match file_entries(alloc, &file) {
-            Ok(entries) => Ok(FileTable { file, entries }),
-            Err(error) => {
-                drop(file);
-                Err(error)
-            }
-        }
+        FileTable { file, entries }
     }
 
     /// The file's record.

@@ -9,42 +9,10 @@ ghost use Rattle.pbx_link_definitions.specs.Names.{qualified, text_or_empty as t
 ghost use Rattle.pbx_link_definitions.specs.Definitions.{full_name, is_scope as is_scope_of, definitions};
 ghost use Rattle.pbx_link_visible.specs.Names.{has_text, first_index, HasAddedNames};
 
-use pbx_desc_records::{DescriptorProto, EnumDescriptorProto, FileDescriptorProto};
-use pbx_link_definitions::{
-    Definition, Part, PartRef, Sort, file_definitions, name_in, text_or_empty,
-};
+use pbx_link_definitions::{Definition, FileParts, Named, Part, PartRef, name_in};
 use pbx_wire::NoMemory;
 use std::alloc::Global;
 use std::collections::{BTreeMap, BTreeSet};
-
-/// A record that has a name of its own.
-pub(crate) trait Named {
-    ghost use Rattle.std.specs.Prelude.{List as ListOf, Option as OptionOf, ℕ};
-    ghost use Rattle.pbx_link_definitions.specs.Names.{text_or_empty as text_or_empty_of};
-
-    ghost name: { Self → OptionOf (ListOf ℕ) };
-
-    fn own_name(&self) -> &str
-        ensures { result.now ≡ text_or_empty_of (name self.now) };
-}
-
-impl Named for DescriptorProto {
-    ghost use Rattle.pbx_desc_records.specs.declared.message.DescriptorProto.{out-DescriptorProto};
-
-    ghost name = { λ x. (out-DescriptorProto x).name };
-
-    fn own_name(&self) -> &str {
-        text_or_empty(&self.name)
-    }
-}
-
-impl Named for EnumDescriptorProto {
-    ghost name = { λ x. x.name };
-
-    fn own_name(&self) -> &str {
-        text_or_empty(&self.name)
-    }
-}
 
 /// The full name of a name in its scope, as a key. The only error is want of memory.
 fn name_key(alloc: Global, scope: &str, name: &str) -> Result<String, NoMemory>
@@ -102,13 +70,6 @@ pub(crate) fn first_part<'b, T: Named>(
     }
 }
 
-/// Whether names may be looked up in what is defined.
-fn is_scope(sort: Sort) -> bool
-    ensures { result ≡ is_scope_of sort }
-{
-    matches!(sort, Sort::Message | Sort::Enum | Sort::Service)
-}
-
 /// Adds the full name of the definition, if names may be looked up in what it defines.
 fn add_scope(
     alloc: Global,
@@ -118,7 +79,7 @@ fn add_scope(
     ensures { OnOk result (HasAddedNames string_bytes
         (λ q. is_scope_of definition.now.sort && bytes_eq (full_name definition.now) q) names.old names.new) }
 {
-    if is_scope(definition.sort()) {
+    if definition.sort().is_scope() {
         names.insert(name_key(alloc, definition.scope(), definition.name())?)?;
     }
     Ok(())
@@ -142,13 +103,12 @@ fn add_scopes(
 /// The full names of the file's own messages, enums and services. The only error is want of memory.
 pub(crate) fn scope_names(
     alloc: Global,
-    file: &FileDescriptorProto,
+    parts: &FileParts<'_>,
 ) -> Result<BTreeSet<String>, NoMemory>
     ensures { IfOk result (λ names. (q : ListOf ℕ) →
-        has_text string_bytes names q ≡ list_any (λ d. is_scope_of d.sort && bytes_eq (full_name d) q) (definitions file.now)) }
+        has_text string_bytes names q ≡ list_any (λ d. is_scope_of d.sort && bytes_eq (full_name d) q) (definitions parts.now)) }
 {
-    let definitions = file_definitions(alloc, file)?;
     let mut names = BTreeSet::new(alloc);
-    add_scopes(alloc, definitions.as_slice(), &mut names)?;
+    add_scopes(alloc, parts.definitions(), &mut names)?;
     Ok(names)
 }

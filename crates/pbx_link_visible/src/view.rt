@@ -141,7 +141,7 @@ impl<'a, P: Pooled> VisibleFiles<'a, P> {
             indexes: index_set(alloc, found.as_slice())?,
             messages: first_indexes(alloc, parts.messages())?,
             enums: first_indexes(alloc, parts.enums())?,
-            scopes: scope_names(alloc, file)?,
+            scopes: scope_names(alloc, parts)?,
             packages: package_names(alloc, pool, found.as_slice(), file)?,
         })
     }

@@ -126,8 +126,9 @@ impl<R: FileResolver> Compiler<R> {
         ensures again { IsTrue (R.library self.old.resolver).tells → is_settled (root_of (R.library self.old.resolver).resolves path.now) self.old.done ≡ true →
             self.new.resolver ≡ self.old.resolver }
 
-        // Over every resolver, files are added as imports, and then one of all is marked; where none is added, nothing is read.
-        ensures opens { OnOk result (Opens self.old.done self.new.done) }
+        // Over every resolver, files are added as imports, and then one of all is marked, of which the answer says what it was before; where
+        // none is added, nothing is read.
+        ensures opens { IfOk result (Opens self.old.done self.new.done) }
         ensures unread { OnOk result (length self.new.done ≡ length self.old.done → self.new.resolver ≡ self.old.resolver) }
         ensures grows { OnErr result (Grows self.old.done self.new.done) }
         ensures cause { IfErr result (HasOpeningCause self.old.limit path.now self.new.done

@@ -5,6 +5,7 @@ use Rattle.std.specs.Prelude.{Option}
 use Rattle.protox_file_sources.specs.Told.{Told, Lookup, ByLookups}
 use Rattle.protox_file_error.specs.declared.error.ErrorKind.{ErrorKind}
 use Rattle.protox_compile_walk.specs.Walk.{Done}
+use Rattle.protox_compile_walk.specs.declared.root.Opened.{Opened}
 use Rattle.protox_compile_walk.specs.Opening.{Ended, Accepted, NotIncluded, Refused, opening, closure, after_opening}
 use Rattle.protox_compile_walk.specs.Refusals.{RefusesOpening, Grows}
 use Rattle.protox_compile_walk.specs.Closures.{StopsAt}
@@ -67,5 +68,5 @@ module _ (once : Once) (files : List ℕ → Told) (resolves : List ℕ → Opti
       )
 
 -- one opening more
-pub opens_next : (i : ℕ) (old middle new : List Done) → OpensTimes i old middle → Opens middle new → OpensTimes (i + 1) old new
-opens_next i old middle new before one = rw add-one (middle, before, one)
+pub opens_next : (i : ℕ) (old middle new : List Done) (report : Opened) → OpensTimes i old middle → Opens middle new report → OpensTimes (i + 1) old new
+opens_next i old middle new report before one = rw add-one (middle, before, report, one)

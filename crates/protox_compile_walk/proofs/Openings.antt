@@ -132,13 +132,16 @@ fault_since old new first before now same later e (rose, fault) =
 -- ---- marks
 
 -- a finished file is marked
-pub opens_again : {T E : Type 0} (result : Result T E) (name : List ℕ) (old new : List Done) → name_of name ≡ Some name → is_done old name ≡ true → OnOk result (new ≡ mark name old) → OnOk result (Opens old new)
-opens_again (Err e) name old new own there h = tt
-opens_again (Ok x) name old new own there h = record { name = name; named = own; middle = old; grows = grows_same old; finished = there; marked = h }
+pub opens_again : {E : Type 0} (result : Result Opened E) (name : List ℕ) (old new : List Done) → name_of name ≡ Some name → is_done old name ≡ true
+    → OnOk result (new ≡ mark name old) → IfOk result (λ report. report ≡ (if is_opened name old then Again else Import)) → IfOk result (Opens old new)
+opens_again (Err e) name old new own there h told = tt
+opens_again (Ok x) name old new own there h told =
+    record { name = name; named = own; middle = old; grows = grows_same old; finished = there; marked = h; reported = rw there told }
 
 -- a file that is finished now is marked
-pub opens_new : (name : List ℕ) (old middle new : List Done) → name_of name ≡ Some name → Grows old middle → is_done middle name ≡ true → new ≡ mark name middle → Opens old new
-opens_new name old middle new own grows there h = record { name = name; named = own; middle = middle; grows = grows; finished = there; marked = h }
+pub opens_new : (name : List ℕ) (old middle new : List Done) → name_of name ≡ Some name → Grows old middle → is_done middle name ≡ true → new ≡ mark name middle → is_done old name ≡ false → Opens old new Compiled
+opens_new name old middle new own grows there h fresh =
+    record { name = name; named = own; middle = middle; grows = grows; finished = there; marked = h; reported = rw fresh refl }
 
 length_mark : (name : List ℕ) (done : List Done) → length (mark name done) ≡ length done
 length_mark name [] = refl

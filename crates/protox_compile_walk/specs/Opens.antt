@@ -4,7 +4,8 @@ use Rattle.protox_io.specs.FileNames.{name_of, path_equal}
 use Rattle.protox_file_error.specs.declared.error.ErrorKind.{ErrorKind}
 use Rattle.protox_file_error.specs.declared.error.ErrorKind.TheVariants.{FileShadowed, NoMemory}
 use Rattle.protox_compile_walk.specs.Walk.{Done, is_done}
-use Rattle.protox_compile_walk.specs.Opening.{mark, asked_path}
+use Rattle.protox_compile_walk.specs.declared.root.Opened.{Opened}
+use Rattle.protox_compile_walk.specs.Opening.{mark, asked_path, report_in}
 use Rattle.protox_compile_walk.specs.Refusals.{Grows}
 
 -- the name that a path asks for, and whether the path was resolved
@@ -23,19 +24,21 @@ abbrev pub is_settled : Option (List ℕ × Option (List ℕ)) → List Done →
 is_settled None done = true
 is_settled (Some root) done = is_done done root.0
 
--- more files stand behind the old ones as imports, and one of all has been marked, whose name names itself
-pub record Opens (old new : List Done) : Type 0 where
+-- more files stand behind the old ones as imports, and one of all has been marked, whose name names itself; the report is what that name
+-- was before
+pub record Opens (old new : List Done) (report : Opened) : Type 0 where
   pub name : List ℕ
   pub named : name_of name ≡ Some name
   pub middle : List Done
   pub grows : Grows old middle
   pub finished : is_done middle name ≡ true
   pub marked : new ≡ mark name middle
+  pub reported : report ≡ report_in name old
 
 -- so many paths were opened one after another
 abbrev pub OpensTimes : ℕ → List Done → List Done → Type 0
 OpensTimes zero old new = new ≡ old
-OpensTimes (suc n) old new = (middle : List Done) × OpensTimes n old middle × Opens middle new
+OpensTimes (suc n) old new = (middle : List Done) × OpensTimes n old middle × (report : Opened) × Opens middle new report
 
 -- fewer than so many paths were opened one after another, and then more files stand behind as imports
 pub record GrowsWithin (most : ℕ) (old new : List Done) : Type 0 where

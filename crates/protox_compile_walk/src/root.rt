@@ -111,7 +111,7 @@ fn open_name<R: FileResolver>(
         (λ ls. grown ls limit (Some (name.now, asked_path resolved path.now)) done.old)
         (λ ls. open_name_in ls limit (Some (name.now, asked_path resolved path.now)) done.old) lookups done.new e)) }
     ensures report { IfOk result (λ report. report ≡ report_in name.now done.old) }
-    ensures opens { OnOk result (Opens done.old done.new) }
+    ensures opens { IfOk result (Opens done.old done.new) }
     ensures grows { OnErr result (Grows done.old done.new) }
     ensures root { OnErr result (is_done done.new name.now ≡ is_done done.old name.now) }
     ensures again { is_done done.old name.now ≡ true → resolver.new ≡ resolver.old }
@@ -153,7 +153,7 @@ pub fn open_path<R: FileResolver>(
         (λ lookups. RefusesOpening lookups (R.library resolver.old).resolves limit path.now done.old done.new e)) }
     ensures report { IsTrue (R.library resolver.old).tells →
         IfOk result (λ report. report_of (R.library resolver.old).resolves path.now done.old ≡ Some report) }
-    ensures opens { OnOk result (Opens done.old done.new) }
+    ensures opens { IfOk result (Opens done.old done.new) }
     ensures grows { OnErr result (Grows done.old done.new) }
     ensures again { IsTrue (R.library resolver.old).tells → is_settled (root_of (R.library resolver.old).resolves path.now) done.old ≡ true
         → resolver.new ≡ resolver.old }

@@ -23,7 +23,7 @@ refusal_line (Top line) = line ∷ []
 unfoldable pub error_line : Pieces → List ℕ
 error_line pieces = shown_line (codes "error: " ∷ pieces)
 
--- the line of a path that was given again: `note: `, with control characters as escapes, and a line feed
+-- the line of a path that was given again: `note: `, with invisible characters as escapes, and a line feed
 unfoldable pub note_line : List ℕ → List ℕ
 note_line path = shown_line (codes "note: path '" ∷ path ∷ codes "' was given twice" ∷ [])
 

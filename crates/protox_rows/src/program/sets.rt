@@ -1,4 +1,4 @@
-//! The set of files that a transcoding gives.
+//! The set of files that a transcoding gives, and the paths that it tells as repeated.
 
 use crate::program::objects::{came_of, words};
 use crate::stop::Stop;
@@ -34,28 +34,41 @@ fn resolver(alloc: Global, row: &Row) -> Result<MemoryResolver, NoMemory> {
     Ok(files)
 }
 
-/// The set in hexadecimal digits.
-fn digits(alloc: Global, came: &Result<Transcoded, TopError>) -> Result<String, Stop> {
+/// The numbers as a JSON array.
+fn array(alloc: Global, numbers: &[u64]) -> Result<String, NoMemory> {
+    let mut text = String::from_str(alloc, "[")?;
+    let mut between = "";
+    for number in numbers {
+        let item = format!(in alloc; "{between}{number}")?;
+        text.push_str(item.as_str())?;
+        between = ", ";
+    }
+    text.push_str("]")?;
+    Ok(text)
+}
+
+/// The set in hexadecimal digits, or the indices of the repeated paths where the word asks for them.
+fn told(alloc: Global, came: &Result<Transcoded, TopError>, word: &str) -> Result<String, Stop> {
     match came {
+        Ok(done) if word == "repeated" => Ok(array(alloc, done.repeated.as_slice())?),
         Ok(done) => Ok(encode(alloc, done.set.as_slice())?),
         Err(_) => Ok(String::from_str(alloc, "refused")?),
     }
 }
 
-/// The set of the files, where the tree is transcoded as a message of the type.
-fn set_with(alloc: Global, row: &Row, tree: &Value) -> Result<String, Stop> {
+fn told_with(alloc: Global, row: &Row, word: &str, tree: &Value) -> Result<String, Stop> {
     let paths = words(alloc, row)?;
     let files = resolver(alloc, row)?;
     let came = came_of(alloc, files, &paths, row.text(TYPE), tree);
-    let digits = digits(alloc, &came);
+    let told = told(alloc, &came, word);
     drop(came);
-    digits
+    told
 }
 
-/// The set of the files, where the input is transcoded as a message of the type.
-pub(crate) fn set(alloc: Global, row: &Row) -> Result<String, Stop> {
+/// What the word asks of the files, where the input is transcoded as a message of the type.
+pub(crate) fn set(alloc: Global, row: &Row, word: &str) -> Result<String, Stop> {
     match Value::from_slice(alloc, row.bytes(INPUT)) {
-        Ok(tree) => set_with(alloc, row, &tree),
+        Ok(tree) => told_with(alloc, row, word, &tree),
         Err(_) => Ok(String::from_str(alloc, "no JSON")?),
     }
 }

@@ -25,10 +25,10 @@ pub returns-in-Err-clause-cause : goal.returns-in-Err-clause-cause
 returns-in-Err-clause-cause g c = opening_cause c.args.limit c.args.path.now c.args.resolved _ (FaultCause (g.R.FileResolver.library c.args.resolver.now) (g.R.FileResolver.count c.args.resolver.now) (g.R.FileResolver.count c.visit_root.new.resolver)) c.in-Err.error _ (rw c.asked_path-asked.ensures at c.in-Err.ensures.cause) c.root_error.ensures
 
 pub returns-then-contains-clause-opens : goal.returns-then-contains-clause-opens
-returns-then-contains-clause-opens g c = opens_again c.open_again.result c.args.name.now c.args.done.now _ c.requires (sym c.contains.ensures ∙ c.if-contains.true) c.open_again.ensures.marked
+returns-then-contains-clause-opens g c = opens_again c.open_again.result c.args.name.now c.args.done.now _ c.requires (sym c.contains.ensures ∙ c.if-contains.true) c.open_again.ensures.marked c.open_again.ensures.report
 
 pub returns-in-Ok-clause-opens : goal.returns-in-Ok-clause-opens
-returns-in-Ok-clause-opens g c = opens_new c.args.name.now c.args.done.now c.visit_root.new.done _ c.requires c.visit_root.ensures.grows c.in-Ok.ensures.there c.mark.ensures
+returns-in-Ok-clause-opens g c = opens_new c.args.name.now c.args.done.now c.visit_root.new.done _ c.requires c.visit_root.ensures.grows c.in-Ok.ensures.there c.mark.ensures (sym c.contains.ensures ∙ c.if-contains.false)
 
 pub returns-in-Ok-clause-unread : goal.returns-in-Ok-clause-unread
 returns-in-Ok-clause-unread g c same =

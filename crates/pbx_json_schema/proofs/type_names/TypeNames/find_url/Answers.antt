@@ -12,6 +12,6 @@ returns-in-Some-places-clause-place c = λ are.
     let shape = c.args.schema.now in
     let name = c.in-Some.name.now in
     let own : ArePlacesOf shape.messages c.in-Some-places.places
-    = subst (λ (o : Option NamePlaces). IfSome o (ArePlacesOf shape.messages)) c.in-Some-places.is (c.prepare.ensures are) in
+    = subst (λ (o : Option NamePlaces). IfSome o (ArePlacesOf shape.messages)) c.in-Some-places.is (c.prepare.ensures are).places in
     let named : after_slash c.args.url.now ≡ Some name = sym c.name_in.ensures ∙ ap (option_map (λ (n : Bor (List ℕ)). n.now)) c.in-Some.is in
     c.get.ensures ∙ own name ∙ sym (ap (option_and_then (type_named shape)) named)

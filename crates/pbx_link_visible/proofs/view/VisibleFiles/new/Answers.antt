@@ -1,8 +1,6 @@
-use Rattle.std.proofs.Common.{◌∙◌, ◌&&◌, ap}
-use Rattle.std.specs.List.{list_any}
+use Rattle.std.proofs.Common.{◌∙◌, ap}
 use Rattle.std.specs.Str.{bytes_eq}
-use Rattle.pbx_desc_records.specs.declared.file.FileDescriptorProto.{FileDescriptorProto}
-use Rattle.pbx_link_definitions.specs.Definitions.{full_name, is_scope, definitions, message_name, enum_name}
+use Rattle.pbx_link_definitions.specs.Definitions.{message_name, enum_name}
 use Rattle.pbx_link_visible.specs.Names.{first_index}
 use Rattle.pbx_link_visible.proofs.Viewed.{sees}
 use Rattle.pbx_link_visible.proofs.view.VisibleFiles.new.Goals as goal
@@ -14,6 +12,6 @@ invariant_of-result g c = (
   (
     λ q. c.in_ok-first_indexes.ensures q ∙ ap (first_index (λ p. bytes_eq (message_name p) q) 0) c.messages.ensures,
     λ q. c.in_ok-first_indexes-2.ensures q ∙ ap (first_index (λ p. bytes_eq (enum_name p) q) 0) c.enums.ensures,
-    λ q. c.in_ok-scope_names.ensures q ∙ ap (λ (f : FileDescriptorProto). list_any (λ d. is_scope d.sort && bytes_eq (full_name d) q) (definitions f)) c.file-file.ensures,
+    c.in_ok-scope_names.ensures,
   ),
 )

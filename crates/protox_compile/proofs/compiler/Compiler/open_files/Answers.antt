@@ -48,7 +48,7 @@ loop-path-init g c = record {
 pub loop-path-preserved : goal.loop-path-preserved
 loop-path-preserved g c = record {
   keeps = settings_join g.R.FileResolver.library g.R.FileResolver.count c.args.self.now c.loop-path.self c.open_file.new.self c.loop-path.invariant.keeps c.in-Ok.ensures.keeps;
-  opens = opens_next c.loop-path.path-index c.args.self.now.done c.loop-path.self.done _ c.loop-path.invariant.opens c.in-Ok.ensures.opens;
+  opens = opens_next c.loop-path.path-index c.args.self.now.done c.loop-path.self.done _ _ c.loop-path.invariant.opens c.in-Ok.ensures.opens;
   before = λ tells.
       let told : IsTrue (g.R.FileResolver.library c.loop-path.self.resolver).tells = rw c.loop-path.invariant.keeps.files.keeps tells in
       let limit : c.loop-path.self.limit ≡ c.args.self.now.limit = ap (λ s. s.limit) c.loop-path.invariant.keeps.settings in

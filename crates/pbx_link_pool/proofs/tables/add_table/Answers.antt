@@ -1,7 +1,7 @@
 use Rattle.std.proofs.Common.{◌∙◌, ap}
 use Rattle.std.specs.List.{remove}
 use Rattle.pbx_link_pool.proofs.Numbered.{removed_last}
-use Rattle.pbx_link_pool.proofs.tables.add_linked.Goals as goal
+use Rattle.pbx_link_pool.proofs.tables.add_table.Goals as goal
 
 pub returns-then-is_err-clause-same : goal.returns-then-is_err-clause-same
 returns-then-is_err-clause-same c =
