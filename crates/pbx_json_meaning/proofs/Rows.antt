@@ -27,7 +27,7 @@ use Rattle.pbx_json_meaning.specs.Stands.{content_for}
 use Rattle.pbx_json_meaning.specs.Faults.{JsonFault}
 use Rattle.pbx_json_meaning.specs.Canonical.{canonical}
 use Rattle.pbx_json_meaning.specs.WriteFaults.{WriteFault}
-use Rattle.pbx_json_meaning.specs.Clash.{name_fault, first_clash}
+use Rattle.pbx_json_meaning.specs.Clash.{ByJsonName, ByAnyName, name_fault, first_clash}
 use Rattle.pbx_json_meaning.specs.declared.kind.JsonKind.TheVariants as fault
 use Rattle.pbx_json_meaning.specs.declared.names_fault.NameFault.TheVariants.{JsonNames, WellKnownShape}
 use Rattle.pbx_json_meaning.specs.declared.place.Step.TheVariants.{Key, Index}
@@ -111,11 +111,11 @@ pool = record {
 }
 
 -- no key has two meanings
-row_names : first_clash true pool.messages ≡ None
+row_names : first_clash ByAnyName pool.messages ≡ None
 row_names = refl
 
 -- the first of a well-known name without its shape
-row_shapes : name_fault true pool ≡ Some (WellKnownShape (codes "google.protobuf.Value"))
+row_shapes : name_fault ByAnyName pool ≡ Some (WellKnownShape (codes "google.protobuf.Value"))
 unfolding form_of known_of is_as_declared
 row_shapes = refl
 
@@ -334,7 +334,7 @@ in_file ms = record { messages = ms; enums = [] }
 abbrev sharing : Shape
 sharing = in_file (a_message (codes "J") (plain 1 (codes "a") kind.Int32 ∷ a_field 2 (codes "b") (codes "a") kind.Int32 Singular false None ∷ []) ∷ [])
 
-row_clash : name_fault false sharing ≡ Some (JsonNames (codes "J") (codes "a"))
+row_clash : name_fault ByJsonName sharing ≡ Some (JsonNames (codes "J") (codes "a"))
 unfolding form_of known_of is_as_declared
 row_clash = refl
 
@@ -344,12 +344,12 @@ crossed = in_file (a_message (codes "S") (
     ∷ a_field 2 (codes "b") (codes "c") kind.Int32 Singular false None
     ∷ []) ∷ [])
 
--- a field's JSON name is the name of another field: no clash, unless fields may be written under their names
-row_crossed : name_fault false crossed ≡ None
+-- a field's JSON name is the name of another field: no clash, unless fields may be written under any name
+row_crossed : name_fault ByJsonName crossed ≡ None
 unfolding form_of known_of is_as_declared
 row_crossed = refl
 
-row_crossed_by_name : name_fault true crossed ≡ Some (JsonNames (codes "S") (codes "b"))
+row_crossed_by_name : name_fault ByAnyName crossed ≡ Some (JsonNames (codes "S") (codes "b"))
 unfolding form_of known_of is_as_declared
 row_crossed_by_name = refl
 

@@ -11,7 +11,7 @@ use Rattle.pbx_json_meaning.specs.Stands.{Stands}
 use Rattle.pbx_json_meaning.specs.Faults.{JsonFault, FirstJsonFault}
 use Rattle.pbx_json_meaning.specs.Canonical.{canonical}
 use Rattle.pbx_json_meaning.specs.WriteFaults.{WriteFault}
-use Rattle.pbx_json_meaning.specs.Clash.{name_fault}
+use Rattle.pbx_json_meaning.specs.Clash.{Naming, ByJsonName, ByAnyName, naming_of, name_fault}
 use Rattle.pbx_json_meaning.specs.Fits.{payloads_fit}
 use Rattle.pbx_json_meaning.specs.declared.kind.JsonKind.{JsonKind}
 use Rattle.pbx_json_meaning.specs.declared.options.SerializeOptions.{SerializeOptions}
@@ -50,27 +50,34 @@ CanonicalWithoutFault =
     (shape : Shape) (t : ℕ) (c : Content) (o : SerializeOptions) → IsProper shape → IsSound shape t c
     → ((d : Data) × (canonical shape t c o ≡ Some d)) ↔ ((place : List Step) (kind : JsonKind) → ¬ WriteFault shape t c o place kind)
 
+-- Where no key has two meanings while fields may be written under any name, none has two where they are written under some of these names.
+abbrev pub ClearByAnyName : Type 0
+ClearByAnyName = (shape : Shape) (naming : Naming) → name_fault ByAnyName shape ≡ None → name_fault naming shape ≡ None
+
 -- Of a content that some tree stands for, each tree written under the fields' JSON names stands for it too, where no key of the shape's messages has
 -- two meanings and each well-known name has its shape.
 abbrev pub CanonicalStands : Type 0
 CanonicalStands =
     (shape : Shape) (t : ℕ) (allow : Bool) (tree d : Data) (c : Content) (o : SerializeOptions)
-    → IsProper shape → IsWellNamed shape → name_fault false shape ≡ None → HasTexts tree → o.use_proto_field_name ≡ false
+    → IsProper shape → IsWellNamed shape → name_fault ByJsonName shape ≡ None → HasTexts tree → o.use_proto_field_name ≡ false
     → Stands shape t allow tree c → canonical shape t c o ≡ Some d → Stands shape t false d c
 
--- The same under any options, where moreover no field's JSON name is the name of another field.
+-- Of a content that some tree stands for as a message of the shape's, each tree that is written of it, under any options, stands for it too.
+abbrev pub WritesBack : Shape → Type 0
+WritesBack shape =
+    (t : ℕ) (allow : Bool) (tree d : Data) (c : Content) (o : SerializeOptions)
+    → HasTexts tree → Stands shape t allow tree c → canonical shape t c o ≡ Some d → Stands shape t false d c
+
+-- The same of each shape where moreover no field's JSON name is the name of another field.
 abbrev pub WrittenStands : Type 0
-WrittenStands =
-    (shape : Shape) (t : ℕ) (allow : Bool) (tree d : Data) (c : Content) (o : SerializeOptions)
-    → IsProper shape → IsWellNamed shape → name_fault true shape ≡ None → HasTexts tree
-    → Stands shape t allow tree c → canonical shape t c o ≡ Some d → Stands shape t false d c
+WrittenStands = (shape : Shape) → IsProper shape → IsWellNamed shape → name_fault ByAnyName shape ≡ None → WritesBack shape
 
 -- A content that some tree stands for has a tree under any options, where no key has two meanings under them, well-known names have their shapes, and
 -- the payloads of its `Any` messages are read again.
 abbrev pub FittingIsWritten : Type 0
 FittingIsWritten =
     (shape : Shape) (t : ℕ) (allow : Bool) (tree : Data) (c : Content) (o : SerializeOptions) → IsProper shape → IsWellNamed shape
-    → name_fault o.use_proto_field_name shape ≡ None → HasTexts tree → Stands shape t allow tree c → payloads_fit shape t c ≡ true
+    → name_fault (naming_of o) shape ≡ None → HasTexts tree → Stands shape t allow tree c → payloads_fit shape t c ≡ true
     → (d : Data) × (canonical shape t c o ≡ Some d)
 
 -- What is written is ordered as `serde_json` holds objects, and has no number with a fraction or an exponent.
