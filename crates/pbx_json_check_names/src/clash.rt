@@ -1,10 +1,10 @@
 ghost use Rattle.std.specs.Prelude.{◌≡◌, ◌⊎◌, Some, None, true, false, IfOk, IfErr, OnOk, option_map, length};
 ghost use Rattle.std.specs.BTreeMap.{get_by_text};
-ghost use Rattle.pbx_json_meaning.specs.Clash.{lesser_key as lesser_key_of, clashing_key as clashing_key_of, first_clash as first_clash_of};
+ghost use Rattle.pbx_json_meaning.specs.Clash.{ByAnyName, lesser_key as lesser_key_of, clashing_key as clashing_key_of, first_clash as first_clash_of};
 ghost use Rattle.pbx_json_meaning.specs.declared.names_fault.NameFault.TheVariants as fault;
 ghost use Rattle.pbx_json_check_names.specs.Uses.{is_clashing as is_clashing_of, least_with};
 
-use crate::uses::{KeyUse, is_clashing, uses_of};
+use crate::uses::{KeyUse, is_clashing, meanings_of};
 use pbx_content::{FieldShape, MessageShape, Schema};
 use pbx_json_meaning::NameFault;
 use pbx_wire::{NoMemory, Text};
@@ -39,9 +39,9 @@ fn least_with_field<'f>(
 
 /// The least key of these fields that has another meaning.
 fn clashing_key<'f>(alloc: Global, fields: &'f [FieldShape]) -> Result<Option<&'f str>, NoMemory>
-    ensures { IfOk result (λ found. option_map (λ l. l.now) found ≡ clashing_key_of false fields.now) }
+    ensures { IfOk result (λ found. option_map (λ l. l.now) found ≡ clashing_key_of ByAnyName fields.now) }
 {
-    let uses = uses_of(alloc, fields)?;
+    let uses = meanings_of(alloc, fields)?;
     let mut least = None;
     let mut left = fields.len();
     while left > 0 {
@@ -69,8 +69,8 @@ fn key_fault(alloc: Global, message: &MessageShape, key: &str) -> NameFault
 
 /// The first message of the schema with a key that has two meanings, and its least such key.
 pub(crate) fn first_clash(alloc: Global, schema: &Schema) -> Result<(), NameFault>
-    ensures ok { OnOk result (first_clash_of false schema.now.messages ≡ None) }
-    ensures err { IfErr result (λ e. (e ≡ fault.NoMemory) ⊎ (first_clash_of false schema.now.messages ≡ Some e)) }
+    ensures ok { OnOk result (first_clash_of ByAnyName schema.now.messages ≡ None) }
+    ensures err { IfErr result (λ e. (e ≡ fault.NoMemory) ⊎ (first_clash_of ByAnyName schema.now.messages ≡ Some e)) }
 {
     for message in schema.shape().messages.as_slice() {
         match clashing_key(alloc, message.fields.as_slice()) {

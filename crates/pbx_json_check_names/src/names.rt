@@ -1,5 +1,5 @@
-ghost use Rattle.std.specs.Prelude.{◌≡◌, ◌⊎◌, Some, None, false, IfErr, OnOk};
-ghost use Rattle.pbx_json_meaning.specs.Clash.{name_fault, first_misshapen as first_misshapen_of};
+ghost use Rattle.std.specs.Prelude.{◌≡◌, ◌⊎◌, Some, None, IfErr, OnOk};
+ghost use Rattle.pbx_json_meaning.specs.Clash.{ByAnyName, name_fault, first_misshapen as first_misshapen_of};
 ghost use Rattle.pbx_json_meaning.specs.declared.names_fault.NameFault.TheVariants as fault;
 
 use crate::clash::first_clash;
@@ -36,10 +36,10 @@ fn first_misshapen(alloc: Global, schema: &Schema) -> Result<(), NameFault>
 /// meanings, and its least such key; else the first message that has a well-known name and not its shape.
 ///
 /// A key has two meanings where two fields of the message share it as their JSON name, where an extension of the message
-/// has it, and where it is `@type`, the key of an `Any`'s type.
+/// has it, where it is `@type`, the key of an `Any`'s type, and where it is the name of another field.
 pub fn first_fault(alloc: Global, schema: &Schema) -> Result<(), NameFault>
-    ensures ok { OnOk result (name_fault false schema.now ≡ None) }
-    ensures err { IfErr result (λ e. (e ≡ fault.NoMemory) ⊎ (name_fault false schema.now ≡ Some e)) }
+    ensures ok { OnOk result (name_fault ByAnyName schema.now ≡ None) }
+    ensures err { IfErr result (λ e. (e ≡ fault.NoMemory) ⊎ (name_fault ByAnyName schema.now ≡ Some e)) }
 {
     match first_clash(alloc, schema) {
         Ok(()) => first_misshapen(alloc, schema),

@@ -11,4 +11,4 @@ loop-field-preserved c =
     (get_by_text c.set_use.new.uses) c.loop-field-test.true c.field-item.is c.as_str-name.ensures c.loop-field.invariant
     (λ q. c.in_ok-set_use.ensures q
     ∙ ap (λ u. cond (bytes_eq c.as_str-name.result.now q) (Some u) (get_by_text c.loop-field.uses q))
-    (c.with_use-used.ensures ∙ ap (with_use c.field-item.result.is_extension) c.use_of.ensures))
+    (c.with_use-used.ensures ∙ ap (with_use c.field-item.result.is_extension c.field-item.result.number) c.use_of.ensures))
