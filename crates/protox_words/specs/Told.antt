@@ -2,6 +2,7 @@
 use Rattle.std.specs.Prelude.{◌≡◌, Result, Ok, Err}
 use Rattle.std.specs.Option.{option_copied}
 use Rattle.protox_words.specs.declared.args.Args.{Args as ArgsHeld}
+use Rattle.protox_words.specs.declared.json.JsonFlags.{JsonFlags as FlagsHeld}
 use Rattle.protox_words.specs.declared.fault.WordFault.{WordFault as FaultHeld}
 use Rattle.protox_words.specs.declared.fault.WordFault.TheVariants as faults
 use Rattle.protox_words.specs.declared.fault.WordsError.{WordsError}
@@ -9,8 +10,18 @@ use Rattle.protox_words.specs.declared.fault.WordsError.TheVariants.{Fault, NoMe
 use Rattle.protox_words.specs.declared.options.Given.{Given as GivenHeld}
 use Rattle.protox_words.specs.declared.scan.Place.{Place}
 use Rattle.protox_words.specs.declared.scan.Place.TheVariants.{Options, Value, Files}
-use Rattle.protox_words.specs.Words.{Args, WordFault, Unknown, Twice, NeedsValue, TakesNoValue, NeedsNumber, NotAlone, NoFile, NeedsType}
+use Rattle.protox_words.specs.Words.{Args, JsonFlags, WordFault, Unknown, Twice, NeedsValue, TakesNoValue, NeedsNumber, NotAlone, NoFile, NeedsType}
 use Rattle.protox_words.specs.Words.{Given, Scan, Reading, Wanting, Filing, Faulty}
+
+-- the flags with the bytes of the first
+abbrev pub json_told : FlagsHeld → JsonFlags
+json_told j = record {
+  first = option_copied j.first;
+  int64_numbers = j.int64_numbers;
+  enum_numbers = j.enum_numbers;
+  proto_names = j.proto_names;
+  defaults = j.defaults;
+}
 
 -- the arguments with the bytes of their texts
 abbrev pub args_told : ArgsHeld → Args
@@ -21,6 +32,7 @@ args_told a = record {
   include_source_info = a.include_source_info;
   type_name = option_copied a.type_name;
   wire = option_copied a.wire;
+  json = json_told a.json;
   generate = a.generate;
   files = a.files;
 }
@@ -34,7 +46,7 @@ fault_told (faults.TakesNoValue option) = TakesNoValue option.now
 fault_told (faults.NeedsNumber option) = NeedsNumber option.now
 fault_told faults.NotAlone = NotAlone
 fault_told faults.NoFile = NoFile
-fault_told faults.NeedsType = NeedsType
+fault_told (faults.NeedsType option) = NeedsType option.now
 
 -- the option with the bytes of its texts
 abbrev pub given_told : GivenHeld → Given

@@ -4,10 +4,20 @@ use Rattle.std.specs.Prelude.{Bool, true, false, Option, Some, None, is_some, op
 use Rattle.std.specs.List.{fold, list_all, concat, before_first}
 use Rattle.std.specs.Str.{bytes_eq}
 use Rattle.protox_words.specs.declared.options.Flag.{Flag}
-use Rattle.protox_words.specs.declared.options.Flag.TheVariants.{Include, Output, IncludeImports, IncludeSourceInfo, TypeName, Wire, Generate}
+use Rattle.protox_words.specs.declared.options.Flag.TheVariants.{Include, Output, IncludeImports, IncludeSourceInfo, TypeName, Wire, Generate, Json}
+use Rattle.protox_words.specs.declared.json.JsonFlag.{JsonFlag}
+use Rattle.protox_words.specs.declared.json.JsonFlag.TheVariants.{Int64Numbers, EnumNumbers, ProtoNames, Defaults}
 
--- what the words ask for: folders, the path of the set, what the set includes, a type, the path of the wire bytes, the number of a
--- schema to generate, and files
+-- the flags of the JSON that is written: the first that was given, as it is written, and which were given
+pub record JsonFlags : Type 0 where
+  pub first : Option (List ℕ)
+  pub int64_numbers : Bool
+  pub enum_numbers : Bool
+  pub proto_names : Bool
+  pub defaults : Bool
+
+-- what the words ask for: folders, the path of the set, what the set includes, a type, the path of the wire bytes, how the JSON is written, the number
+-- of a schema to generate, and files
 pub record Args : Type 0 where
   pub includes : List (List ℕ)
   pub output : Option (List ℕ)
@@ -15,10 +25,11 @@ pub record Args : Type 0 where
   pub include_source_info : Bool
   pub type_name : Option (List ℕ)
   pub wire : Option (List ℕ)
+  pub json : JsonFlags
   pub generate : Option ℕ
   pub files : List (List ℕ)
 
--- why words are refused; the first five name a word, the last three all of them
+-- why words are refused; the first five name a word, the last three are of all of them
 pub data WordFault : Type 0 where
   Unknown : List ℕ → WordFault
   Twice : List ℕ → WordFault
@@ -27,7 +38,10 @@ pub data WordFault : Type 0 where
   NeedsNumber : List ℕ → WordFault
   NotAlone : WordFault
   NoFile : WordFault
-  NeedsType : WordFault
+  NeedsType : List ℕ → WordFault
+
+abbrev pub no_json_flags : JsonFlags
+no_json_flags = record { first = None; int64_numbers = false; enum_numbers = false; proto_names = false; defaults = false }
 
 -- what no words ask for
 abbrev pub nothing : Args
@@ -38,6 +52,7 @@ nothing = record {
   include_source_info = false;
   type_name = None;
   wire = None;
+  json = no_json_flags;
   generate = None;
   files = [];
 }
@@ -52,7 +67,9 @@ long_spellings =
     ∷ (codes "--output", Output) ∷ (codes "--descriptor_set_out", Output)
     ∷ (codes "--include_imports", IncludeImports) ∷ (codes "--include-imports", IncludeImports)
     ∷ (codes "--include_source_info", IncludeSourceInfo) ∷ (codes "--include-source-info", IncludeSourceInfo)
-    ∷ (codes "--type", TypeName) ∷ (codes "--wire", Wire) ∷ (codes "--generate", Generate) ∷ []
+    ∷ (codes "--type", TypeName) ∷ (codes "--wire", Wire) ∷ (codes "--generate", Generate)
+    ∷ (codes "--json_int64_numbers", Json Int64Numbers) ∷ (codes "--json_enum_numbers", Json EnumNumbers)
+    ∷ (codes "--json_proto_names", Json ProtoNames) ∷ (codes "--json_defaults", Json Defaults) ∷ []
 
 -- what is written so
 abbrev pub spelled : List (List ℕ × Flag) → List ℕ → Option Flag
@@ -102,7 +119,15 @@ option_in word = or_else (short_option word) (long_option word)
 abbrev pub takes_value : Flag → Bool
 takes_value IncludeImports = false
 takes_value IncludeSourceInfo = false
+takes_value (Json flag) = false
 takes_value flag = true
+
+-- the flag was given
+abbrev pub has_json : JsonFlag → JsonFlags → Bool
+has_json Int64Numbers j = j.int64_numbers
+has_json EnumNumbers j = j.enum_numbers
+has_json ProtoNames j = j.proto_names
+has_json Defaults j = j.defaults
 
 -- an option that may stand once was given; `-I` may repeat
 abbrev pub is_given : Flag → Args → Bool
@@ -113,6 +138,7 @@ is_given IncludeSourceInfo a = a.include_source_info
 is_given TypeName a = is_some a.type_name
 is_given Wire a = is_some a.wire
 is_given Generate a = is_some a.generate
+is_given (Json flag) a = has_json flag a.json
 
 abbrev pub is_digit : ℕ → Bool
 is_digit b = nat_lt 47 b && nat_lt b 58
@@ -147,6 +173,18 @@ abbrev pub counted : List ℕ → Option ℕ → Args → Scan
 counted written None a = Faulty (NeedsNumber written)
 counted written (Some n) a = Reading (record a { generate = Some n })
 
+-- the first flag stays the first
+abbrev pub first_of : Option (List ℕ) → List ℕ → Option (List ℕ)
+first_of None written = Some written
+first_of (Some first) written = Some first
+
+-- with a flag as it is written
+abbrev pub with_json : JsonFlag → List ℕ → JsonFlags → JsonFlags
+with_json Int64Numbers written j = record j { first = first_of j.first written; int64_numbers = true }
+with_json EnumNumbers written j = record j { first = first_of j.first written; enum_numbers = true }
+with_json ProtoNames written j = record j { first = first_of j.first written; proto_names = true }
+with_json Defaults written j = record j { first = first_of j.first written; defaults = true }
+
 -- behind an option with its value
 abbrev pub set : Flag → List ℕ → List ℕ → Args → Scan
 set Include written value a = Reading (record a { includes = a.includes ++ value ∷ [] })
@@ -155,6 +193,7 @@ set IncludeImports written value a = Reading (record a { include_imports = true 
 set IncludeSourceInfo written value a = Reading (record a { include_source_info = true })
 set TypeName written value a = Reading (record a { type_name = Some value })
 set Wire written value a = Reading (record a { wire = Some value })
+set (Json flag) written value a = Reading (record a { json = with_json flag written a.json })
 set Generate written value a = counted written (count_of value) a
 
 abbrev pub with_value : Flag → List ℕ → Option (List ℕ) → Args → Scan
@@ -203,15 +242,19 @@ step (Faulty fault) word = Faulty fault
 abbrev pub is_alone : Args → Bool
 is_alone a =
     (length a.includes == 0) && not (is_some a.output) && not a.include_imports && not a.include_source_info && not (is_some a.type_name)
-    && not (is_some a.wire) && (length a.files == 0)
+    && not (is_some a.wire) && not (is_some a.json.first) && (length a.files == 0)
+
+-- the option that is not to stand without `--type`: `--wire`, or else the first flag of the JSON
+abbrev pub needing_type : Args → Option (List ℕ)
+needing_type a = if is_some a.wire then Some (codes "--wire") else a.json.first
 
 -- the first fault of all words together
 abbrev pub fault_in : Args → Option WordFault
 fault_in a =
     if is_some a.generate then (if is_alone a then None else Some NotAlone)
     else if length a.files == 0 then Some NoFile
-    else if is_some a.wire && not (is_some a.type_name) then Some NeedsType
-    else None
+    else if is_some a.type_name then None
+    else option_map NeedsType (needing_type a)
 
 abbrev pub judged : Args → Option WordFault → Result Args WordFault
 judged a None = Ok a
@@ -243,7 +286,7 @@ fault_pieces (TakesNoValue option) = codes "option '" ∷ option ∷ codes "' ta
 fault_pieces (NeedsNumber option) = codes "option '" ∷ option ∷ codes "' needs a number from 1 to 2000" ∷ []
 fault_pieces NotAlone = codes "--generate stands alone" ∷ []
 fault_pieces NoFile = codes "no file given" ∷ []
-fault_pieces NeedsType = codes "--wire needs --type" ∷ []
+fault_pieces (NeedsType option) = option ∷ codes " needs --type" ∷ []
 
 -- the same in one
 abbrev pub fault_line : WordFault → List ℕ

@@ -1,8 +1,10 @@
 ghost use Rattle.std.specs.Prelude.{◌≡◌, ◌++◌, ◌∷◌, [], IfOk, OnOk, option_map};
-ghost use Rattle.protox_words.specs.Words.{nothing, folders as folders_of, folders_among, fault_in as fault_in_of, is_alone as is_alone_of};
+ghost use Rattle.std.specs.Option.{option_copied};
+ghost use Rattle.protox_words.specs.Words.{nothing, folders as folders_of, folders_among, fault_in as fault_in_of, is_alone as is_alone_of, needing_type};
 ghost use Rattle.protox_words.specs.Told.{args_told, fault_told};
 
 use crate::fault::WordFault;
+use crate::json::JsonFlags;
 use pbx_wire::{List, NoMemory, Text, Texts};
 use std::alloc::Global;
 
@@ -23,6 +25,8 @@ pub struct Args<'w> {
     pub type_name: Option<&'w str>,
     /// The path that the wire bytes of the message are written to.
     pub wire: Option<&'w str>,
+    /// How the message is written as JSON.
+    pub json: JsonFlags<'w>,
     /// The number of the schema that is to be generated, from 1 to 2000.
     pub generate: Option<u16>,
     /// The files, in their order.
@@ -41,6 +45,7 @@ impl<'w> Args<'w> {
             include_source_info: false,
             type_name: None,
             wire: None,
+            json: JsonFlags::new(),
             generate: None,
             files: List::new(alloc),
         }
@@ -65,7 +70,18 @@ impl<'w> Args<'w> {
             && !self.include_source_info
             && self.type_name.is_none()
             && self.wire.is_none()
+            && self.json.first.is_none()
             && self.files.is_empty()
+    }
+
+    /// The option that is not to stand without `--type`, if there is one: `--wire`, or else the first flag of the JSON.
+    fn needing_type(&self) -> Option<&'w str>
+        ensures { option_copied result ≡ needing_type (args_told self.now) }
+    {
+        if self.wire.is_some() {
+            return Some("--wire");
+        }
+        self.json.first
     }
 
     /// The first fault of all words together, if there is one.
@@ -82,10 +98,13 @@ impl<'w> Args<'w> {
         if self.files.is_empty() {
             return Some(WordFault::NoFile);
         }
-        if self.wire.is_some() && self.type_name.is_none() {
-            return Some(WordFault::NeedsType);
+        if self.type_name.is_some() {
+            return None;
         }
-        None
+        match self.needing_type() {
+            Some(option) => Some(WordFault::NeedsType { option }),
+            None => None,
+        }
     }
 }
 

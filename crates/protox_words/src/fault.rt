@@ -38,8 +38,11 @@ pub enum WordFault<'w> {
     NotAlone,
     /// There is no file.
     NoFile,
-    /// There is `--wire` without `--type`.
-    NeedsType,
+    /// There is `--wire`, or a flag of the JSON, without `--type`.
+    NeedsType {
+        /// The option.
+        option: &'w str,
+    },
 }
 
 impl WordFault<'_> {
@@ -64,7 +67,7 @@ impl WordFault<'_> {
             }
             WordFault::NotAlone => Text::joined(alloc, &["--generate stands alone"]),
             WordFault::NoFile => Text::joined(alloc, &["no file given"]),
-            WordFault::NeedsType => Text::joined(alloc, &["--wire needs --type"]),
+            WordFault::NeedsType { option } => Text::joined(alloc, &[option, " needs --type"]),
         }
     }
 }

@@ -5,6 +5,7 @@ ghost use Rattle.protox_words.specs.Words.{takes_value as takes_value_of, is_giv
 ghost use Rattle.protox_words.specs.Told.{args_told, given_told};
 
 use crate::args::Args;
+use crate::json::JsonFlag;
 
 /// What an option is for.
 #[derive(Clone, Copy)]
@@ -16,6 +17,7 @@ pub(crate) enum Flag {
     TypeName,
     Wire,
     Generate,
+    Json(JsonFlag),
 }
 
 impl Flag {
@@ -23,7 +25,10 @@ impl Flag {
     pub(crate) fn takes_value(self) -> bool
         ensures { result ≡ takes_value_of self }
     {
-        !matches!(self, Flag::IncludeImports | Flag::IncludeSourceInfo)
+        !matches!(
+            self,
+            Flag::IncludeImports | Flag::IncludeSourceInfo | Flag::Json(_)
+        )
     }
 
     /// Whether the option was given and may stand once.
@@ -38,6 +43,7 @@ impl Flag {
             Flag::TypeName => args.type_name.is_some(),
             Flag::Wire => args.wire.is_some(),
             Flag::Generate => args.generate.is_some(),
+            Flag::Json(flag) => args.json.has(flag),
         }
     }
 }
@@ -62,6 +68,10 @@ fn long_flag(written: &str) -> Option<Flag>
         "--type" => Some(Flag::TypeName),
         "--wire" => Some(Flag::Wire),
         "--generate" => Some(Flag::Generate),
+        "--json_int64_numbers" => Some(Flag::Json(JsonFlag::Int64Numbers)),
+        "--json_enum_numbers" => Some(Flag::Json(JsonFlag::EnumNumbers)),
+        "--json_proto_names" => Some(Flag::Json(JsonFlag::ProtoNames)),
+        "--json_defaults" => Some(Flag::Json(JsonFlag::Defaults)),
         _ => None,
     }
 }

@@ -46,6 +46,7 @@ fn set<'w>(
         Flag::IncludeSourceInfo => args.include_source_info = true,
         Flag::TypeName => args.type_name = Some(value),
         Flag::Wire => args.wire = Some(value),
+        Flag::Json(flag) => args.json.add(flag, written),
         Flag::Generate => match count_of(value) {
             Some(count) => args.generate = Some(count),
             None => return Err(WordsError::Fault(WordFault::NeedsNumber { option: written })),
