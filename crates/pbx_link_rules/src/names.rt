@@ -3,7 +3,7 @@ ghost use Rattle.std.specs.Prelude.{◌≡◌, ◌||◌, position, IfOk};
 ghost use Rattle.std.specs.Str.{bytes_eq};
 ghost use Rattle.pbx_link_definitions.specs.Names.{among};
 ghost use Rattle.pbx_link_definitions.specs.Places.{IsAmong};
-ghost use Rattle.pbx_link_rules_record.specs.Found.{IsIndex, is_earlier};
+ghost use Rattle.pbx_link_definitions.specs.Found.{IsIndex, is_earlier};
 ghost use Rattle.pbx_link_rules.specs.Rules.{taken_names, definitions_twice, names_twice as names_twice_of};
 
 use crate::imports::Place;
