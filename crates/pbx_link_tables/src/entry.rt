@@ -7,9 +7,7 @@ ghost use Rattle.pbx_link_tables.specs.Entries.{in_brackets, AreEntries};
 ghost use Rattle.pbx_desc_records.specs.declared.field.FieldDescriptorProto.{FieldDescriptorProto as FieldOf};
 
 use pbx_desc_records::{DescriptorProto, FieldDescriptorProto, ServiceDescriptorProto};
-use pbx_link_definitions::{
-    FileParts, Named, Part, name_in, place_copy, place_in, text_or_empty,
-};
+use pbx_link_definitions::{FileParts, Named, Part, name_in, place_copy, place_in, text_or_empty};
 use pbx_wire::{List, NoMemory, Text};
 use std::alloc::Global;
 
