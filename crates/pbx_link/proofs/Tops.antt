@@ -1,10 +1,10 @@
--- The messages of a file that stand in no other, and parts behind those that stand in messages.
+-- The messages of a file that stand in no other.
 use Rattle.std.proofs.Common.{◌≡◌, ◌∙◌, ℕ, ◌+◌, ◌-◌, ◌<◌, ◌≤◌, ◌==◌, cond, List, [], ◌∷◌, ◌++◌, map, length, Bool, true, false}
 use Rattle.std.proofs.Common.{refl, ap, sym, subst, arith}
 use Rattle.std.specs.Prelude.{filter, pos}
 use Rattle.std.specs.List.{flat_map, enumerate_from}
 use Rattle.std.proofs.Math.ListN.{drop_of_length-le}
-use Rattle.std.proofs.lemmas.List.{drop_more, get_or-append_right, length-append}
+use Rattle.std.proofs.lemmas.List.{drop_more, length-append}
 use Rattle.std.proofs.lemmas.List.Elements.{filter-append}
 use Rattle.std.proofs.lemmas.Bool.Decides.{nat_tests}
 use Rattle.pbx_desc_records.specs.declared.file.FileDescriptorProto.{FileDescriptorProto}
@@ -111,13 +111,3 @@ pub next_top : (d : FileDescribed) (i k : ℕ) (m : Described DescriptorProto) �
     → in_file d (tops_from d.file i) ≡ m ∷ in_file d (tops_from d.file (k + 1))
 next_top d i k m is there =
     ap (in_file d) there ∙ ap (λ (x : Described DescriptorProto). x ∷ in_file d (tops_from d.file (k + 1))) (sym is)
-
--- ---- parts behind those that stand in messages
-
-pub behind_is : {X : Type 0} (none : X) (xs ys : List (Part X)) (i : ℕ) → i < length ys
-    → part_at none (xs ++ ys) (length (xs ++ ys) - (length ys - i)) ≡ part_at none ys i
-behind_is none xs ys i lt =
-    let at : length (xs ++ ys) - (length ys - i) ≡ length xs + i = omega (arith, length-append xs ys, lt) in
-    ap (part_at none (xs ++ ys)) at
-    ∙ get_or-append_right xs ys (length xs) (length xs + i) (record { scope = []; place = []; index = 0; item = none }) refl (omega arith)
-    ∙ ap (part_at none ys) (omega arith)

@@ -6,3 +6,4 @@ pub mod Laws
 pub mod Places
 pub mod Ranges
 pub mod Errors
+pub mod Found

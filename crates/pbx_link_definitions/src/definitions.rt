@@ -1,7 +1,7 @@
 // All that a file defines, in the order of places.
 ghost use Rattle.std.specs.Prelude.{◌≡◌, ◌++◌, ◌∷◌, [], map, IfOk, OnOk};
 ghost use Rattle.std.specs.List.{flat_map};
-ghost use Rattle.pbx_link_definitions.specs.Definitions.{parts as parts_of, defined, full_name, is_scope as is_scope_of};
+ghost use Rattle.pbx_link_definitions.specs.Definitions.{parts as parts_of, defined, is_scope as is_scope_of};
 ghost use Rattle.pbx_link_definitions.specs.Definitions.{enum_definitions, service_definitions, definitions_from, definitions};
 
 use crate::absent::text_or_empty;
@@ -299,15 +299,4 @@ pub(crate) fn file_definitions(
         &mut table,
     )?;
     Ok(table)
-}
-
-/// The full names of the definitions. The only error is want of memory.
-pub(crate) fn full_names(alloc: Global, definitions: &[Definition]) -> Result<List<Text>, NoMemory>
-    ensures { IfOk result (λ names. names ≡ map full_name definitions.now) }
-{
-    let mut names = List::with_capacity(alloc, definitions.len())?;
-    for definition in definitions {
-        names.add(name_in(alloc, definition.scope(), definition.name())?)?;
-    }
-    Ok(names)
 }

@@ -1,12 +1,12 @@
 // The messages, enums and extensions of a file, and all that it defines.
-ghost use Rattle.std.specs.Prelude.{◌≡◌, ◌++◌, ◌∷◌, [], map, IfOk, OnOk};
+ghost use Rattle.std.specs.Prelude.{◌≡◌, ◌++◌, ◌∷◌, [], IfOk, OnOk};
 ghost use Rattle.std.specs.List.{flat_map};
 ghost use Rattle.pbx_link_definitions.specs.Definitions.{parts as parts_of, messages_from, extensions_from, enums_in};
 ghost use Rattle.pbx_link_definitions.specs.Definitions.{messages as messages_of, enums as enums_of, extensions as extensions_of};
-ghost use Rattle.pbx_link_definitions.specs.Definitions.{definitions as definitions_of, full_name};
+ghost use Rattle.pbx_link_definitions.specs.Definitions.{definitions as definitions_of};
 
 use crate::absent::text_or_empty;
-use crate::definitions::{Definition, file_definitions, full_names};
+use crate::definitions::{Definition, file_definitions};
 use crate::parts::{Part, add_parts, name_in, place_copy, place_in};
 use pbx_desc_records::{
     DescriptorProto, EnumDescriptorProto, FieldDescriptorProto, FileDescriptorProto,
@@ -130,15 +130,14 @@ pub struct FileParts<'a> {
     enums: List<Part<'a, EnumDescriptorProto>>,
     extensions: List<Part<'a, FieldDescriptorProto>>,
     definitions: List<Definition>,
-    full_names: List<Text>,
 }
 
 impl<'a> Model for FileParts<'a> {
-    ghost use Rattle.std.specs.Prelude.{◌≡◌, map};
+    ghost use Rattle.std.specs.Prelude.{◌≡◌};
     ghost use Rattle.pbx_desc_records.specs.contracts.file.FileDescriptorProto as proto;
     ghost use Rattle.pbx_desc_records.specs.declared.file.FileDescriptorProto.{FileDescriptorProto};
     ghost use Rattle.pbx_link_definitions.specs.Definitions.{messages as messages_of, enums as enums_of, extensions as extensions_of};
-    ghost use Rattle.pbx_link_definitions.specs.Definitions.{definitions as definitions_of, full_name};
+    ghost use Rattle.pbx_link_definitions.specs.Definitions.{definitions as definitions_of};
 
     ghost Value = { FileDescriptorProto };
 
@@ -147,7 +146,7 @@ impl<'a> Model for FileParts<'a> {
     ghost view = { λ p. p.file.now };
 
     ghost invariant = { λ p. (p.messages ≡ messages_of p.file.now) × (p.enums ≡ enums_of p.file.now) × (p.extensions ≡ extensions_of p.file.now)
-        × (p.definitions ≡ definitions_of p.file.now) × (p.full_names ≡ map full_name (definitions_of p.file.now)) };
+        × (p.definitions ≡ definitions_of p.file.now) };
 }
 
 impl<'a> FileParts<'a> {
@@ -179,14 +178,12 @@ impl<'a> FileParts<'a> {
         add_enums(alloc, messages.as_slice(), &mut enums)?;
         add_parts(alloc, scope, &[], 5, file.enum_type.as_slice(), &mut enums)?;
         let definitions = file_definitions(alloc, file)?;
-        let full_names = full_names(alloc, definitions.as_slice())?;
         Ok(FileParts {
             file,
             messages,
             enums,
             extensions,
             definitions,
-            full_names,
         })
     }
 
@@ -223,12 +220,5 @@ impl<'a> FileParts<'a> {
         ensures { result.now ≡ definitions_of self.now }
     {
         self.definitions.as_slice()
-    }
-
-    /// The full names of the definitions, in their order.
-    pub fn full_names(&self) -> &[Text]
-        ensures { result.now ≡ map full_name (definitions_of self.now) }
-    {
-        self.full_names.as_slice()
     }
 }

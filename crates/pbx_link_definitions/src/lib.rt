@@ -17,4 +17,4 @@ pub use file_parts::FileParts;
 pub use laws::nested_are_told;
 pub use named::Named;
 pub use names::is_ident;
-pub use parts::{Part, PartRef, name_in, place_at, place_in};
+pub use parts::{Part, PartRef, name_in, place_at, place_copy, place_in, place_in_item};

@@ -1,4 +1,6 @@
 // Records that have a name of their own (`descriptor.proto`: the fields `name`).
+ghost use Rattle.std.specs.Prelude.{◌≡◌};
+
 use crate::absent::text_or_empty;
 use pbx_desc_records::{
     DescriptorProto, EnumDescriptorProto, EnumValueDescriptorProto, FieldDescriptorProto,

@@ -161,8 +161,8 @@ pub fn name_in(alloc: Global, scope: &str, name: &str) -> Result<Text, NoMemory>
     Text::joined(alloc, &[scope, ".", name])
 }
 
-/// An equal place, with room for a number and an index behind it.
-pub(crate) fn place_copy(alloc: Global, place: &[i32]) -> Result<List<i32>, NoMemory>
+/// An equal place, with room for a number and an index behind it. The only error is want of memory.
+pub fn place_copy(alloc: Global, place: &[i32]) -> Result<List<i32>, NoMemory>
     ensures { IfOk result (λ copy. copy ≡ place.now) }
 {
     let mut copy = List::with_capacity(alloc, place.len().saturating_add(2))?;
@@ -196,6 +196,22 @@ pub fn place_in(
         Ok(index) => there.add(index)?,
         Err(_) => return Err(NoMemory),
     }
+    Ok(there)
+}
+
+/// The place of the field of this number of the item at the index in that list of what stands at the place. The only error is want of
+/// memory; an index above those of 31 bits is refused likewise.
+pub fn place_in_item(
+    alloc: Global,
+    place: &[i32],
+    list: u8,
+    index: usize,
+    number: u8,
+) -> Result<List<i32>, NoMemory>
+    ensures { IfOk result (λ there. there ≡ place.now ++ pos list ∷ pos index ∷ pos number ∷ []) }
+{
+    let mut there = place_in(alloc, place, list, index)?;
+    there.add(i32::from(number))?;
     Ok(there)
 }
 

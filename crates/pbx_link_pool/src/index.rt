@@ -61,8 +61,12 @@ impl Index {
     {
         let file = parts.file();
         let file_names = new_file_items(alloc, &self.file_names, index, &file.name)?;
-        let definitions =
-            new_definition_items(alloc, &self.definitions, index, parts.definitions())?;
+        let definitions = new_definition_items(
+            alloc,
+            &self.definitions,
+            index,
+            parts.definitions(),
+        )?;
         let extended = extended_items(alloc, parts.extensions())?;
         let places = self.places.new_items(alloc, index, parts)?;
         Ok(Items {

@@ -14,7 +14,7 @@ use Rattle.pbx_link_definitions.specs.Names.{among}
 use Rattle.pbx_link_definitions.specs.Definitions.{Place, Defined, full_name, name_place, definitions}
 use Rattle.pbx_link_definitions.specs.Places.{places_where, repeated}
 use Rattle.pbx_link_scope.specs.Pooled.{like_named}
-use Rattle.pbx_link_rules_record.specs.Found.{IsIndex, is_earlier}
+use Rattle.pbx_link_definitions.specs.Found.{IsIndex, is_earlier}
 use Rattle.pbx_link_rules_record.proofs.Among.{among_right, passing, none_pass, again, none_again}
 use Rattle.pbx_link_rules_record.proofs.Seen.{swap_or}
 use Rattle.pbx_link_rules.specs.Rules.{taken_names, definitions_twice}

@@ -1,19 +1,31 @@
 // Full names that are defined twice (language guide: "Packages and Name Resolution").
-ghost use Rattle.std.specs.Prelude.{◌≡◌, ◌||◌, position, IfOk};
+ghost use Rattle.std.specs.Prelude.{◌≡◌, ◌||◌, map, position, IfOk};
+ghost use Rattle.pbx_link_definitions.specs.Definitions.{full_name};
 ghost use Rattle.std.specs.Str.{bytes_eq};
 ghost use Rattle.pbx_link_definitions.specs.Names.{among};
 ghost use Rattle.pbx_link_definitions.specs.Places.{IsAmong};
-ghost use Rattle.pbx_link_rules_record.specs.Found.{IsIndex, is_earlier};
+ghost use Rattle.pbx_link_definitions.specs.Found.{IsIndex, is_earlier};
 ghost use Rattle.pbx_link_rules.specs.Rules.{taken_names, definitions_twice, names_twice as names_twice_of};
 
 use crate::imports::Place;
 use crate::packages::{is_defined, is_defined_package, is_in_package};
 use pbx_desc_records::FileDescriptorProto;
-use pbx_link_definitions::{FileParts, place_at};
+use pbx_link_definitions::{Definition, FileParts, name_in, place_at};
 use pbx_link_scope::Pooled;
-use pbx_wire::{NoMemory, Text};
+use pbx_wire::{List, NoMemory, Text};
 use std::alloc::Global;
 use std::collections::BTreeSet;
+
+/// The full names of the definitions.
+fn full_names(alloc: Global, definitions: &[Definition]) -> Result<List<Text>, NoMemory>
+    ensures { IfOk result (λ names. names ≡ map full_name definitions.now) }
+{
+    let mut names = List::with_capacity(alloc, definitions.len())?;
+    for definition in definitions {
+        names.add(name_in(alloc, definition.scope(), definition.name())?)?;
+    }
+    Ok(names)
+}
 
 /// Whether a definition of the pool has this full name, or a package of the pool or of the file has it or begins with it.
 fn is_taken<P: Pooled>(pool: &P, file: &FileDescriptorProto, name: &str) -> bool
@@ -68,7 +80,8 @@ fn definition_twice<P: Pooled>(
     ensures { IfOk result (IsAmong (definitions_twice (P.files pool.now) parts.now)) }
 {
     let definitions = parts.definitions();
-    match name_twice(alloc, pool, parts.file(), parts.full_names())? {
+    let names = full_names(alloc, definitions)?;
+    match name_twice(alloc, pool, parts.file(), names.as_slice())? {
         Some(index) => Ok(Some(place_at(alloc, definitions[index].place(), 1)?)),
         None => Ok(None),
     }

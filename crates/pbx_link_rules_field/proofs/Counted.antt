@@ -16,7 +16,7 @@ use Rattle.pbx_link_definitions.specs.Says.{own_fields, is_number, are_equal, is
 use Rattle.pbx_link_definitions.specs.Definitions.{Place, Part, part, message_name}
 use Rattle.pbx_link_definitions.specs.Places.{IsAmong}
 use Rattle.pbx_link_rules_field.specs.Rules.{members, has_oneof, is_alone, bad_member, bad_members_in, empty_oneofs_in}
-use Rattle.pbx_link_rules_field.specs.Found.{IsIndex}
+use Rattle.pbx_link_definitions.specs.Found.{IsIndex}
 use Rattle.pbx_link_rules_field.specs.Members.{member_count, index_below, is_bad_at, is_bad_by, is_bad_member}
 use Rattle.pbx_link_rules_field.proofs.Indexes.{any_default, index_same, position_is_index, is_among}
 

@@ -6,7 +6,7 @@ use Rattle.std.specs.List.{list_any, position, position_or_len, enumerate_from}
 use Rattle.std.specs.Option.{option_map}
 use Rattle.std.proofs.lemmas.Bool.Decides.{nat_tests}
 use Rattle.pbx_link_definitions.specs.Definitions.{Place, Part, part, parts}
-use Rattle.pbx_link_rules_field.specs.Found.{IsIndex, is_again}
+use Rattle.pbx_link_definitions.specs.Found.{IsIndex, is_earlier}
 use Rattle.pbx_link_definitions.specs.Places.{places_where, repeated, IsAmong}
 
 -- ---- what `position` says
@@ -167,7 +167,7 @@ module _ {X : Type 0} (scope : List ℕ) (above : Place) (n : ℕ) (like : X →
       behind false c = c
 
   -- an index of an item that is like an earlier one gives the place of its part
-  pub again_is_among : (xs : List X) (o : Option ℕ) → IsIndex (is_again like xs) xs o
+  pub again_is_among : (xs : List X) (o : Option ℕ) → IsIndex (is_earlier like xs) xs o
       → IsAmong (map place (repeated alike [] (parts scope above n xs))) (option_map there o)
   again_is_among xs None h = ap (map place) (none_again 0 [] xs h)
   again_is_among [] (Some i) h = absurd (omega (arith, h.0))

@@ -10,7 +10,7 @@ use Rattle.std.proofs.lemmas.Int.{ints}
 use Rattle.std.proofs.lemmas.List.Folds.{list_any_more}
 use Rattle.pbx_desc_records.specs.declared.field.FieldDescriptorProto.{FieldDescriptorProto}
 use Rattle.pbx_link_definitions.specs.Says.{are_equal}
-use Rattle.pbx_link_rules_field.specs.Found.{is_again}
+use Rattle.pbx_link_definitions.specs.Found.{is_earlier}
 use Rattle.pbx_link_rules_field.proofs.Seen.{swap, was_there, was_new, contains_is, has_inserted}
 use Rattle.pbx_link_rules_field.proofs.Indexes.{or_none, any_default}
 
@@ -51,18 +51,18 @@ module _ (xs : List FieldDescriptorProto) (i : ℕ) (x : FieldDescriptorProto) (
 
   -- it has a number
   module _ (z : ℤ) (has : x.number ≡ Some z) where
-    told : (d : FieldDescriptorProto) (b : Bool) → list_any (is_at (int_cmp z)) keys ≡ b → is_again like xs i (get_or xs i d) ≡ b
+    told : (d : FieldDescriptorProto) (b : Bool) → list_any (is_at (int_cmp z)) keys ≡ b → is_earlier like xs i (get_or xs i d) ≡ b
     told d b h =
-        ap (λ (y : FieldDescriptorProto). is_again like xs i y) (here d)
+        ap (λ (y : FieldDescriptorProto). is_earlier like xs i y) (here d)
         ∙ ap (λ (n : Option ℤ). list_any (λ (y : FieldDescriptorProto). are_equal n y.number) (take i xs)) has
         ∙ sym (seen z) ∙ sym (contains_is int_cmp (λ k. k) equal tied decides z keys) ∙ h
 
     pub number_there : (added : Bool) → added ≡ not (list_any (is_at (int_cmp z)) keys) → added ≡ false → (d : FieldDescriptorProto)
-        → is_again like xs i (get_or xs i d) ≡ true
+        → is_earlier like xs i (get_or xs i d) ≡ true
     number_there added e h d = told d true (was_there added _ e h)
 
     pub number_new : (added : Bool) → added ≡ not (list_any (is_at (int_cmp z)) keys) → added ≡ true → (d : FieldDescriptorProto)
-        → is_again like xs i (get_or xs i d) ≡ false
+        → is_earlier like xs i (get_or xs i d) ≡ false
     number_new added e h d = told d false (was_new added _ e h)
 
     pub number_added : (after : List ℤ) → after ≡ insert_key int_cmp keys z → Holds after (take (i + 1) xs)
@@ -73,9 +73,9 @@ module _ (xs : List FieldDescriptorProto) (i : ℕ) (x : FieldDescriptorProto) (
 
   -- it has none
   module _ (none : x.number ≡ None) where
-    pub no_number_new : (d : FieldDescriptorProto) → is_again like xs i (get_or xs i d) ≡ false
+    pub no_number_new : (d : FieldDescriptorProto) → is_earlier like xs i (get_or xs i d) ≡ false
     no_number_new d =
-        ap (λ (y : FieldDescriptorProto). is_again like xs i y) (here d)
+        ap (λ (y : FieldDescriptorProto). is_earlier like xs i y) (here d)
         ∙ ap (λ (n : Option ℤ). list_any (λ (y : FieldDescriptorProto). are_equal n y.number) (take i xs)) none ∙ none_equal (take i xs)
 
     pub no_number_added : (after : List ℤ) → after ≡ keys → Holds after (take (i + 1) xs)

@@ -11,7 +11,7 @@ use Rattle.pbx_desc_records.specs.declared.file.FileDescriptorProto.{FileDescrip
 use Rattle.pbx_link_definitions.specs.Says.{own_fields, is_proto3}
 use Rattle.pbx_link_definitions.specs.Definitions.{Place, Part, part, at, message_name, fields_in, messages, extensions}
 use Rattle.pbx_link_definitions.specs.Places.{places_where, repeated, IsAmong}
-use Rattle.pbx_link_rules_field.specs.Found.{IsIndex, is_again}
+use Rattle.pbx_link_definitions.specs.Found.{IsIndex, is_earlier}
 use Rattle.pbx_link_rules_field.specs.Rules.{unfit_numbers, repeated_numbers, reserved_names, bad_numbers_in, has_bad_type, bad_types_among, bad_types_in}
 use Rattle.pbx_link_rules_field.specs.Rules.{bad_types, is_bad_label, bad_labels_among, bad_labels_in, bad_labels}
 use Rattle.pbx_link_rules_field.proofs.Indexes.{position_is_index, is_among, again_is_among, at_head}
@@ -49,13 +49,13 @@ module _ (m : Part DescriptorProto) (item : DescriptorProto) (same : item ≡ m.
 
   -- a field that is like an earlier one
   module _ (like : FieldDescriptorProto → FieldDescriptorProto → Bool) (fields : List FieldDescriptorProto) (own : fields
-      ≡ own_fields item) (o : Option ℕ) (is : IsIndex (is_again like fields) fields o) where
+      ≡ own_fields item) (o : Option ℕ) (is : IsIndex (is_earlier like fields) fields o) where
     pub among_again : IsAmong (map (λ (p : Part FieldDescriptorProto). at p n) (repeated (λ (p q : Part FieldDescriptorProto). like p.item q.item)
         [] (fields_in m))) (option_map (field_at m n) o)
     among_again =
         again_is_among (message_name m) m.place 2 like (λ (p q : Part FieldDescriptorProto). like p.item q.item) (λ p q. refl) (λ p. at p n)
         (field_at m n) (is_field_at m n) (own_fields m.item) o
-        (subst (λ xs. IsIndex (is_again like xs) xs o) (own ∙ ap own_fields same) is)
+        (subst (λ xs. IsIndex (is_earlier like xs) xs o) (own ∙ ap own_fields same) is)
 
     pub again_here : (i : ℕ) (above there : Place) → o ≡ Some i → above ≡ m.place → there ≡ above ++ pos 2 ∷ pos i ∷ pos n ∷ []
         → Contains (map (λ (p : Part FieldDescriptorProto). at p n) (repeated (λ (p q : Part FieldDescriptorProto). like p.item q.item) []

@@ -1,4 +1,3 @@
 pub mod Rules
-pub mod Found
 pub mod Members
 pub mod Spans

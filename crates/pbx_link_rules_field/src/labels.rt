@@ -6,9 +6,9 @@ ghost use Rattle.pbx_link_definitions.specs.Places.{IsAmong};
 ghost use Rattle.pbx_link_rules_field.specs.Rules.{is_bad_label as is_bad_label_of, bad_labels_in, bad_labels as bad_labels_of};
 
 use crate::oneofs::is_proto3;
-use crate::places::{Place, field_place};
+use crate::places::Place;
 use pbx_desc_records::{DescriptorProto, FieldDescriptorProto};
-use pbx_link_definitions::{FileParts, Part};
+use pbx_link_definitions::{FileParts, Part, place_in_item};
 use pbx_wire::NoMemory;
 use std::alloc::Global;
 
@@ -52,7 +52,7 @@ fn bad_field(
 {
     for message in messages {
         if let Some(index) = bad_label(no_required, message.item().field.as_slice()) {
-            return Ok(Some(field_place(alloc, message.place(), index, 4)?));
+            return Ok(Some(place_in_item(alloc, message.place(), 2, index, 4)?));
         }
     }
     Ok(None)

@@ -9,12 +9,12 @@ ghost use Rattle.pbx_link_definitions.specs.Places.{IsAmong};
 ghost use Rattle.pbx_link_definitions.specs.Ranges.{in_ranges};
 ghost use Rattle.pbx_link_rules_field.specs.Rules.{is_field_number as is_field_number_of, is_bad_number, has_reserved_name};
 ghost use Rattle.pbx_link_rules_field.specs.Rules.{bad_numbers_in as bad_numbers_in_of, bad_field_numbers as bad_field_numbers_of};
-ghost use Rattle.pbx_link_rules_field.specs.Found.{IsIndex, is_again};
+ghost use Rattle.pbx_link_definitions.specs.Found.{IsIndex, is_earlier};
 
-use crate::places::{Place, field_place};
+use crate::places::Place;
 use crate::ranges::NumberRanges;
 use pbx_desc_records::{DescriptorProto, FieldDescriptorProto};
-use pbx_link_definitions::{FileParts, Part, text_or_empty};
+use pbx_link_definitions::{FileParts, Part, place_in_item, text_or_empty};
 use pbx_wire::NoMemory;
 use std::alloc::Global;
 use std::collections::BTreeSet;
@@ -46,7 +46,7 @@ fn bad_number(alloc: Global, message: &DescriptorProto) -> Result<Option<usize>,
 
 /// A field that has the number of an earlier one.
 fn number_again(alloc: Global, fields: &[FieldDescriptorProto]) -> Result<Option<usize>, NoMemory>
-    ensures { IfOk result (IsIndex (is_again (λ x y. are_equal x.number y.number) fields.now) fields.now) }
+    ensures { IfOk result (IsIndex (is_earlier (λ x y. are_equal x.number y.number) fields.now) fields.now) }
 {
     let mut seen = BTreeSet::new(alloc);
     for (index, field) in fields.iter().enumerate() {
@@ -103,13 +103,13 @@ fn bad_numbers_in(
 {
     let item = message.item();
     if let Some(index) = bad_number(alloc, item)? {
-        return Ok(Some(field_place(alloc, message.place(), index, 3)?));
+        return Ok(Some(place_in_item(alloc, message.place(), 2, index, 3)?));
     }
     if let Some(index) = number_again(alloc, item.field.as_slice())? {
-        return Ok(Some(field_place(alloc, message.place(), index, 3)?));
+        return Ok(Some(place_in_item(alloc, message.place(), 2, index, 3)?));
     }
     if let Some(index) = reserved_name(alloc, item)? {
-        return Ok(Some(field_place(alloc, message.place(), index, 1)?));
+        return Ok(Some(place_in_item(alloc, message.place(), 2, index, 1)?));
     }
     Ok(None)
 }

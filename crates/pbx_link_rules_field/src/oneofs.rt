@@ -8,9 +8,9 @@ ghost use Rattle.pbx_link_definitions.specs.Places.{IsAmong};
 ghost use Rattle.pbx_link_rules_field.specs.Rules.{bad_oneofs_in as bad_oneofs_in_of, is_bad_extension as is_bad_extension_of, bad_oneofs as bad_oneofs_of};
 ghost use Rattle.pbx_link_rules_field.specs.Members.{index_below, member_count, is_bad_member as is_bad_member_of};
 
-use crate::places::{Place, place_copy};
+use crate::places::Place;
 use pbx_desc_records::{DescriptorProto, FieldDescriptorProto, FileDescriptorProto};
-use pbx_link_definitions::{FileParts, Part, is_named, place_in};
+use pbx_link_definitions::{FileParts, Part, is_named, place_copy, place_in};
 use pbx_wire::NoMemory;
 use std::alloc::Global;
 

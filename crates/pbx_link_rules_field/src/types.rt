@@ -6,9 +6,9 @@ ghost use Rattle.pbx_link_definitions.specs.Places.{IsAmong};
 ghost use Rattle.pbx_link_rules_field.specs.Rules.{is_type as is_type_of, is_named_type as is_named_type_of, is_bad_type as is_bad_type_of};
 ghost use Rattle.pbx_link_rules_field.specs.Rules.{has_bad_type, bad_types_in, bad_types as bad_types_of};
 
-use crate::places::{Place, field_place};
+use crate::places::Place;
 use pbx_desc_records::{DescriptorProto, FieldDescriptorProto};
-use pbx_link_definitions::{FileParts, Part};
+use pbx_link_definitions::{FileParts, Part, place_in_item};
 use pbx_wire::{NoMemory, Text};
 use std::alloc::Global;
 
@@ -68,7 +68,7 @@ fn bad_field(
 {
     for message in messages {
         if let Some(index) = bad_type(message.item().field.as_slice()) {
-            return Ok(Some(field_place(alloc, message.place(), index, 5)?));
+            return Ok(Some(place_in_item(alloc, message.place(), 2, index, 5)?));
         }
     }
     Ok(None)

@@ -9,7 +9,7 @@ use Rattle.std.proofs.lemmas.List.Elements.{Contains-append_left, Contains-appen
 use Rattle.std.proofs.lemmas.List.FromFn.{length-enumerate_from, get_or-enumerate_from}
 use Rattle.pbx_link_definitions.specs.Definitions.{Place, Part, part, parts}
 use Rattle.pbx_link_definitions.specs.Places.{places_where, repeated, IsAmong}
-use Rattle.pbx_link_rules_record.specs.Found.{is_earlier}
+use Rattle.pbx_link_definitions.specs.Found.{is_earlier}
 
 -- ---- lists that are joined
 

@@ -12,7 +12,7 @@ use Rattle.pbx_desc_records.specs.declared.enumeration.EnumReservedRange.{EnumRe
 use Rattle.pbx_link_definitions.specs.Says.{are_equal, signed_or_zero}
 use Rattle.pbx_link_definitions.specs.Ranges.{Range, has_number, in_ranges, is_within}
 use Rattle.pbx_link_rules_record.specs.declared.number_set.Step.{Step}
-use Rattle.pbx_link_rules_record.specs.Found.{IsIndex, is_earlier}
+use Rattle.pbx_link_definitions.specs.Found.{IsIndex, is_earlier}
 use Rattle.pbx_link_rules_record.specs.Sets.{has_key, have_number, lacks_or_has}
 use Rattle.pbx_link_rules_record.specs.EnumRules.{is_at_most, is_reserved_value}
 use Rattle.pbx_link_rules_record.specs.RangeRules.{enum_range}

@@ -13,7 +13,7 @@ use Rattle.pbx_link_definitions.specs.Says.{has_option, is_number, signed_or_zer
 use Rattle.pbx_link_definitions.specs.Definitions.{Place, Part, parts, values_in}
 use Rattle.pbx_link_definitions.specs.Places.{places_where, repeated, place_if}
 use Rattle.pbx_link_definitions.specs.Ranges.{Range, extension_ranges, reserved_ranges, all_ranges}
-use Rattle.pbx_link_rules_record.specs.Found.{IsIndex, is_earlier}
+use Rattle.pbx_link_definitions.specs.Found.{IsIndex, is_earlier}
 use Rattle.pbx_link_rules_record.specs.EnumRules.{is_bad_value, like_valued, aliases, bad_first, bad_enum, breaks_value}
 use Rattle.pbx_link_rules_record.specs.EntryRules.{is_empty}
 use Rattle.pbx_link_rules_record.specs.RangeRules.{is_bad_range, bad_message_ranges, extension_range_parts, share_number, bad_ranges_of, message_ranges}

@@ -19,7 +19,7 @@ use Rattle.std.proofs.lemmas.List.Sorted.{sorted_far, ranks_by, IsPermutation-ke
 use Rattle.pbx_link_rules_record.specs.declared.spans.Span.{Span}
 use Rattle.pbx_link_definitions.specs.Ranges.{Range}
 use Rattle.pbx_link_rules_record.specs.RangeRules.{is_shared, share_number}
-use Rattle.pbx_link_rules_record.specs.Found.{IsIndex, is_earlier}
+use Rattle.pbx_link_definitions.specs.Found.{IsIndex, is_earlier}
 use Rattle.pbx_link_rules_record.specs.Spans.{end_or, span_of, IsSortedByStart, spans_share, IsSharedIn}
 
 -- ---- what it is to share a number

@@ -9,7 +9,7 @@ use Rattle.pbx_link_definitions.specs.Names.{among, text_or_empty}
 use Rattle.pbx_link_definitions.specs.Says.{is_proto3, is_number, are_equal, has_option, signed_or_zero}
 use Rattle.pbx_link_definitions.specs.Definitions.{Place, Part, values_in, enums}
 use Rattle.pbx_link_definitions.specs.Places.{places_where, repeated, place_if}
-use Rattle.pbx_link_rules_record.specs.Found.{is_earlier}
+use Rattle.pbx_link_definitions.specs.Found.{is_earlier}
 
 -- there is a last number, and the number is not above it
 abbrev pub is_at_most : ℤ → Option ℤ → Bool

@@ -1,4 +1,3 @@
-pub mod Found
 pub mod FileRules
 pub mod OptionRules
 pub mod EntryRules

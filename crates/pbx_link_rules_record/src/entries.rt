@@ -12,9 +12,8 @@ ghost use Rattle.pbx_link_rules_record.specs.EntryRules.{is_proper_entry as is_p
 ghost use Rattle.pbx_link_rules_record.specs.EntryRules.{bad_entries as bad_entries_of};
 
 use crate::options::has_option;
-use crate::places::place_copy;
 use pbx_desc_records::{DescriptorProto, FieldDescriptorProto};
-use pbx_link_definitions::{FileParts, Part, is_named, place_in};
+use pbx_link_definitions::{FileParts, Part, is_named, place_copy, place_in};
 use pbx_wire::{List, NoMemory};
 use std::alloc::Global;
 

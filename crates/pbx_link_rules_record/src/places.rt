@@ -1,20 +1,9 @@
-// Places of parts of a file's record.
+// Places of fields of items.
 ghost use Rattle.std.specs.Prelude.{◌≡◌, ◌++◌, ◌∷◌, [], pos, IfOk};
 
 use pbx_link_definitions::{place_at, place_in};
 use pbx_wire::{List, NoMemory};
 use std::alloc::Global;
-
-/// An equal place. The only error is want of memory.
-pub(crate) fn place_copy(alloc: Global, place: &[i32]) -> Result<List<i32>, NoMemory>
-    ensures { IfOk result (λ copy. copy ≡ place.now) }
-{
-    let mut copy = List::new(alloc);
-    for step in place {
-        copy.add(*step)?;
-    }
-    Ok(copy)
-}
 
 /// The place of a field of an item: of the item at the index in the list of this number. The only error is want of memory; an index
 /// above those of 31 bits is refused likewise.

@@ -4,7 +4,7 @@ ghost use Rattle.std.specs.List.{flat_map};
 ghost use Rattle.pbx_link_definitions.specs.Definitions.{Part as PartOf};
 ghost use Rattle.pbx_link_definitions.specs.Ranges.{Range};
 ghost use Rattle.pbx_link_definitions.specs.Places.{IsAmong};
-ghost use Rattle.pbx_link_rules_record.specs.Found.{IsIndex, is_earlier};
+ghost use Rattle.pbx_link_definitions.specs.Found.{IsIndex, is_earlier};
 ghost use Rattle.pbx_link_rules_record.specs.RangeRules.{is_bad_range, is_empty_range, share_number, message_ranges as message_ranges_of};
 ghost use Rattle.pbx_link_rules_record.specs.RangeRules.{bad_message_ranges as bad_message_ranges_of, bad_ranges as bad_ranges_of};
 ghost use Rattle.pbx_link_rules_record.specs.RangeRules.{bad_enum_ranges as bad_enum_ranges_of};

@@ -2,7 +2,7 @@
 ghost use Rattle.std.specs.Prelude.{◌≡◌, map, IfOk};
 ghost use Rattle.std.specs.List.{enumerate_from};
 ghost use Rattle.std.specs.List.Sorted.{IsPermutation};
-ghost use Rattle.pbx_link_rules_record.specs.Found.{IsIndex, is_earlier};
+ghost use Rattle.pbx_link_definitions.specs.Found.{IsIndex, is_earlier};
 ghost use Rattle.pbx_link_rules_record.specs.RangeRules.{share_number};
 ghost use Rattle.pbx_link_rules_record.specs.Spans.{span_of, IsSortedByStart, IsSharedIn};
 

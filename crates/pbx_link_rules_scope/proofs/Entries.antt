@@ -16,7 +16,7 @@ use Rattle.pbx_link_definitions.specs.Names.{is_named, qualified, first_part, ha
 use Rattle.pbx_link_definitions.specs.Definitions.{Place, Part, message_name}
 use Rattle.pbx_link_definitions.specs.Places.{IsAmong}
 use Rattle.pbx_link_definitions.specs.Says.{own_name, own_fields, is_entry, is_repeated}
-use Rattle.pbx_link_rules_field.specs.Found.{IsIndex}
+use Rattle.pbx_link_definitions.specs.Found.{IsIndex}
 use Rattle.pbx_link_rules_field.proofs.Indexes.{any_default, at_head, is_among}
 use Rattle.pbx_link_rules_field.proofs.Placed.{place_here, place_none}
 use Rattle.pbx_link_rules_field.proofs.Seen.{was_there, was_new, either_way, swap}

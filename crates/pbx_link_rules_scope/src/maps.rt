@@ -3,13 +3,15 @@ ghost use Rattle.std.specs.Prelude.{◌≡◌, IfOk};
 ghost use Rattle.std.specs.List.{flat_map};
 ghost use Rattle.pbx_link_definitions.specs.Says.{is_entry as is_entry_of, is_repeated as is_repeated_of};
 ghost use Rattle.pbx_link_definitions.specs.Places.{IsAmong};
-ghost use Rattle.pbx_link_rules_field.specs.Found.{IsIndex};
+ghost use Rattle.pbx_link_definitions.specs.Found.{IsIndex};
 ghost use Rattle.pbx_link_rules_scope.specs.MapFields.{type_in, entry_in, is_entry_type, is_bad_map_field};
 ghost use Rattle.pbx_link_rules_scope.specs.MapFields.{bad_map_fields_in, of_entry_types, bad_map_fields as bad_map_fields_of};
 
 use crate::searches::Place;
 use pbx_desc_records::{DescriptorProto, FieldDescriptorProto};
-use pbx_link_definitions::{FileParts, Part, PartRef, name_in, place_in, text_or_empty};
+use pbx_link_definitions::{
+    FileParts, Part, PartRef, name_in, place_copy, place_in, text_or_empty,
+};
 use pbx_link_scope::{Bound, Visible, type_of};
 use pbx_wire::NoMemory;
 use std::alloc::Global;
@@ -126,17 +128,6 @@ fn has_entry_type<V: Visible>(
         Some(Bound::Message(message)) => Ok(is_entry(message.item())),
         _ => Ok(false),
     }
-}
-
-/// An equal place.
-fn place_copy(alloc: Global, place: &[i32]) -> Result<Place, NoMemory>
-    ensures { IfOk result (λ copy. copy ≡ place.now) }
-{
-    let mut copy = Place::new(alloc);
-    for step in place {
-        copy.add(*step)?;
-    }
-    Ok(copy)
 }
 
 fn bad_extension<V: Visible>(

@@ -3,14 +3,14 @@ ghost use Rattle.std.specs.Prelude.{◌≡◌, ◌++◌, ◌∷◌, [], pos, IfO
 ghost use Rattle.std.specs.List.{flat_map};
 ghost use Rattle.pbx_link_definitions.specs.Definitions.{part, fields_in, methods_in, methods};
 ghost use Rattle.pbx_link_definitions.specs.Places.{IsAmong};
-ghost use Rattle.pbx_link_rules_field.specs.Found.{IsIndex};
+ghost use Rattle.pbx_link_definitions.specs.Found.{IsIndex};
 ghost use Rattle.pbx_link_rules_scope.specs.Rules.{places_by};
 
 use pbx_desc_records::{
     DescriptorProto, FieldDescriptorProto, FileDescriptorProto, MethodDescriptorProto,
     ServiceDescriptorProto,
 };
-use pbx_link_definitions::{Part, name_in, place_in, text_or_empty};
+use pbx_link_definitions::{Part, name_in, place_in, place_in_item, text_or_empty};
 use pbx_wire::{List, NoMemory};
 use std::alloc::Global;
 
@@ -45,21 +45,6 @@ pub(crate) fn broken_item<T, R: Rule<T>>(
     Ok(None)
 }
 
-/// The place of the field of this number of the record at the index of a list, which is a field of what stands at the place.
-fn item_place(
-    alloc: Global,
-    above: &[i32],
-    list: u8,
-    index: usize,
-    number: u8,
-) -> Result<Place, NoMemory>
-    ensures { IfOk result (λ there. there ≡ above.now ++ pos list ∷ pos index ∷ pos number ∷ []) }
-{
-    let mut there = place_in(alloc, above, list, index)?;
-    there.add(i32::from(number))?;
-    Ok(there)
-}
-
 #[tactic(auto, using(crate::proofs::Searched::item_here, crate::proofs::Searched::item_none))]
 fn broken_field_in<R: Rule<FieldDescriptorProto>>(
     alloc: Global,
@@ -72,7 +57,7 @@ fn broken_field_in<R: Rule<FieldDescriptorProto>>(
     let item = message.item();
     let name = name_in(alloc, message.scope(), text_or_empty(&item.name))?;
     match broken_item(alloc, rule, name.as_str(), item.field.as_slice())? {
-        Some(index) => Ok(Some(item_place(alloc, message.place(), 2, index, number)?)),
+        Some(index) => Ok(Some(place_in_item(alloc, message.place(), 2, index, number)?)),
         None => Ok(None),
     }
 }
@@ -127,7 +112,7 @@ fn broken_method_in<R: Rule<MethodDescriptorProto>>(
     match broken_item(alloc, rule, name.as_str(), service.method.as_slice())? {
         Some(method) => {
             let place = place_in(alloc, &[], 6, index)?;
-            Ok(Some(item_place(alloc, place.as_slice(), 2, method, number)?))
+            Ok(Some(place_in_item(alloc, place.as_slice(), 2, method, number)?))
         }
         None => Ok(None),
     }

@@ -7,7 +7,7 @@ ghost use Rattle.pbx_link_tables.specs.Entries.{in_brackets, AreEntries};
 ghost use Rattle.pbx_desc_records.specs.declared.field.FieldDescriptorProto.{FieldDescriptorProto as FieldOf};
 
 use pbx_desc_records::{DescriptorProto, FieldDescriptorProto, ServiceDescriptorProto};
-use pbx_link_definitions::{FileParts, Named, Part, name_in, place_in, text_or_empty};
+use pbx_link_definitions::{FileParts, Named, Part, name_in, place_copy, place_in, text_or_empty};
 use pbx_wire::{List, NoMemory, Text};
 use std::alloc::Global;
 
@@ -36,16 +36,6 @@ pub struct Entries {
     pub services: List<Entry>,
     /// The full names of the extensions in brackets.
     pub json_names: List<Text>,
-}
-
-fn place_copy(alloc: Global, place: &[i32]) -> Result<List<i32>, NoMemory>
-    ensures { IfOk result (λ copy. copy ≡ place.now) }
-{
-    let mut copy = List::with_capacity(alloc, place.len())?;
-    for step in place {
-        copy.add(*step)?;
-    }
-    Ok(copy)
 }
 
 fn made_entry(

@@ -5,6 +5,7 @@ ghost use Rattle.protox_io.specs.Paths.{disk_key};
 
 use pbx_wire::{Blob, Text};
 use std::alloc::Global;
+use thiserror::Error;
 
 // The most bytes of a file, as of a serialized Protocol Buffers message.
 pub(crate) const LARGEST: usize = 2147483647;
@@ -21,11 +22,13 @@ pub enum DiskAnswer {
 }
 
 /// Why a disk did not answer.
-#[derive(Debug, Drop)]
+#[derive(Debug, Drop, Error)]
 pub enum DiskError {
     /// The disk failed, as this text says. Its count of faults rose, or stands at its end.
+    #[error("{0}")]
     Failed(Text),
     /// Memory ran out. A disk may have failed as well, without memory for the text that says so.
+    #[error("out of memory")]
     NoMemory,
 }
 

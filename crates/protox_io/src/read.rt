@@ -6,15 +6,19 @@ ghost use Rattle.protox_io.specs.declared.read.ReadFault.TheVariants.{NoMemory a
 use crate::{Failed, Source};
 use pbx_wire::{Blob, NoMemory};
 use std::alloc::Global;
+use thiserror::Error;
 
 /// Why a source was not read to its end.
-#[derive(Clone, Copy, Debug, PartialEq, Eq)]
+#[derive(Clone, Copy, Debug, PartialEq, Eq, Error)]
 pub enum ReadFault {
     /// The source failed.
+    #[error("the source failed")]
     Failed,
     /// More bytes were left than the limit.
+    #[error("the source has more bytes than may be read")]
     TooLong,
     /// Memory ran out.
+    #[error("out of memory")]
     NoMemory,
 }
 

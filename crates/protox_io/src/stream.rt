@@ -3,16 +3,21 @@ ghost use Rattle.protox_io.specs.Count.{Count, Rose, Later};
 ghost use Rattle.protox_io.specs.Read.{Input};
 ghost use Rattle.protox_io.specs.Sink.{Output, RefusesFor};
 
+use thiserror::Error;
+
 /// A source failed. Its count of faults rose, or stands at its end.
-#[derive(Clone, Copy, Debug, PartialEq, Eq)]
+#[derive(Clone, Copy, Debug, PartialEq, Eq, Error)]
+#[error("the source failed")]
 pub struct Failed;
 
 /// Why a sink refused bytes.
-#[derive(Clone, Copy, Debug, PartialEq, Eq)]
+#[derive(Clone, Copy, Debug, PartialEq, Eq, Error)]
 pub enum SinkError {
     /// The sink failed. Its count of faults rose, or stands at its end.
+    #[error("the sink failed")]
     Failed,
     /// Memory ran out, which is no fault of the sink.
+    #[error("out of memory")]
     NoMemory,
 }
 

@@ -2,7 +2,7 @@ use Rattle.std.proofs.Common.{◌||◌, ℕ, None, Some}
 use Rattle.std.specs.Str.{bytes_eq}
 use Rattle.std.proofs.lemmas.Result.{IfOk-weaker}
 use Rattle.pbx_link_definitions.specs.Names.{among}
-use Rattle.pbx_link_rules_record.specs.Found.{IsIndex, is_earlier}
+use Rattle.pbx_link_definitions.specs.Found.{IsIndex, is_earlier}
 use Rattle.pbx_link_rules_record.proofs.Indexes.{position_is, or_first, or_second}
 use Rattle.pbx_link_rules.specs.Rules.{taken_names}
 use Rattle.pbx_link_rules.proofs.names.name_twice.Goals as goal

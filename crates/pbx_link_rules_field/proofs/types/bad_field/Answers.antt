@@ -9,9 +9,9 @@ pub returns-in-Some : goal.returns-in-Some
 returns-in-Some c =
     let first = c.bad_type.ensures ∙ ap (position (λ (x : FieldDescriptorProto). has_bad_type x)) c.as_slice.ensures in
     item_here bad_types_in c.args.messages.now c.loop-message.message-index c.message-item.result c.loop-message-test.true c.message-item.is
-    c.loop-message.invariant c.in_ok-field_place.field-0
+    c.loop-message.invariant c.in_ok-place_in_item.field-0
     (field_here c.message-item.result c.item.result.now c.item.ensures 5 (λ d x. has_bad_type x) c.bad_type.result first c.in-Some.index
-    c.place.result.now c.in_ok-field_place.field-0 c.in-Some.is c.place.ensures c.in_ok-field_place.ensures)
+    c.place.result.now c.in_ok-place_in_item.field-0 c.in-Some.is c.place.ensures c.in_ok-place_in_item.ensures)
 
 pub loop-message-preserved : goal.loop-message-preserved
 loop-message-preserved c =

@@ -4,7 +4,7 @@ use Rattle.std.proofs.lemmas.Bool.{false≢true}
 use Rattle.pbx_desc_records.specs.declared.enumeration.EnumDescriptorProto.{EnumDescriptorProto}
 use Rattle.pbx_desc_records.specs.declared.enumeration.EnumValueDescriptorProto.{EnumValueDescriptorProto}
 use Rattle.pbx_link_definitions.specs.Definitions.{Place}
-use Rattle.pbx_link_rules_record.specs.Found.{IsIndex}
+use Rattle.pbx_link_definitions.specs.Found.{IsIndex}
 use Rattle.pbx_link_rules_record.specs.EntryRules.{is_empty}
 use Rattle.pbx_link_rules_record.specs.EnumRules.{bad_enum, breaks_value}
 use Rattle.pbx_link_rules_record.proofs.ItemPlaces.{values_none, values_some}

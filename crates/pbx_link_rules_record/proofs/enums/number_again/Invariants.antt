@@ -1,6 +1,6 @@
 use Rattle.std.proofs.Common.{◌≡◌, ℕ, ◌<◌, get_or, false}
 use Rattle.pbx_desc_records.specs.declared.enumeration.EnumValueDescriptorProto.{EnumValueDescriptorProto}
-use Rattle.pbx_link_rules_record.specs.Found.{is_earlier}
+use Rattle.pbx_link_definitions.specs.Found.{is_earlier}
 use Rattle.pbx_link_rules_record.specs.EnumRules.{like_valued}
 use Rattle.pbx_link_rules_record.proofs.Seen.{HasSeen}
 use Rattle.pbx_link_rules_record.proofs.enums.number_again.Given as goal

@@ -3,7 +3,7 @@ use Rattle.std.specs.Prelude.{Contains}
 use Rattle.pbx_desc_records.specs.declared.enumeration.EnumDescriptorProto.{EnumDescriptorProto}
 use Rattle.pbx_link_definitions.specs.Definitions.{Place, Part}
 use Rattle.pbx_link_definitions.specs.Ranges.{Range}
-use Rattle.pbx_link_rules_record.specs.Found.{IsIndex, is_earlier}
+use Rattle.pbx_link_definitions.specs.Found.{IsIndex, is_earlier}
 use Rattle.pbx_link_rules_record.specs.RangeRules.{is_empty_range, share_number, enum_range, enum_ranges, bad_enum_ranges}
 use Rattle.pbx_link_rules_record.proofs.Among.{items_are, place_at_index}
 use Rattle.pbx_link_rules_record.proofs.ItemPlaces.{ranges_some, ranges_none}

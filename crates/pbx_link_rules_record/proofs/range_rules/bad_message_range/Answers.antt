@@ -3,7 +3,7 @@ use Rattle.std.specs.Prelude.{Contains}
 use Rattle.pbx_desc_records.specs.declared.message.DescriptorProto.{DescriptorProto, out-DescriptorProto}
 use Rattle.pbx_link_definitions.specs.Definitions.{Place}
 use Rattle.pbx_link_definitions.specs.Ranges.{all_ranges}
-use Rattle.pbx_link_rules_record.specs.Found.{IsIndex, is_earlier}
+use Rattle.pbx_link_definitions.specs.Found.{IsIndex, is_earlier}
 use Rattle.pbx_link_rules_record.specs.EntryRules.{is_empty}
 use Rattle.pbx_link_rules_record.specs.RangeRules.{is_bad_range, share_number, bad_message_ranges}
 use Rattle.pbx_link_rules_record.proofs.ItemPlaces.{first_extension, message_range_some, message_range_none}

@@ -3,7 +3,7 @@ use Rattle.std.specs.List.Sorted.{IsPermutation}
 use Rattle.pbx_link_rules_record.specs.declared.spans.Span.{Span}
 use Rattle.pbx_link_definitions.specs.Ranges.{Range}
 use Rattle.pbx_link_rules_record.specs.RangeRules.{share_number}
-use Rattle.pbx_link_rules_record.specs.Found.{IsIndex, is_earlier}
+use Rattle.pbx_link_definitions.specs.Found.{IsIndex, is_earlier}
 use Rattle.pbx_link_rules_record.specs.Spans.{IsSortedByStart, IsSharedIn}
 use Rattle.pbx_link_rules_record.proofs.Overlaps.{all_spans, overlap_found, overlap_none}
 use Rattle.pbx_link_rules_record.proofs.spans.overlapping.Goals as goal

@@ -12,4 +12,4 @@ returns-in-Some g c =
     ∙ ap (qualified m.scope) (c.text_or_empty.ensures ∙ ap own_name c.item-item.ensures) in
     item_here (g.R.Rule.breaks c.args.rule.now) (message_name m) c.as_str.result.now name m.place 2 c.args.number (own_fields m.item) c.as_slice.result.now
     (c.as_slice.ensures ∙ ap own_fields c.item-item.ensures) c.in_ok-index.field-0 c.in_ok-index.ensures c.in-Some.index c.place.result.now
-    c.in_ok-item_place-in-Some.field-0 c.in-Some.is c.place.ensures c.in_ok-item_place-in-Some.ensures
+    c.in_ok-place_in_item-in-Some.field-0 c.in-Some.is c.place.ensures c.in_ok-place_in_item-in-Some.ensures

@@ -11,4 +11,4 @@ returns-in-Some g c =
     item_here (g.R.Rule.breaks c.args.rule.now) (service_name s) c.as_str.result.now name s.place 2 c.args.number c.args.service.now.method
     c.as_slice.result.now
     c.as_slice.ensures c.in_ok-method.field-0 c.in_ok-method.ensures c.in-Some.method c.as_slice-in-Some.result.now
-    c.in_ok-item_place-in-Some.field-0 c.in-Some.is (c.as_slice-in-Some.ensures ∙ c.in_ok-place-in-Some.ensures) c.in_ok-item_place-in-Some.ensures
+    c.in_ok-place_in_item-in-Some.field-0 c.in-Some.is (c.as_slice-in-Some.ensures ∙ c.in_ok-place-in-Some.ensures) c.in_ok-place_in_item-in-Some.ensures
