@@ -11,8 +11,8 @@ pub use message::JsonMessage;
 pub use names::check_names;
 // The laws that callers need to go from one of these calls to another.
 pub use pbx_json_laws::{
-    canonical_stands, canonical_without_fault, fitting_is_written, shapes_are_well_named,
-    stands_sound, stands_without_fault, values_have_texts,
+    canonical_stands, canonical_without_fault, clear_by_any_name, fitting_is_written,
+    shapes_are_well_named, stands_sound, stands_without_fault, values_have_texts,
 };
 pub use pbx_json_meaning::{
     DeserializeOptions, JsonError, JsonKind, NameFault, Place, SerializeOptions, Step,

@@ -20,7 +20,7 @@ use Rattle.pbx_json_meaning.specs.Asked.{field, one, Target, single, list, map, 
 use Rattle.pbx_json_meaning.specs.Names.{field_named}
 use Rattle.pbx_json_meaning.specs.Canonical.{Writing, key_of_field, Tells}
 use Rattle.pbx_json_meaning.specs.Canonical.{items_of, entry_line, tells, content_tree, fields_tell, vals_tell, pairs_tell}
-use Rattle.pbx_json_meaning.specs.Clash.{name_fault}
+use Rattle.pbx_json_meaning.specs.Clash.{naming_of, name_fault}
 use Rattle.pbx_json_meaning.specs.Named.{IsWellNamed}
 use Rattle.pbx_json_meaning.specs.Stands.{pairs_of, if_differ, Says, all_read, present, entries_read, own_as, message_as, map_as, said}
 use Rattle.pbx_json_meaning.specs.Stands.{items_said, entries_said}
@@ -41,7 +41,7 @@ use Rattle.pbx_json_laws.proofs.Read.{items_in, entries_in}
 use Rattle.pbx_json_laws.proofs.Parts.{of_some}
 use Rattle.pbx_json_laws.proofs.FitSound.{no_number}
 
-module _ (shape : Shape) (proper : IsProper shape) (well : IsWellNamed shape) (o : Writing) (clean : name_fault o.options.use_proto_field_name shape ≡ None)
+module _ (shape : Shape) (proper : IsProper shape) (well : IsWellNamed shape) (o : Writing) (clean : name_fault (naming_of o.options) shape ≡ None)
     (payload : (u : ℕ) (p : Content) (d : Data) → FitsAs shape p u → o.payloads u (encoded shape u p) ≡ Some d → Reads shape u p d) where
   named : (t n : ℕ) (f : FieldShape) → field_of n (declared_of shape t) ≡ Some f → field_named (key_of_field o f) (declared_of shape t) ≡ Some f
   named t n f e = key_names shape t o proper well clean n f e

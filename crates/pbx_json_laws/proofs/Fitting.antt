@@ -18,7 +18,7 @@ use Rattle.pbx_wkt_types.specs.declared.form.Form.TheVariants as forms
 use Rattle.pbx_wkt_types.proofs.Forms.{any_fields}
 use Rattle.pbx_json_meaning.specs.Asked.{Target, single, list, map, target_by}
 use Rattle.pbx_json_meaning.specs.Canonical.{Writing, writing, canonical, content_tree, any_with, payload_tree}
-use Rattle.pbx_json_meaning.specs.Clash.{name_fault}
+use Rattle.pbx_json_meaning.specs.Clash.{naming_of, name_fault}
 use Rattle.pbx_json_meaning.specs.Fits.{Payload, payload_with, payload_by, payloads, fields_payloads, val_payloads, vals_payloads, pairs_payloads, decoded_passes, decodes_within}
 use Rattle.pbx_json_meaning.specs.Fits.{payload_fits, payloads_fit}
 use Rattle.pbx_json_meaning.specs.Forms.{kind_in as kind_of, packed, bytes_at}
@@ -143,12 +143,12 @@ module _ (shape : Shape) (o : Writing) (passes : Payload → Bool) where
 -- ---- turns
 
 module _ (shape : Shape) (proper : IsProper shape) (well : IsWellNamed shape) (o : SerializeOptions)
-    (clean : name_fault o.use_proto_field_name shape ≡ None) where
+    (clean : name_fault (naming_of o) shape ≡ None) where
   -- a content whose payloads pass has a tree
   tree_made : (w : Writing) (same : w.options ≡ o) (passes : Payload → Bool) → PayloadsBack shape proper well o clean w → AreMade shape w passes
       → (c : Content) (t : ℕ) → FitsAs shape c t → list_all passes (payloads shape c t) ≡ true → (d : Data) × (content_tree shape w c t ≡ Some d)
   tree_made w same passes back made c t h e =
-      let none : name_fault w.options.use_proto_field_name shape ≡ None = ap (λ x. name_fault x.use_proto_field_name shape) same ∙ clean in
+      let none : name_fault (naming_of w.options) shape ≡ None = ap (λ x. name_fault (naming_of x) shape) same ∙ clean in
       let written = content_up shape w passes (any_up_from shape w passes proper well made) c t h e in
       let it = content_back shape proper well w none back c t h written in
       (it.0, it.1)

@@ -13,7 +13,8 @@ use Rattle.pbx_content.specs.declared.shape.MessageShape.{MessageShape}
 use Rattle.pbx_content.specs.declared.shape.Shape.{Shape}
 use Rattle.pbx_json_meaning.specs.Canonical.{Writing, key_of_field}
 use Rattle.pbx_json_meaning.specs.Urls.{is_type_key}
-use Rattle.pbx_json_meaning.specs.Clash.{is_shared, is_of_extension, is_name_of_another, clashes, least_key, clashing_key, first_clash, first_misshapen, name_fault}
+use Rattle.pbx_json_meaning.specs.Clash.{Naming, ByJsonName, ByAnyName, is_by_any_name, naming_of, is_shared, is_of_extension, is_name_of_another, clashes, least_key, clashing_key, first_clash, first_misshapen, name_fault}
+use Rattle.pbx_json_meaning.specs.Laws.{ClearByAnyName}
 use Rattle.pbx_json_meaning.specs.Named.{IsWellNamed}
 use Rattle.pbx_json_meaning.specs.Names.{field_named, json_name_is, name_is, extension_is}
 use Rattle.pbx_json_meaning.specs.declared.names_fault.NameFault.{NameFault}
@@ -105,17 +106,17 @@ nor_both : {X : Type 0} (o p : Option X) → option_or o p ≡ None → (o ≡ N
 nor_both None p h = (refl, h)
 nor_both (Some x) p h = absurd (cc)
 
-no_clash_at : (b : Bool) (ms : List MessageShape) (t : ℕ) → first_clash b ms ≡ None
-    → list_all (λ f. not (clashes b (declared_at ms t) f)) (declared_at ms t) ≡ true
-no_clash_at b [] t h = refl
-no_clash_at b (m ∷ ms) zero h =
-    none_passes (clashes b m.fields) m.fields (clash_parts (clashing_key b m.fields) m.full_name (first_clash b ms) h).0
-no_clash_at b (m ∷ ms) (suc t) h = no_clash_at b ms t (clash_parts (clashing_key b m.fields) m.full_name (first_clash b ms) h).1
+no_clash_at : (naming : Naming) (ms : List MessageShape) (t : ℕ) → first_clash naming ms ≡ None
+    → list_all (λ f. not (clashes naming (declared_at ms t) f)) (declared_at ms t) ≡ true
+no_clash_at naming [] t h = refl
+no_clash_at naming (m ∷ ms) zero h =
+    none_passes (clashes naming m.fields) m.fields (clash_parts (clashing_key naming m.fields) m.full_name (first_clash naming ms) h).0
+no_clash_at naming (m ∷ ms) (suc t) h = no_clash_at naming ms t (clash_parts (clashing_key naming m.fields) m.full_name (first_clash naming ms) h).1
 
 -- no field of a type has a key at fault
-pub no_clash : (b : Bool) (shape : Shape) (t : ℕ) → name_fault b shape ≡ None
-    → list_all (λ f. not (clashes b (declared_of shape t) f)) (declared_of shape t) ≡ true
-no_clash b shape t h = no_clash_at b shape.messages t (nor_both (first_clash b shape.messages) (first_misshapen shape 0 shape.messages) h).0
+pub no_clash : (naming : Naming) (shape : Shape) (t : ℕ) → name_fault naming shape ≡ None
+    → list_all (λ f. not (clashes naming (declared_of shape t) f)) (declared_of shape t) ≡ true
+no_clash naming shape t h = no_clash_at naming shape.messages t (nor_both (first_clash naming shape.messages) (first_misshapen shape 0 shape.messages) h).0
 
 clash_less : (e s t x n : Bool) → not (not e && (s || t || x || (true && n))) ≡ true → (not e && (s || t || x || (false && n))) ≡ false
 clash_less true s t x n h = refl
@@ -124,27 +125,27 @@ clash_less false false true x n h = absurd (cc)
 clash_less false false false true n h = absurd (cc)
 clash_less false false false false n h = refl
 
-fewer : (fs gs : List FieldShape) → list_all (λ f. not (clashes true fs f)) gs ≡ true → filter (clashes false fs) gs ≡ []
+fewer : (fs gs : List FieldShape) → list_all (λ f. not (clashes ByAnyName fs f)) gs ≡ true → filter (clashes ByJsonName fs) gs ≡ []
 fewer fs [] h = refl
 fewer fs (g ∷ gs) h =
-    let parts = both (not (clashes true fs g)) (list_all (λ f. not (clashes true fs f)) gs) h in
-    let none : clashes false fs g ≡ false =
+    let parts = both (not (clashes ByAnyName fs g)) (list_all (λ f. not (clashes ByAnyName fs f)) gs) h in
+    let none : clashes ByJsonName fs g ≡ false =
     clash_less g.is_extension (is_shared fs g.json_name) (is_type_key g.json_name) (is_of_extension fs g.json_name) (is_name_of_another fs g) parts.0 in
     rw none (fewer fs gs parts.1)
 
-less_at_fault : (ms : List MessageShape) → first_clash true ms ≡ None → first_clash false ms ≡ None
+less_at_fault : (ms : List MessageShape) → first_clash ByAnyName ms ≡ None → first_clash ByJsonName ms ≡ None
 less_at_fault [] h = refl
 less_at_fault (m ∷ ms) h =
-    let parts = clash_parts (clashing_key true m.fields) m.full_name (first_clash true ms) h in
-    let none : clashing_key false m.fields ≡ None =
-    ap (λ gs. least_key (map (λ (f : FieldShape). f.json_name) gs)) (fewer m.fields m.fields (none_passes (clashes true m.fields) m.fields parts.0)) in
-    ap (λ o. option_or (option_map (λ key. JsonNames m.full_name key) o) (first_clash false ms)) none ∙ less_at_fault ms parts.1
+    let parts = clash_parts (clashing_key ByAnyName m.fields) m.full_name (first_clash ByAnyName ms) h in
+    let none : clashing_key ByJsonName m.fields ≡ None =
+    ap (λ gs. least_key (map (λ (f : FieldShape). f.json_name) gs)) (fewer m.fields m.fields (none_passes (clashes ByAnyName m.fields) m.fields parts.0)) in
+    ap (λ o. option_or (option_map (λ key. JsonNames m.full_name key) o) (first_clash ByJsonName ms)) none ∙ less_at_fault ms parts.1
 
--- where no name is at fault, none is where fields are written by their JSON names
-pub fault_by_name : (b : Bool) (shape : Shape) → name_fault true shape ≡ None → name_fault b shape ≡ None
-fault_by_name true shape h = h
-fault_by_name false shape h =
-    let parts = nor_both (first_clash true shape.messages) (first_misshapen shape 0 shape.messages) h in
+-- where no name is at fault, none is under some of the names
+pub clear_by_any_name : ClearByAnyName
+clear_by_any_name shape ByAnyName h = h
+clear_by_any_name shape ByJsonName h =
+    let parts = nor_both (first_clash ByAnyName shape.messages) (first_misshapen shape 0 shape.messages) h in
     ap (λ o. option_or o (first_misshapen shape 0 shape.messages)) (less_at_fault shape.messages parts.0) ∙ parts.1
 
 -- ---- the key of a field
@@ -172,29 +173,29 @@ own_type false true true x n e h = absurd (cc)
 own_type false false true x n e h = absurd (cc)
 
 -- the JSON name of a field of the message itself is not that of the type of an `Any`
-pub json_plain : (b : Bool) (shape : Shape) (t n : ℕ) (f : FieldShape) → name_fault b shape ≡ None → field_of n (declared_of shape t) ≡ Some f
+pub json_plain : (naming : Naming) (shape : Shape) (t n : ℕ) (f : FieldShape) → name_fault naming shape ≡ None → field_of n (declared_of shape t) ≡ Some f
     → f.is_extension ≡ false → is_type_key f.json_name ≡ false
-json_plain b shape t n f clean e own =
+json_plain naming shape t n f clean e own =
     let ds = declared_of shape t in
-    own_type f.is_extension (is_shared ds f.json_name) (is_type_key f.json_name) (is_of_extension ds f.json_name) (b && is_name_of_another ds f) own
-    (field_passes (λ f. not (clashes b ds f)) n ds f (no_clash b shape t clean) e)
+    own_type f.is_extension (is_shared ds f.json_name) (is_type_key f.json_name) (is_of_extension ds f.json_name) (is_by_any_name naming && is_name_of_another ds f) own
+    (field_passes (λ f. not (clashes naming ds f)) n ds f (no_clash naming shape t clean) e)
 
-module _ (b : Bool) (shape : Shape) (t : ℕ) (proper : IsProper shape) (well : IsWellNamed shape) (clean : name_fault b shape ≡ None) where
+module _ (naming : Naming) (shape : Shape) (t : ℕ) (proper : IsProper shape) (well : IsWellNamed shape) (clean : name_fault naming shape ≡ None) where
   -- what is known of a field's JSON name
   record Apart (g : FieldShape) : Type 0 where
     alone : is_shared (declared_of shape t) g.json_name ≡ false
     no_extension : is_of_extension (declared_of shape t) g.json_name ≡ false
-    no_name : (b && is_name_of_another (declared_of shape t) g) ≡ false
+    no_name : (is_by_any_name naming && is_name_of_another (declared_of shape t) g) ≡ false
 
-  apart_of : (g : FieldShape) → not g.is_extension ≡ true → not (clashes b (declared_of shape t) g) ≡ true → Apart g
+  apart_of : (g : FieldShape) → not g.is_extension ≡ true → not (clashes naming (declared_of shape t) g) ≡ true → Apart g
   apart_of g own h =
       let ds = declared_of shape t in
-      let it = own_parts g.is_extension (is_shared ds g.json_name) (is_type_key g.json_name) (is_of_extension ds g.json_name) (b && is_name_of_another ds g) own h in
+      let it = own_parts g.is_extension (is_shared ds g.json_name) (is_type_key g.json_name) (is_of_extension ds g.json_name) (is_by_any_name naming && is_name_of_another ds g) own h in
       record { alone = it.0; no_extension = it.1; no_name = it.2 }
 
   -- a field of the message itself that is found by a name
   found_apart : (p : FieldShape → Bool) (g : FieldShape) → find p (declared_of shape t) ≡ Some g → not g.is_extension ≡ true → Apart g
-  found_apart p g e own = apart_of g own (found_with p (λ f. not (clashes b (declared_of shape t) f)) (declared_of shape t) g (no_clash b shape t clean) e)
+  found_apart p g e own = apart_of g own (found_with p (λ f. not (clashes naming (declared_of shape t) f)) (declared_of shape t) g (no_clash naming shape t clean) e)
 
   -- the field of a number has it
   same_number : (n : ℕ) (f : FieldShape) → field_of n (declared_of shape t) ≡ Some f → n ≡ f.number
@@ -203,14 +204,14 @@ module _ (b : Bool) (shape : Shape) (t : ℕ) (proper : IsProper shape) (well : 
   json_found : (n : ℕ) (f : FieldShape) → field_of n (declared_of shape t) ≡ Some f → f.is_extension ≡ false → find (json_name_is f.json_name) (declared_of shape t) ≡ Some f
   json_found n f e own =
       let yes' : json_name_is f.json_name f ≡ true = rw (own, bytes_self f.json_name) refl in
-      let here : Apart f = apart_of f (rw own refl) (field_passes (λ f. not (clashes b (declared_of shape t) f)) n (declared_of shape t) f (no_clash b shape t clean) e) in
+      let here : Apart f = apart_of f (rw own refl) (field_passes (λ f. not (clashes naming (declared_of shape t) f)) n (declared_of shape t) f (no_clash naming shape t clean) e) in
       one_found (json_name_is f.json_name) n (declared_of shape t) f e yes' here.alone
 
   by_json : (n : ℕ) (f : FieldShape) → field_of n (declared_of shape t) ≡ Some f → f.is_extension ≡ false → field_named f.json_name (declared_of shape t) ≡ Some f
   by_json n f e own = rw (json_found n f e own) refl
 
   -- a field of the message itself under its own name
-  by_name : (n : ℕ) (f : FieldShape) → b ≡ true → field_of n (declared_of shape t) ≡ Some f → f.is_extension ≡ false
+  by_name : (n : ℕ) (f : FieldShape) → is_by_any_name naming ≡ true → field_of n (declared_of shape t) ≡ Some f → f.is_extension ≡ false
       → field_named f.name (declared_of shape t) ≡ Some f
   by_name n f named e own = at (find (json_name_is f.name) (declared_of shape t)) refl
     where
@@ -261,13 +262,13 @@ module _ (b : Bool) (shape : Shape) (t : ℕ) (proper : IsProper shape) (well : 
           absurd (cc)
 
 -- the key that a field is written under names the field
-pub key_names : (shape : Shape) (t : ℕ) (o : Writing) → IsProper shape → IsWellNamed shape → name_fault o.options.use_proto_field_name shape ≡ None
+pub key_names : (shape : Shape) (t : ℕ) (o : Writing) → IsProper shape → IsWellNamed shape → name_fault (naming_of o.options) shape ≡ None
     → (n : ℕ) (f : FieldShape) → field_of n (declared_of shape t) ≡ Some f → field_named (key_of_field o f) (declared_of shape t) ≡ Some f
 key_names shape t o proper well clean n f e = at o.options.use_proto_field_name refl f.is_extension refl
   where
     at : (b : Bool) → o.options.use_proto_field_name ≡ b → (x : Bool) → f.is_extension ≡ x
         → field_named (if b && not x then f.name else f.json_name) (declared_of shape t) ≡ Some f
-    at true p true q = by_extension o.options.use_proto_field_name shape t proper well clean n f e q
-    at true p false q = by_name o.options.use_proto_field_name shape t proper well clean n f p e q
-    at false p true q = by_extension o.options.use_proto_field_name shape t proper well clean n f e q
-    at false p false q = by_json o.options.use_proto_field_name shape t proper well clean n f e q
+    at true p true q = by_extension (naming_of o.options) shape t proper well clean n f e q
+    at true p false q = by_name (naming_of o.options) shape t proper well clean n f (ap (λ b. is_by_any_name (if b then ByAnyName else ByJsonName)) p) e q
+    at false p true q = by_extension (naming_of o.options) shape t proper well clean n f e q
+    at false p false q = by_json (naming_of o.options) shape t proper well clean n f e q

@@ -11,7 +11,7 @@ use Rattle.pbx_content.specs.declared.shape.Shape.{Shape}
 use Rattle.pbx_wkt_types.specs.Shapes.{form_of}
 use Rattle.pbx_json_meaning.specs.Canonical.{Writing, Line, Told, key_of_field, told_line, default_line, is_written_default, lines, members_of_lines, has_key, with_type, type_and_value, any_with}
 use Rattle.pbx_json_meaning.specs.Canonical.{content_tree, fields_tell}
-use Rattle.pbx_json_meaning.specs.Clash.{name_fault}
+use Rattle.pbx_json_meaning.specs.Clash.{naming_of, name_fault}
 use Rattle.pbx_json_meaning.specs.Forms.{is_object_form}
 use Rattle.pbx_json_meaning.specs.Named.{IsWellNamed}
 use Rattle.pbx_json_meaning.specs.Urls.{is_type_key, stands_beside}
@@ -23,7 +23,7 @@ use Rattle.pbx_json_laws.proofs.Parts.{both, from_not, found_passes, nor_of}
 use Rattle.pbx_json_laws.proofs.Payloads.{beside_is}
 use Rattle.pbx_json_laws.proofs.Written.{object_made}
 
-module _ (shape : Shape) (proper : IsProper shape) (well : IsWellNamed shape) (o : Writing) (clean : name_fault o.options.use_proto_field_name shape ≡ None) where
+module _ (shape : Shape) (proper : IsProper shape) (well : IsWellNamed shape) (o : Writing) (clean : name_fault (naming_of o.options) shape ≡ None) where
   key_plain : (t n : ℕ) (f : FieldShape) → field_of n (declared_of shape t) ≡ Some f → is_type_key (key_of_field o f) ≡ false
   key_plain t n f e = at o.options.use_proto_field_name f.is_extension refl
     where
@@ -31,7 +31,7 @@ module _ (shape : Shape) (proper : IsProper shape) (well : IsWellNamed shape) (o
       at true true q = well.plain_extensions t n f (e, q)
       at true false q = well.plain_names t n f (e, q)
       at false true q = well.plain_extensions t n f (e, q)
-      at false false q = json_plain o.options.use_proto_field_name shape t n f clean e q
+      at false false q = json_plain (naming_of o.options) shape t n f clean e q
 
   -- the key is not that of the type
   abbrev is_plain : FieldShape → Bool

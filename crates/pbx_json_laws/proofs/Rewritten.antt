@@ -1,5 +1,5 @@
 -- The laws of what is written of a content that a tree stands for.
-use Rattle.std.proofs.Common.{◌≡◌, ℕ, zero, suc, length, Bool, false, Some, None, option_map, refl, ap, sym, ◌∙◌, subst}
+use Rattle.std.proofs.Common.{◌≡◌, ℕ, zero, suc, length, Bool, false, if◌then◌else◌, Some, None, option_map, refl, ap, sym, ◌∙◌, subst}
 use Rattle.serde_json.specs.Data.{Data}
 use Rattle.pbx_content.specs.Content as content
 use Rattle.pbx_content.specs.Content.{Content}
@@ -10,7 +10,7 @@ use Rattle.pbx_content.specs.declared.shape.Kind.TheVariants as kind
 use Rattle.pbx_content.specs.declared.shape.Shape.{Shape}
 use Rattle.pbx_json_meaning.specs.Asked.{one}
 use Rattle.pbx_json_meaning.specs.Canonical.{Writing, writing, canonical, content_tree, payload_tree}
-use Rattle.pbx_json_meaning.specs.Clash.{name_fault}
+use Rattle.pbx_json_meaning.specs.Clash.{ByJsonName, ByAnyName, naming_of, name_fault}
 use Rattle.pbx_json_meaning.specs.Laws.{CanonicalStands, WrittenStands}
 use Rattle.pbx_json_meaning.specs.Named.{IsWellNamed}
 use Rattle.pbx_json_meaning.specs.Stands.{Stands, message_in}
@@ -22,13 +22,13 @@ use Rattle.pbx_json_laws.proofs.AnyBack.{Reads}
 use Rattle.pbx_json_laws.proofs.Fits.{FitsAs}
 use Rattle.pbx_json_laws.proofs.FitSound.{content_sound}
 use Rattle.pbx_json_laws.proofs.FitTrees.{standing_fits}
-use Rattle.pbx_json_laws.proofs.NamesBack.{fault_by_name}
+use Rattle.pbx_json_laws.proofs.NamesBack.{clear_by_any_name}
 use Rattle.pbx_json_laws.proofs.NoKept.{fits_kept}
 use Rattle.pbx_json_laws.proofs.Parts.{of_some, from_then}
 use Rattle.pbx_json_laws.proofs.Read.{said_is}
 use Rattle.pbx_json_laws.proofs.Written.{content_down}
 
-module _ (shape : Shape) (proper : IsProper shape) (well : IsWellNamed shape) (o : SerializeOptions) (clean : name_fault o.use_proto_field_name shape ≡ None) where
+module _ (shape : Shape) (proper : IsProper shape) (well : IsWellNamed shape) (o : SerializeOptions) (clean : name_fault (naming_of o) shape ≡ None) where
   -- what is written where payloads stand no deeper than this many turns
   abbrev pub within : ℕ → Writing
   within turns = record { options = o; payloads = payload_tree shape o turns }
@@ -44,7 +44,7 @@ module _ (shape : Shape) (proper : IsProper shape) (well : IsWellNamed shape) (o
   -- a tree that is written reads back
   tree_back : (w : Writing) → w.options ≡ o → PayloadsBack w → (t : ℕ) (c : Content) (d : Data) → FitsAs shape c t → content_tree shape w c t ≡ Some d → Reads shape t c d
   tree_back w is payloads t c d h made =
-      let none : name_fault w.options.use_proto_field_name shape ≡ None = ap (λ x. name_fault x.use_proto_field_name shape) is ∙ clean in
+      let none : name_fault (naming_of w.options) shape ≡ None = ap (λ x. name_fault (naming_of x) shape) is ∙ clean in
       let it = content_back shape proper well w none payloads c t h (content_down shape w c t h d made) in
       let same : it.0 ≡ d = of_some it.0 d (sym it.1 ∙ made) in
       subst (Reads shape t c) same it.2
@@ -69,9 +69,9 @@ module _ (shape : Shape) (proper : IsProper shape) (well : IsWellNamed shape) (o
 
 pub canonical_stands : CanonicalStands
 canonical_stands shape t allow tree d c o proper well clean texts by_json h made =
-    let none : name_fault o.use_proto_field_name shape ≡ None = ap (λ b. name_fault b shape) by_json ∙ clean in
+    let none : name_fault (naming_of o) shape ≡ None = ap (λ b. name_fault (if b then ByAnyName else ByJsonName) shape) by_json ∙ clean in
     again shape proper well o none t allow tree d c texts h made
 
 pub written_stands : WrittenStands
-written_stands shape t allow tree d c o proper well clean texts h made =
-    again shape proper well o (fault_by_name o.use_proto_field_name shape clean) t allow tree d c texts h made
+written_stands shape proper well clean t allow tree d c o texts h made =
+    again shape proper well o (clear_by_any_name shape (naming_of o) clean) t allow tree d c texts h made

@@ -9,7 +9,7 @@ mod shape_laws;
 mod values;
 
 pub use laws::{
-    canonical_stands, canonical_without_fault, fitting_is_written, stands_sound,
+    canonical_stands, canonical_without_fault, clear_by_any_name, fitting_is_written, stands_sound,
     stands_without_fault,
 };
 pub use shape_laws::shapes_are_well_named;

@@ -25,11 +25,11 @@ file_more k so_far more name text s n t is = rw (is, s, n, t, add-one) refl
 
 module _ (number : ℕ) (files : List (List ℕ × List ℕ)) (tree : Data) (all : files ≡ files_to number) (read : read_text (tree_text number) ≡ Some tree) where
   pub summarized : (written : Data) (set wire line : List ℕ) → CanonicalIsPlain
-      → ForFiles (sources files).files (sources files).resolves (file_name number ∷ []) (λ fs. IsTranscoded (type_name number) tree fs set wire written)
+      → ForFiles (sources files).files (sources files).resolves (file_name number ∷ []) (λ fs. IsTranscoded (type_name number) tree default_writing fs set wire written)
       → (has_float written ≡ false → line ≡ summary number set wire (compact_text written)) → Summarizes number line
   summarized written set wire line plain h printed =
       let told = h.2.2.transcodes in
-      let P : List (List ℕ × List ℕ) → Type 0 = λ fs. ForFiles (sources fs).files (sources fs).resolves (file_name number ∷ []) (λ f. IsTranscoded (type_name number) tree f set wire written) in
+      let P : List (List ℕ × List ℕ) → Type 0 = λ fs. ForFiles (sources fs).files (sources fs).resolves (file_name number ∷ []) (λ f. IsTranscoded (type_name number) tree default_writing f set wire written) in
       (tree, read, (set, wire, written, subst P all h, printed (plain (shape_of (records h.2.0)) (place_of told.0) told.2.0 default_writing written told.2.5).1))
 
   pub refused : (error : TopError) → Refuses (sources files).files (sources files).resolves (file_name number ∷ []) (type_name number) tree error → RefusesNumber number error

@@ -4,6 +4,7 @@ ghost use Rattle.std.specs.Prelude.{◌≡◌, ◌∷◌, [], ◌⊎◌, IfOk, I
 ghost use Rattle.serde_json.specs.Read.{read as read_text};
 ghost use Rattle.serde_json.specs.View.{view};
 ghost use Rattle.serde_json.specs.Written.{has_float, compact_text};
+ghost use Rattle.pbx_json_meaning.specs.Options.{default_writing};
 ghost use Rattle.protox_transcode.specs.Top.{ForFiles, IsTranscoded, Refuses, is_refusal};
 ghost use Rattle.protox_transcode.specs.declared.error.TopError.TheVariants as top;
 ghost use Rattle.protox_generate.specs.Sources.{file_name as file_name_of, type_name as type_name_of, tree_text as tree_text_of};
@@ -12,7 +13,7 @@ ghost use Rattle.protox_generate.specs.Summary.{summary as summary_of, Summarize
 
 use crate::files::GeneratedFiles;
 use crate::sources::{file_name, tree_text, type_name};
-use pbx_json_meaning::canonical_is_plain;
+use pbx_json_meaning::{SerializeOptions, canonical_is_plain};
 use pbx_wire::{NoMemory, Text, Texts};
 use protox_transcode::{InputTree, TopError, Transcoded, transcode_files};
 use serde_json::Value;
@@ -51,7 +52,7 @@ fn summary(alloc: Global, number: u16, done: &Transcoded) -> Result<String, NoMe
     )?)
 }
 
-/// The transcoding of the tree over the files.
+/// The transcoding of the tree over the files, under the default options.
 fn transcode(
     alloc: Global,
     number: u16,
@@ -59,14 +60,22 @@ fn transcode(
     tree: Value,
 ) -> Result<Transcoded, TopError>
     ensures ok { IfOk result (λ done. ForFiles (sources files).files (sources files).resolves (file_name_of number ∷ [])
-        (λ fs. IsTranscoded (type_name_of number) (view tree) fs done.set done.wire (view done.tree))) }
+        (λ fs. IsTranscoded (type_name_of number) (view tree) default_writing fs done.set done.wire (view done.tree))) }
     ensures err { IfErr result (Refuses (sources files).files (sources files).resolves (file_name_of number ∷ []) (type_name_of number) (view tree)) }
     ensures settled { IfErr result (λ error. (is_refusal error ≡ true) ⊎ (error ≡ top.NoMemory)) }
 {
     let (Ok(paths), Ok(name)) = (paths(alloc, number), type_name(alloc, number)) else {
         return Err(TopError::NoMemory);
     };
-    transcode_files(alloc, files, &paths, name.as_str(), InputTree::Owned(tree)).result
+    let options = SerializeOptions::new();
+    transcode_files(
+        alloc,
+        files,
+        &paths,
+        name.as_str(),
+        InputTree::Owned(tree),
+        &options,
+    ).result
 }
 
 /// Transcodes a tree over the files of the number: file `gI.proto` imports the two before it and defines the message `GI`, which has a number,

@@ -8,6 +8,7 @@
 //!   absent.
 //! - `set`: names of files, input, a type's name, and the files. The answer is the set of the files in hexadecimal digits.
 //! - `repeated`: the same. The answer is the JSON array of the indices of the paths that are given again.
+//! - `written`: the same. The answer is the text of the tree under options that are all other than the default ones.
 //! - `deep`: a type's name, and files, each by its name and how many messages stand in one another there. The answer is `ok`, or
 //!   what is refused.
 //! - `built-in`: names of built-in files, input and a type's name. The answer is the wire bytes in hexadecimal digits and the
@@ -28,7 +29,7 @@ use test_rows::Row;
 pub(crate) fn answer(alloc: Global, row: &Row, word: &str) -> Result<String, Stop> {
     match word {
         "run" => Ok(runs::run(alloc, row)?),
-        "set" | "repeated" => Ok(sets::set(alloc, row, word)?),
+        "set" | "repeated" | "written" => Ok(sets::set(alloc, row, word)?),
         "deep" => Ok(deep::deep(alloc, row)?),
         "built-in" => Ok(built_in::built_in(alloc, row)?),
         "from set" => Ok(built_in::from_set(alloc, row)?),

@@ -5,7 +5,7 @@
 
 use crate::stop::Stop;
 use pbx_wire::{NoMemory, Text, Texts};
-use protox_words::{Args, WordFault, WordsError, read_words};
+use protox_words::{Args, JsonFlags, WordFault, WordsError, read_words};
 use std::alloc::{AllocError, Global};
 use test_rows::Row;
 
@@ -44,6 +44,15 @@ fn add_count(alloc: Global, line: &mut String, count: Option<u16>) -> Result<(),
     }
 }
 
+/// Adds the flags of the JSON, and behind them the first that was given as it is written.
+fn add_json(line: &mut String, json: &JsonFlags<'_>) -> Result<(), AllocError> {
+    add_switch(line, " --json_int64_numbers", json.int64_numbers)?;
+    add_switch(line, " --json_enum_numbers", json.enum_numbers)?;
+    add_switch(line, " --json_proto_names", json.proto_names)?;
+    add_switch(line, " --json_defaults", json.defaults)?;
+    add_value(line, " first", json.first)
+}
+
 /// Adds what the words ask for.
 fn add_args(alloc: Global, line: &mut String, args: &Args<'_>) -> Result<(), NoMemory> {
     add_texts(line, " -I", &args.includes)?;
@@ -52,6 +61,7 @@ fn add_args(alloc: Global, line: &mut String, args: &Args<'_>) -> Result<(), NoM
     add_switch(line, " --include_source_info", args.include_source_info)?;
     add_value(line, " --type", args.type_name)?;
     add_value(line, " --wire", args.wire)?;
+    add_json(line, &args.json)?;
     add_count(alloc, line, args.generate)?;
     add_texts(line, "", &args.files)?;
     line.push_str(" |")?;

@@ -3,6 +3,7 @@ use Rattle.std.proofs.Common.{◌≡◌, ◌≤◌, ◌∙◌, ◌++◌, ◌∷�
 use Rattle.serde_json.specs.Data.{Data}
 use Rattle.serde_json.specs.Written.{compact_text}
 use Rattle.pbx_desc_records.specs.declared.file.FileDescriptorProto.{FileDescriptorProto}
+use Rattle.pbx_json_meaning.specs.Options.{default_writing}
 use Rattle.protox_io.specs.Disk.{Volume}
 use Rattle.protox_file_sources.specs.Library.{Library}
 use Rattle.protox_compile_walk.specs.Walk.{Done}
@@ -21,7 +22,7 @@ use Rattle.protox_generate.specs.Files.{generated}
 use Rattle.protox_generate.specs.Summary.{ForTreeOf, RefusesNumber, summary}
 use Rattle.serde_json.specs.Read.{read as read_text}
 use Rattle.protox_words.specs.Words.{Args}
-use Rattle.protox_run.specs.Class.{limit, json_of, library_of, Write, write_to, Ready, Refusing, Transcoding, Compiling, WritesSet, set_of, Generated, Generating, Task, Generate, Transcode, Compile, task, ComesTo, Judges}
+use Rattle.protox_run.specs.Class.{limit, json_of, library_of, options_of, Write, write_to, Ready, Refusing, Transcoding, Compiling, WritesSet, set_of, Generated, Generating, Task, Generate, Transcode, Compile, task, ComesTo, Judges}
 use Rattle.protox_run.specs.declared.stop.Refusal.{Refusal}
 use Rattle.protox_run.specs.declared.stop.Refusal.TheVariants.{TooLong, NotJson, Top}
 
@@ -71,15 +72,15 @@ module _ (once : ClosesOnce) (a : Args) (disk : Volume) where
       let given = h.1.2 in
       let refused = r.1.2 in
       let Q : Data → Type 0 = λ d. Refuses (library_of a disk).files (library_of a disk).resolves a.files name d refused.0 in
-      refuses_not once (library_of a disk).files (library_of a disk).resolves a.files name h.1.0 given.0 given.1 given.2 refused.0 refused.1 given.3 (subst Q same refused.2)
+      refuses_not once (library_of a disk).files (library_of a disk).resolves a.files name h.1.0 (options_of a) given.0 given.1 given.2 refused.0 refused.1 given.3 (subst Q same refused.2)
 
   transcoded_once : (name input : List ℕ) (writes : List Write) (text : List ℕ) (later : List Write) (other : List ℕ) → Transcoding a name disk input (Ready writes text) → Transcoding a name disk input (Ready later other) → (writes ≡ later) × (text ≡ other)
   transcoded_once name input writes text later other h k =
       let same : k.1.0 ≡ h.1.0 = same_tree input k.1.0 h.1.0 k.1.1 h.1.1 in
       let x = h.1.2 in
       let y = k.1.2 in
-      let P : Data → Type 0 = λ d. ForFiles (library_of a disk).files (library_of a disk).resolves a.files (λ fs. IsTranscoded name d fs y.0 y.1 y.2) in
-      let both = files_once once (library_of a disk).files (library_of a disk).resolves a.files name h.1.0 x.0 x.1 x.2 y.0 y.1 y.2 x.3 (subst P same y.3) in (
+      let P : Data → Type 0 = λ d. ForFiles (library_of a disk).files (library_of a disk).resolves a.files (λ fs. IsTranscoded name d (options_of a) fs y.0 y.1 y.2) in
+      let both = files_once once (library_of a disk).files (library_of a disk).resolves a.files name h.1.0 (options_of a) x.0 x.1 x.2 y.0 y.1 y.2 x.3 (subst P same y.3) in (
         x.4 ∙ ap (λ set. write_to a.output set ++ write_to a.wire x.1) both.0 ∙ ap (λ wire. write_to a.output y.0 ++ write_to a.wire wire) both.1 ∙ sym y.4,
         x.5 ∙ ap (λ d. compact_text d ++ codes "\n") both.2 ∙ sym y.5,
       )
@@ -106,7 +107,7 @@ generated_alone once number writes text (Top line) h r =
     let refused = number_tree number r.0 r.1 r.2 in
     let given = x.2 in
     let Q : Data → Type 0 = λ d. Refuses (generated number).files (generated number).resolves (file_name number ∷ []) (type_name number) d r.0 in
-    refuses_not once (generated number).files (generated number).resolves (file_name number ∷ []) (type_name number) x.0 given.0 given.1 given.2 r.0 r.1 given.3
+    refuses_not once (generated number).files (generated number).resolves (file_name number ∷ []) (type_name number) x.0 default_writing given.0 given.1 given.2 r.0 r.1 given.3
     (subst Q (one_tree number refused.0 x.0 refused.1 x.1) refused.2)
 
 generated_once : ClosesOnce → (number : ℕ) (writes : List Write) (text : List ℕ) (later : List Write) (other : List ℕ) → Generated number writes text → Generated number later other → (writes ≡ later) × (text ≡ other)
@@ -115,8 +116,8 @@ generated_once once number writes text later other h k =
     let y = k.1.1 in
     let g = x.2 in
     let l = y.2 in
-    let P : Data → Type 0 = λ d. ForFiles (generated number).files (generated number).resolves (file_name number ∷ []) (λ fs. IsTranscoded (type_name number) d fs l.0 l.1 l.2) in
-    let both = files_once once (generated number).files (generated number).resolves (file_name number ∷ []) (type_name number) x.0 g.0 g.1 g.2 l.0 l.1 l.2 g.3 (subst P (one_tree number y.0 x.0 y.1 x.1) l.3) in
+    let P : Data → Type 0 = λ d. ForFiles (generated number).files (generated number).resolves (file_name number ∷ []) (λ fs. IsTranscoded (type_name number) d default_writing fs l.0 l.1 l.2) in
+    let both = files_once once (generated number).files (generated number).resolves (file_name number ∷ []) (type_name number) x.0 default_writing g.0 g.1 g.2 l.0 l.1 l.2 g.3 (subst P (one_tree number y.0 x.0 y.1 x.1) l.3) in
     let line : h.1.0 ≡ k.1.0 =
     g.4 ∙ ap (λ s. summary number s g.1 (compact_text g.2)) both.0 ∙ ap (λ w. summary number l.0 w (compact_text g.2)) both.1 ∙ ap (λ d. summary number l.0 l.1 (compact_text d)) both.2 ∙ sym l.4 in
     (h.0 ∙ sym k.0, h.1.2 ∙ ap (λ n. n ++ codes "\n") line ∙ sym k.1.2)

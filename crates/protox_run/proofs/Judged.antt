@@ -6,7 +6,7 @@ use Rattle.serde_json.specs.Data.{Data}
 use Rattle.serde_json.specs.Written.{has_float, compact_text}
 use Rattle.pbx_desc_records.specs.declared.file.FileDescriptorProto.{FileDescriptorProto}
 use Rattle.pbx_json_meaning.specs.Laws.{CanonicalIsPlain}
-use Rattle.pbx_json_meaning.specs.Options.{default_writing}
+use Rattle.pbx_json_meaning.specs.declared.options.SerializeOptions.{SerializeOptions}
 use Rattle.pbx_link_meaning.specs.Shapes.{shape_of, place_of}
 use Rattle.pbx_wkt_files.specs.Files.{wkt_files}
 use Rattle.protox_io.specs.Count.{Count, Rose}
@@ -35,7 +35,7 @@ use Rattle.protox_transcode.proofs.Determined.{no_fault}
 use Rattle.protox_transcode.proofs.Judged.{walk_caused}
 use Rattle.protox_generate.specs.Summary.{RefusesNumber}
 use Rattle.protox_words.specs.Words.{Args, folders}
-use Rattle.protox_run.specs.Class.{limit, json_of, library_of, Write, Refusing, write_to, Ending, Transcoded, RefusesSet, set_of, Task, Generate, Transcode, Compile, task, ComesTo, Judges, is_transcode, reads_input, repeated_by, repeated_of, resolves_of}
+use Rattle.protox_run.specs.Class.{limit, json_of, library_of, options_of, Write, Refusing, write_to, Ending, Transcoded, RefusesSet, set_of, Task, Generate, Transcode, Compile, task, ComesTo, Judges, is_transcode, reads_input, repeated_by, repeated_of, resolves_of}
 use Rattle.protox_run.specs.Stops.{Input, Reading, Writing, Printing}
 use Rattle.protox_run.specs.Parts.{IsInputStop, IsStopOf, IsTreeStop, IsTranscodingStop, IsSetRefusal, IsSetStop, IsFileCause, IsGeneratedStop, PlanStops}
 use Rattle.protox_run.specs.Told.{Stop, Words, Refused, Broken, NoMemory}
@@ -60,12 +60,13 @@ pub ok_then : {X E : Type 0} {P Q : X → Type 0} (r : Result X E) → ((x : X) 
 ok_then (Ok x) f p = f x p
 ok_then (Err e) f p = tt
 
-pub gives : (a : Args) (name : List ℕ) (library : Library) (tree : Data) (set wire : List ℕ) (written : Data) (writes : List Write) (text : List ℕ) → CanonicalIsPlain
-    → ForFiles library.files library.resolves a.files (λ files. IsTranscoded name tree files set wire written)
+pub gives : (a : Args) (name : List ℕ) (library : Library) (tree : Data) (o : SerializeOptions) (set wire : List ℕ) (written : Data) (writes : List Write) (text : List ℕ) → o ≡ options_of a → CanonicalIsPlain
+    → ForFiles library.files library.resolves a.files (λ files. IsTranscoded name tree o files set wire written)
     → writes ≡ write_to a.output set ++ write_to a.wire wire → (has_float written ≡ false → text ≡ compact_text written ++ codes "\n") → Transcoded a name library tree writes text
-gives a name library tree set wire written writes text plain h e printed =
+gives a name library tree o set wire written writes text is plain h e printed =
     let told = h.2.2.transcodes in
-    (set, wire, written, h, e, printed (plain (shape_of (records h.2.0)) (place_of told.0) told.2.0 default_writing written told.2.5).1)
+    let P : SerializeOptions → Type 0 = λ p. ForFiles library.files library.resolves a.files (λ files. IsTranscoded name tree p files set wire written) in
+    (set, wire, written, subst P is h, e, printed (plain (shape_of (records h.2.0)) (place_of told.0) told.2.0 o written told.2.5).1)
 
 -- ---- stops
 

@@ -1,11 +1,12 @@
 -- What arguments, a disk and an input come to: what is written and printed, or the first refusal.
-use Rattle.std.specs.Prelude.{◌≡◌, ◌⊎◌, ◌≤◌, ◌<◌, ◌∷◌, ◌++◌, [], ℕ, List, length, Bool, true, false, Option, Some, None, is_some, codes, if◌then◌else◌}
+use Rattle.std.specs.Prelude.{◌≡◌, ◌⊎◌, ◌≤◌, ◌<◌, ◌∷◌, ◌++◌, [], ℕ, List, length, Bool, true, false, not, Option, Some, None, is_some, codes, if◌then◌else◌}
 use Rattle.std.specs.List.{concat}
 use Rattle.std.specs.Str.{is_utf8}
 use Rattle.serde_json.specs.Data.{Data}
 use Rattle.serde_json.specs.Read.{read as read_text}
 use Rattle.serde_json.specs.Written.{compact_text}
 use Rattle.pbx_desc_records.specs.declared.file.FileDescriptorProto.{FileDescriptorProto}
+use Rattle.pbx_json_meaning.specs.declared.options.SerializeOptions.{SerializeOptions}
 use Rattle.pbx_wkt_files.specs.Files.{wkt_files}
 use Rattle.protox_io.specs.Disk.{Volume, untold}
 use Rattle.protox_file_error.specs.Lines.{long_line_of}
@@ -35,6 +36,15 @@ library_of a disk = standard wkt_files disk (folders a)
 abbrev pub resolves_of : Args → List ℕ → Option (List ℕ)
 resolves_of a = (library_of a untold).resolves
 
+-- how the message is written as JSON: as by default, but for what the flags change
+abbrev pub options_of : Args → SerializeOptions
+options_of a = record {
+  stringify_64_bit_integers = not a.json.int64_numbers;
+  use_enum_numbers = a.json.enum_numbers;
+  use_proto_field_name = a.json.proto_names;
+  skip_default_fields = not a.json.defaults;
+}
+
 -- the tree of a JSON text in UTF-8 (RFC 8259), nested at most 127 deep
 abbrev pub json_of : List ℕ → Option Data
 json_of input = if is_utf8 input then read_text input else None
@@ -62,7 +72,7 @@ pub data Ending : Type 0 where
 abbrev pub Transcoded : Args → List ℕ → Library → Data → List Write → List ℕ → Type 0
 Transcoded a name library tree writes text =
     (set wire : List ℕ) × (written : Data)
-    × ForFiles library.files library.resolves a.files (λ files. IsTranscoded name tree files set wire written)
+    × ForFiles library.files library.resolves a.files (λ files. IsTranscoded name tree (options_of a) files set wire written)
     × (writes ≡ write_to a.output set ++ write_to a.wire wire) × (text ≡ compact_text written ++ codes "\n")
 
 -- the line of a refusal of the files, the type's name or the tree

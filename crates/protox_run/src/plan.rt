@@ -13,7 +13,7 @@ ghost use Rattle.protox_compile.specs.State.{KeepsFiles};
 ghost use Rattle.protox_compile.specs.Repeats.{repeats};
 ghost use Rattle.protox_compile.specs.Sets.{listed, IsUnencodable};
 ghost use Rattle.protox_transcode.specs.Top.{IsCaused};
-ghost use Rattle.protox_run.specs.Class.{limit, json_of, library_of, reads_input, repeated_of, resolves_of, write_to as write_to_of, WritesSet};
+ghost use Rattle.protox_run.specs.Class.{limit, json_of, library_of, reads_input, repeated_of, resolves_of, write_to as write_to_of, options_of as options_told, WritesSet};
 ghost use Rattle.protox_run.specs.Class.{Ready as IsReady, Transcoded as IsTranscoded, Transcoding, Compiled, Compiling, Generated, Judges};
 ghost use Rattle.protox_run.specs.Parts.{IsJsonStop, IsInputStop, IsInputCause, IsTreeStop, IsTranscodingStop, IsFileCause, IsStopOf};
 ghost use Rattle.protox_run.specs.Parts.{IsSetRefusal, IsSetStop, IsGeneratedStop, PlanStops, Caused};
@@ -21,7 +21,7 @@ ghost use Rattle.protox_run.specs.Told.{NoMemory as MemoryStop, stop_told, write
 
 use crate::carry::{Ready, Write, write_to};
 use crate::stop::{Object, Refusal, Stop};
-use pbx_json_meaning::canonical_is_plain;
+use pbx_json_meaning::{SerializeOptions, canonical_is_plain};
 use pbx_wire::{Blob, List, NoMemory};
 use protox_compile::{Compiler, OpenedAll, open_all};
 use protox_file::StandardResolver;
@@ -121,6 +121,17 @@ fn resolver_of<D: Disk>(alloc: Global, args: &Args<'_>, disk: D) -> Result<Stand
     }
 }
 
+/// How the message is written as JSON: as by default, but for what the flags change.
+fn options_of(args: &Args<'_>) -> SerializeOptions
+    ensures { result ≡ options_told (args_told args.now) }
+{
+    SerializeOptions::new()
+        .stringify_64_bit_integers(!args.json.int64_numbers)
+        .use_enum_numbers(args.json.enum_numbers)
+        .use_proto_field_name(args.json.proto_names)
+        .skip_default_fields(!args.json.defaults)
+}
+
 /// The set and the wire bytes, where paths are given for them, and the compact text of the tree.
 fn write_transcoded<'w>(
     alloc: Global,
@@ -172,7 +183,15 @@ fn transcode<'w, D: Disk>(
         }
     };
     let tree = InputTree::Owned(tree);
-    let Attempt { resolver, result } = transcode_files(alloc, files, &args.files, name, tree);
+    let options = options_of(args);
+    let Attempt { resolver, result } = transcode_files(
+        alloc,
+        files,
+        &args.files,
+        name,
+        tree,
+        &options,
+    );
     let disk = resolver.into_disk();
     match result {
         Ok(done) => {

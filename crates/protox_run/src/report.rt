@@ -34,6 +34,16 @@ fn say_between<E: Sink>(err: &mut E, before: &str, text: &str, behind: &str)
     let _ = write_line(err, &["error: ", before, text, behind]);
 }
 
+/// Writes the line of an error that begins with a text; a refused write ends it.
+#[tactic(auto, unfolding(crate::specs::Outcome::error_line))]
+fn say_behind<E: Sink>(err: &mut E, text: &str, behind: &str)
+    ensures said { Says (E.output err.old).tells (SinkRefuses (Rose (E.count err.old) (E.count err.new)) (E.output err.new).short) (E.output err.old).held
+        (E.output err.new).held (error_line (text.now ∷ behind.now ∷ [])) }
+    ensures lasts { Lasts (E.output err.old).tells (E.output err.new).tells (E.count err.old) (E.count err.new) }
+{
+    let _ = write_line(err, &["error: ", text, behind]);
+}
+
 fn say_fault<E: Sink>(err: &mut E, fault: &WordFault<'_>)
     ensures said { Says (E.output err.old).tells (SinkRefuses (Rose (E.count err.old) (E.count err.new)) (E.output err.new).short) (E.output err.old).held
         (E.output err.new).held (error_line (fault_pieces (fault_told fault.now))) }
@@ -54,7 +64,7 @@ fn say_fault<E: Sink>(err: &mut E, fault: &WordFault<'_>)
         ),
         WordFault::NotAlone => say(err, "--generate stands alone"),
         WordFault::NoFile => say(err, "no file given"),
-        WordFault::NeedsType => say(err, "--wire needs --type"),
+        WordFault::NeedsType { option } => say_behind(err, option, " needs --type"),
     }
 }
 

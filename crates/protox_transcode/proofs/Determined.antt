@@ -7,10 +7,10 @@ use Rattle.pbx_desc_records.specs.declared.file.FileDescriptorProto.{FileDescrip
 use Rattle.pbx_desc_records.specs.declared.message.DescriptorProto.{DescriptorProto}
 use Rattle.pbx_link_meaning.specs.Descriptors.{Described, message_of_name}
 use Rattle.pbx_json_meaning.specs.Canonical.{canonical}
-use Rattle.pbx_json_meaning.specs.Clash.{name_fault}
-use Rattle.pbx_json_meaning.specs.Options.{default_writing}
+use Rattle.pbx_json_meaning.specs.Clash.{ByAnyName, name_fault}
 use Rattle.pbx_json_meaning.specs.declared.names_fault.NameFault.{NameFault}
 use Rattle.pbx_json_meaning.specs.declared.names_fault.NameFault.TheVariants as names
+use Rattle.pbx_json_meaning.specs.declared.options.SerializeOptions.{SerializeOptions}
 use Rattle.pbx_json_meaning.specs.Fits.{fits}
 use Rattle.pbx_link_meaning.specs.Shapes.{shape_of, place_of}
 use Rattle.pbx_parse.specs.declared.error.ParseError.TheVariants as parse
@@ -147,26 +147,26 @@ both_of_type name files P Q h k =
     (place_of h.0, h.2, subst R (same_type k.0 h.0 (message_of_name files name) k.1 h.1) k.2)
 
 -- the content that stands for the tree nests few levels, and so does every other
-fits_alone : (shape : Shape) (t : ℕ) (tree : Data) (wire : List ℕ) (written : Data) → Transcodes shape t tree wire written → IsTooDeep shape t tree → ⊥
-fits_alone shape t tree wire written h k =
+fits_alone : (shape : Shape) (t : ℕ) (tree : Data) (o : SerializeOptions) (wire : List ℕ) (written : Data) → Transcodes shape t tree o wire written → IsTooDeep shape t tree → ⊥
+fits_alone shape t tree o wire written h k =
     let same : h.0 ≡ k.0 = (let e : Some h.0 ≡ Some k.0 = sym h.1 ∙ k.1 in cc) in
     not_both (fits shape t h.0) h.2 (ap (fits shape t) same ∙ k.2)
 
-clear_alone : (files : List FileDescriptorProto) (fault : NameFault) → HaveClearNames files → name_fault false (shape_of files) ≡ Some fault → ⊥
+clear_alone : (files : List FileDescriptorProto) (fault : NameFault) → HaveClearNames files → name_fault ByAnyName (shape_of files) ≡ Some fault → ⊥
 clear_alone files fault h k = nothing_there fault (sym h ∙ k)
 
-not_refused : (name : List ℕ) (tree : Data) (files : List FileDescriptorProto) (set wire : List ℕ) (written : Data) (error : TopError) → is_refusal error ≡ true → IsTranscoded name tree files set wire written → IsRefused name tree files error → ⊥
-not_refused name tree files set wire written (top.File error) k h r = decodable files error h.decodable r
-not_refused name tree files set wire written (top.JsonNames message key) k h r = clear_alone files (names.JsonNames message key) h.clear r.1
-not_refused name tree files set wire written (top.WellKnownShape message) k h r = clear_alone files (names.WellKnownShape message) h.clear r.1
-not_refused name tree files set wire written (top.TypeNotFound n) k h r = nothing_there h.transcodes.0 (sym r.3 ∙ h.transcodes.1)
-not_refused name tree files set wire written (top.Json e) k h r =
-    let both = both_of_type name files (λ shape t. Transcodes shape t tree wire written) (λ shape t. IsUnread shape t tree e) h.transcodes r.2 in
+not_refused : (name : List ℕ) (tree : Data) (o : SerializeOptions) (files : List FileDescriptorProto) (set wire : List ℕ) (written : Data) (error : TopError) → is_refusal error ≡ true → IsTranscoded name tree o files set wire written → IsRefused name tree files error → ⊥
+not_refused name tree o files set wire written (top.File error) k h r = decodable files error h.decodable r
+not_refused name tree o files set wire written (top.JsonNames message key) k h r = clear_alone files (names.JsonNames message key) h.clear r.1
+not_refused name tree o files set wire written (top.WellKnownShape message) k h r = clear_alone files (names.WellKnownShape message) h.clear r.1
+not_refused name tree o files set wire written (top.TypeNotFound n) k h r = nothing_there h.transcodes.0 (sym r.3 ∙ h.transcodes.1)
+not_refused name tree o files set wire written (top.Json e) k h r =
+    let both = both_of_type name files (λ shape t. Transcodes shape t tree o wire written) (λ shape t. IsUnread shape t tree e) h.transcodes r.2 in
     both.2.2 both.1.0 both.1.1
-not_refused name tree files set wire written top.TooDeep k h r =
-    let both = both_of_type name files (λ shape t. Transcodes shape t tree wire written) (λ shape t. IsTooDeep shape t tree) h.transcodes r.2 in
-    fits_alone (shape_of files) both.0 tree wire written both.1 both.2
-not_refused name tree files set wire written top.NoMemory k h r = absurd (cc)
+not_refused name tree o files set wire written top.TooDeep k h r =
+    let both = both_of_type name files (λ shape t. Transcodes shape t tree o wire written) (λ shape t. IsTooDeep shape t tree) h.transcodes r.2 in
+    fits_alone (shape_of files) both.0 tree o wire written both.1 both.2
+not_refused name tree o files set wire written top.NoMemory k h r = absurd (cc)
 
 -- the linked files are the same, by whatever look-ups
 among : ClosesOnce → (told : List ℕ → Told) (resolves : List ℕ → Option (List ℕ)) (paths : List (List ℕ)) (P Q : List FileDescriptorProto → Type 0) (h : ForFiles told resolves paths P) → ForFiles told resolves paths Q → Q (records h.2.0)
@@ -183,44 +183,44 @@ no_fault error h = at (is_fault error) h
     at true k = absurd (cc)
     at false k = refl
 
-pub refuses_not : ClosesOnce → (told : List ℕ → Told) (resolves : List ℕ → Option (List ℕ)) (paths : List (List ℕ)) (name : List ℕ) (tree : Data) (set wire : List ℕ) (written : Data) (error : TopError) → is_refusal error ≡ true
-    → ForFiles told resolves paths (λ files. IsTranscoded name tree files set wire written) → Refuses told resolves paths name tree error → ⊥
-refuses_not once told resolves paths name tree set wire written error k h r = at error k r
+pub refuses_not : ClosesOnce → (told : List ℕ → Told) (resolves : List ℕ → Option (List ℕ)) (paths : List (List ℕ)) (name : List ℕ) (tree : Data) (o : SerializeOptions) (set wire : List ℕ) (written : Data) (error : TopError) → is_refusal error ≡ true
+    → ForFiles told resolves paths (λ files. IsTranscoded name tree o files set wire written) → Refuses told resolves paths name tree error → ⊥
+refuses_not once told resolves paths name tree o set wire written error k h r = at error k r
   where
     here : (Q : List FileDescriptorProto → Type 0) → ForFiles told resolves paths Q → Q (records h.2.0)
-    here Q q = among once told resolves paths (λ files. IsTranscoded name tree files set wire written) Q h q
+    here Q q = among once told resolves paths (λ files. IsTranscoded name tree o files set wire written) Q h q
 
     at : (e : TopError) → is_refusal e ≡ true → Refuses told resolves paths name tree e → ⊥
-    at (top.File kind) k (inl r) = accepted_alone once told resolves paths (λ files. IsTranscoded name tree files set wire written) kind (no_fault kind k) h r
-    at (top.File kind) k (inr r) = not_refused name tree (records h.2.0) set wire written (top.File kind) k h.2.2 (here (λ files. IsUndecodable files kind) r)
-    at (top.JsonNames message key) k r = not_refused name tree (records h.2.0) set wire written (top.JsonNames message key) k h.2.2 (here (λ files. IsRefused name tree files (top.JsonNames message key)) r)
+    at (top.File kind) k (inl r) = accepted_alone once told resolves paths (λ files. IsTranscoded name tree o files set wire written) kind (no_fault kind k) h r
+    at (top.File kind) k (inr r) = not_refused name tree o (records h.2.0) set wire written (top.File kind) k h.2.2 (here (λ files. IsUndecodable files kind) r)
+    at (top.JsonNames message key) k r = not_refused name tree o (records h.2.0) set wire written (top.JsonNames message key) k h.2.2 (here (λ files. IsRefused name tree files (top.JsonNames message key)) r)
     at (top.WellKnownShape message) k r =
-        not_refused name tree (records h.2.0) set wire written (top.WellKnownShape message) k h.2.2
+        not_refused name tree o (records h.2.0) set wire written (top.WellKnownShape message) k h.2.2
         (here (λ files. IsRefused name tree files (top.WellKnownShape message)) r)
-    at (top.TypeNotFound n) k r = not_refused name tree (records h.2.0) set wire written (top.TypeNotFound n) k h.2.2 (here (λ files. IsRefused name tree files (top.TypeNotFound n)) r)
-    at (top.Json e) k r = not_refused name tree (records h.2.0) set wire written (top.Json e) k h.2.2 (here (λ files. IsRefused name tree files (top.Json e)) r)
-    at top.TooDeep k r = not_refused name tree (records h.2.0) set wire written top.TooDeep k h.2.2 (here (λ files. IsRefused name tree files top.TooDeep) r)
+    at (top.TypeNotFound n) k r = not_refused name tree o (records h.2.0) set wire written (top.TypeNotFound n) k h.2.2 (here (λ files. IsRefused name tree files (top.TypeNotFound n)) r)
+    at (top.Json e) k r = not_refused name tree o (records h.2.0) set wire written (top.Json e) k h.2.2 (here (λ files. IsRefused name tree files (top.Json e)) r)
+    at top.TooDeep k r = not_refused name tree o (records h.2.0) set wire written top.TooDeep k h.2.2 (here (λ files. IsRefused name tree files top.TooDeep) r)
     at top.NoMemory k r = absurd (cc)
 
 -- ---- what is transcoded is determined
 
-transcodes_once : (shape : Shape) (t : ℕ) (tree : Data) (wire later_wire : List ℕ) (written later_written : Data) → Transcodes shape t tree wire written → Transcodes shape t tree later_wire later_written → (wire ≡ later_wire) × (written ≡ later_written)
-transcodes_once shape t tree wire later_wire written later_written h k =
+transcodes_once : (shape : Shape) (t : ℕ) (tree : Data) (o : SerializeOptions) (wire later_wire : List ℕ) (written later_written : Data) → Transcodes shape t tree o wire written → Transcodes shape t tree o later_wire later_written → (wire ≡ later_wire) × (written ≡ later_written)
+transcodes_once shape t tree o wire later_wire written later_written h k =
     let content : h.0 ≡ k.0 = (let e : Some h.0 ≡ Some k.0 = sym h.1 ∙ k.1 in cc) in
-    let same : written ≡ later_written = (let e : Some written ≡ Some later_written = sym h.5 ∙ ap (λ c. canonical shape t c default_writing) content ∙ k.5 in cc) in
+    let same : written ≡ later_written = (let e : Some written ≡ Some later_written = sym h.5 ∙ ap (λ c. canonical shape t c o) content ∙ k.5 in cc) in
     (h.4 ∙ ap (encoded shape t) content ∙ sym k.4, same)
 
-transcoded_once : (name : List ℕ) (tree : Data) (files : List FileDescriptorProto) (set wire : List ℕ) (written : Data) (later_set later_wire : List ℕ) (later_written : Data)
-    → IsTranscoded name tree files set wire written → IsTranscoded name tree files later_set later_wire later_written
+transcoded_once : (name : List ℕ) (tree : Data) (o : SerializeOptions) (files : List FileDescriptorProto) (set wire : List ℕ) (written : Data) (later_set later_wire : List ℕ) (later_written : Data)
+    → IsTranscoded name tree o files set wire written → IsTranscoded name tree o files later_set later_wire later_written
     → (set ≡ later_set) × (wire ≡ later_wire) × (written ≡ later_written)
-transcoded_once name tree files set wire written later_set later_wire later_written h k =
-    let both = both_of_type name files (λ shape t. Transcodes shape t tree wire written) (λ shape t. Transcodes shape t tree later_wire later_written) h.transcodes k.transcodes in
-    let once = transcodes_once (shape_of files) both.0 tree wire later_wire written later_written both.1 both.2 in
+transcoded_once name tree o files set wire written later_set later_wire later_written h k =
+    let both = both_of_type name files (λ shape t. Transcodes shape t tree o wire written) (λ shape t. Transcodes shape t tree o later_wire later_written) h.transcodes k.transcodes in
+    let once = transcodes_once (shape_of files) both.0 tree o wire later_wire written later_written both.1 both.2 in
     (h.set_is.0 ∙ sym k.set_is.0, once.0, once.1)
 
-pub files_once : ClosesOnce → (told : List ℕ → Told) (resolves : List ℕ → Option (List ℕ)) (paths : List (List ℕ)) (name : List ℕ) (tree : Data) (set wire : List ℕ) (written : Data) (later_set later_wire : List ℕ) (later_written : Data)
-    → ForFiles told resolves paths (λ files. IsTranscoded name tree files set wire written) → ForFiles told resolves paths (λ files. IsTranscoded name tree files later_set later_wire later_written)
+pub files_once : ClosesOnce → (told : List ℕ → Told) (resolves : List ℕ → Option (List ℕ)) (paths : List (List ℕ)) (name : List ℕ) (tree : Data) (o : SerializeOptions) (set wire : List ℕ) (written : Data) (later_set later_wire : List ℕ) (later_written : Data)
+    → ForFiles told resolves paths (λ files. IsTranscoded name tree o files set wire written) → ForFiles told resolves paths (λ files. IsTranscoded name tree o files later_set later_wire later_written)
     → (set ≡ later_set) × (wire ≡ later_wire) × (written ≡ later_written)
-files_once once told resolves paths name tree set wire written later_set later_wire later_written h k =
-    transcoded_once name tree (records h.2.0) set wire written later_set later_wire later_written h.2.2
-    (among once told resolves paths (λ files. IsTranscoded name tree files set wire written) (λ files. IsTranscoded name tree files later_set later_wire later_written) h k)
+files_once once told resolves paths name tree o set wire written later_set later_wire later_written h k =
+    transcoded_once name tree o (records h.2.0) set wire written later_set later_wire later_written h.2.2
+    (among once told resolves paths (λ files. IsTranscoded name tree o files set wire written) (λ files. IsTranscoded name tree o files later_set later_wire later_written) h k)

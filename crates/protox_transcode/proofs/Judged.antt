@@ -2,6 +2,7 @@
 use Rattle.std.proofs.Common.{◌≡◌, [], Bool, true, false, inl, inr, if◌then◌else◌, Result, Ok, Err, IfOk, IfErr, MatchOption, ℕ, List, Option, Some, ap, refl, ◌∙◌, sym, subst}
 use Rattle.serde_json.specs.Data.{Data}
 use Rattle.pbx_desc_records.specs.declared.file.FileDescriptorProto.{FileDescriptorProto}
+use Rattle.pbx_json_meaning.specs.declared.options.SerializeOptions.{SerializeOptions}
 use Rattle.pbx_link_rules.specs.Pool.{ArePooled}
 use Rattle.protox_file_sources.specs.Library.{Library}
 use Rattle.protox_file_sources.specs.Told.{Told, ByLookups}
@@ -68,14 +69,14 @@ module _ (told : List ℕ → Told) (resolves : List ℕ → Option (List ℕ)) 
   all_refused name tree top.NoMemory h = tt
   all_refused name tree (top.Json e) h = for_files (λ fs. IsRefused name tree fs (top.Json e)) h
 
-  pub all_given : (name : List ℕ) (tree : Data) (set wire : List ℕ) (written : Data) → IsTranscoded name tree files set wire written → ForFiles told resolves paths (λ fs. IsTranscoded name tree fs set wire written)
-  all_given name tree set wire written h = for_files (λ fs. IsTranscoded name tree fs set wire written) h
+  pub all_given : (name : List ℕ) (tree : Data) (o : SerializeOptions) (set wire : List ℕ) (written : Data) → IsTranscoded name tree o files set wire written → ForFiles told resolves paths (λ fs. IsTranscoded name tree o fs set wire written)
+  all_given name tree o set wire written h = for_files (λ fs. IsTranscoded name tree o fs set wire written) h
 
 -- the files of the pool are those that the compiler holds, in order and linked
-pub all_pooled : (name : List ℕ) (tree : Data) (later : List Done) (files : List FileDescriptorProto) (set wire : List ℕ) (written : Data) → files ≡ records later → IsOrdered [] later → ArePooled [] (records later)
-    → IsTranscoded name tree files set wire written → (dones : List Done) × IsOrdered [] dones × ArePooled [] (records dones) × IsTranscoded name tree (records dones) set wire written
-all_pooled name tree later files set wire written e ordered pooled h =
-    (later, ordered, pooled, (let P : List FileDescriptorProto → Type 0 = λ fs. IsTranscoded name tree fs set wire written in subst P e h))
+pub all_pooled : (name : List ℕ) (tree : Data) (o : SerializeOptions) (later : List Done) (files : List FileDescriptorProto) (set wire : List ℕ) (written : Data) → files ≡ records later → IsOrdered [] later → ArePooled [] (records later)
+    → IsTranscoded name tree o files set wire written → (dones : List Done) × IsOrdered [] dones × ArePooled [] (records dones) × IsTranscoded name tree o (records dones) set wire written
+all_pooled name tree o later files set wire written e ordered pooled h =
+    (later, ordered, pooled, (let P : List FileDescriptorProto → Type 0 = λ fs. IsTranscoded name tree o fs set wire written in subst P e h))
 
 -- the cause that an error of a walk has over every resolver
 pub walk_caused : (most : ℕ) (path : List ℕ) (later : List Done) (fault : ErrorKind → Type 0) (error : ErrorKind) → HasOpeningCause most path later fault error → IsCaused fault (of_error error)

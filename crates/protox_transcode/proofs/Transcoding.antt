@@ -16,13 +16,15 @@ use Rattle.pbx_link_meaning.specs.Shapes.{shape_of, place_of}
 use Rattle.pbx_link_rules.specs.Pool.{ArePooled}
 use Rattle.pbx_message_laws.specs.Types.{PlaceHasType}
 use Rattle.pbx_json_meaning.specs.Canonical.{canonical}
-use Rattle.pbx_json_meaning.specs.Laws.{CanonicalStands, FittingIsWritten}
-use Rattle.pbx_json_meaning.specs.Options.{default_reading, default_writing}
+use Rattle.pbx_json_meaning.specs.Laws.{ClearByAnyName, FittingIsWritten, WrittenStands}
+use Rattle.pbx_json_meaning.specs.Clash.{naming_of}
+use Rattle.pbx_json_meaning.specs.Options.{default_reading}
 use Rattle.pbx_json_meaning.specs.Stands.{Stands}
 use Rattle.pbx_json_meaning.specs.Trees.{HasTexts}
 use Rattle.pbx_json_meaning.specs.declared.error.JsonError.{JsonError}
 use Rattle.pbx_json_meaning.specs.declared.kind.JsonKind.{JsonKind}
 use Rattle.pbx_json_meaning.specs.declared.kind.JsonKind.TheVariants as fault
+use Rattle.pbx_json_meaning.specs.declared.options.SerializeOptions.{SerializeOptions}
 use Rattle.pbx_json_meaning.specs.declared.place.Step.{Step}
 use Rattle.pbx_json_meaning.specs.Fits.{fits, payloads_fit}
 use Rattle.pbx_message_dynamic.specs.Trees as read_specs
@@ -79,27 +81,27 @@ none e other (inl memory) = absurd (other memory)
 none e other (inr x) = x
 
 -- so is what writing tells
-pub json_unwritten : (d : Described DescriptorProto) (c : Content) (place : List Step) (kind : JsonKind)
-    → read_specs.IsUnwritten d default_writing c (record { place = place; kind = kind })
-    → IsNotWritten (canonical (shape_of d.pool) (place_of d) c default_writing) (of_json (record { place = place; kind = kind }))
-json_unwritten d c place fault.WrongKind o = none (record { place = place; kind = fault.WrongKind }) (λ e. absurd (cc)) o
-json_unwritten d c place fault.Range o = none (record { place = place; kind = fault.Range }) (λ e. absurd (cc)) o
-json_unwritten d c place fault.NotDecimal o = none (record { place = place; kind = fault.NotDecimal }) (λ e. absurd (cc)) o
-json_unwritten d c place fault.UnknownField o = none (record { place = place; kind = fault.UnknownField }) (λ e. absurd (cc)) o
-json_unwritten d c place fault.UnknownEnum o = none (record { place = place; kind = fault.UnknownEnum }) (λ e. absurd (cc)) o
-json_unwritten d c place fault.DuplicateField o = none (record { place = place; kind = fault.DuplicateField }) (λ e. absurd (cc)) o
-json_unwritten d c place fault.DuplicateKey o = none (record { place = place; kind = fault.DuplicateKey }) (λ e. absurd (cc)) o
-json_unwritten d c place fault.OneofTwice o = none (record { place = place; kind = fault.OneofTwice }) (λ e. absurd (cc)) o
-json_unwritten d c place fault.Base64 o = none (record { place = place; kind = fault.Base64 }) (λ e. absurd (cc)) o
-json_unwritten d c place fault.Timestamp o = none (record { place = place; kind = fault.Timestamp }) (λ e. absurd (cc)) o
-json_unwritten d c place fault.Duration o = none (record { place = place; kind = fault.Duration }) (λ e. absurd (cc)) o
-json_unwritten d c place fault.Mask o = none (record { place = place; kind = fault.Mask }) (λ e. absurd (cc)) o
-json_unwritten d c place fault.AnyType o = none (record { place = place; kind = fault.AnyType }) (λ e. absurd (cc)) o
-json_unwritten d c place fault.AnyValue o = none (record { place = place; kind = fault.AnyValue }) (λ e. absurd (cc)) o
-json_unwritten d c place fault.Float o = none (record { place = place; kind = fault.Float }) (λ e. absurd (cc)) o
-json_unwritten d c place fault.Shape o = none (record { place = place; kind = fault.Shape }) (λ e. absurd (cc)) o
-json_unwritten d c place fault.AnyPayload o = none (record { place = place; kind = fault.AnyPayload }) (λ e. absurd (cc)) o
-json_unwritten d c place fault.NoMemory o = tt
+pub json_unwritten : (d : Described DescriptorProto) (c : Content) (o : SerializeOptions) (place : List Step) (kind : JsonKind)
+    → read_specs.IsUnwritten d o c (record { place = place; kind = kind })
+    → IsNotWritten (canonical (shape_of d.pool) (place_of d) c o) (of_json (record { place = place; kind = kind }))
+json_unwritten d c o place fault.WrongKind h = none (record { place = place; kind = fault.WrongKind }) (λ e. absurd (cc)) h
+json_unwritten d c o place fault.Range h = none (record { place = place; kind = fault.Range }) (λ e. absurd (cc)) h
+json_unwritten d c o place fault.NotDecimal h = none (record { place = place; kind = fault.NotDecimal }) (λ e. absurd (cc)) h
+json_unwritten d c o place fault.UnknownField h = none (record { place = place; kind = fault.UnknownField }) (λ e. absurd (cc)) h
+json_unwritten d c o place fault.UnknownEnum h = none (record { place = place; kind = fault.UnknownEnum }) (λ e. absurd (cc)) h
+json_unwritten d c o place fault.DuplicateField h = none (record { place = place; kind = fault.DuplicateField }) (λ e. absurd (cc)) h
+json_unwritten d c o place fault.DuplicateKey h = none (record { place = place; kind = fault.DuplicateKey }) (λ e. absurd (cc)) h
+json_unwritten d c o place fault.OneofTwice h = none (record { place = place; kind = fault.OneofTwice }) (λ e. absurd (cc)) h
+json_unwritten d c o place fault.Base64 h = none (record { place = place; kind = fault.Base64 }) (λ e. absurd (cc)) h
+json_unwritten d c o place fault.Timestamp h = none (record { place = place; kind = fault.Timestamp }) (λ e. absurd (cc)) h
+json_unwritten d c o place fault.Duration h = none (record { place = place; kind = fault.Duration }) (λ e. absurd (cc)) h
+json_unwritten d c o place fault.Mask h = none (record { place = place; kind = fault.Mask }) (λ e. absurd (cc)) h
+json_unwritten d c o place fault.AnyType h = none (record { place = place; kind = fault.AnyType }) (λ e. absurd (cc)) h
+json_unwritten d c o place fault.AnyValue h = none (record { place = place; kind = fault.AnyValue }) (λ e. absurd (cc)) h
+json_unwritten d c o place fault.Float h = none (record { place = place; kind = fault.Float }) (λ e. absurd (cc)) h
+json_unwritten d c o place fault.Shape h = none (record { place = place; kind = fault.Shape }) (λ e. absurd (cc)) h
+json_unwritten d c o place fault.AnyPayload h = none (record { place = place; kind = fault.AnyPayload }) (λ e. absurd (cc)) h
+json_unwritten d c o place fault.NoMemory h = tt
 
 within : (n m : ℕ) → nat_le n m ≡ true → n ≤ m
 within n m h = leb-true n m h
@@ -116,10 +118,10 @@ payloads_read : (shape : Shape) (t : ℕ) (c : Content) → fits shape t c ≡ t
 payloads_read shape t c h = (both_true (nat_le (depth c) 100) (payloads_fit shape t c) h).1
 
 -- what is written stands for the content, and decodes to it
-pub transcodes : (d : Described DescriptorProto) (tree : Data) (c : Content) (wire : List ℕ) (written : Data) → EncodingDecodes → CanonicalStands
+pub transcodes : (d : Described DescriptorProto) (tree : Data) (c : Content) (o : SerializeOptions) (wire : List ℕ) (written : Data) → EncodingDecodes → WrittenStands
     → IsClear (shape_of d.pool) → HasTexts tree → Stands (shape_of d.pool) (place_of d) false tree c → IsSound (shape_of d.pool) (place_of d) c
-    → fits (shape_of d.pool) (place_of d) c ≡ true → IsWritten d c wire written → Transcodes (shape_of d.pool) (place_of d) tree wire written
-transcodes d tree c wire written decodes again clear texts stands sound fit h =
+    → fits (shape_of d.pool) (place_of d) c ≡ true → IsWritten d c o wire written → Transcodes (shape_of d.pool) (place_of d) tree o wire written
+transcodes d tree c o wire written decodes again clear texts stands sound fit h =
     let short : length (encoded (shape_of d.pool) (place_of d) c) < 2 ^ 64 = (let S : List ℕ → Type 0 = λ w. length w < 2 ^ 64 in subst S h.0 h.1) in
     let decoded : Decodes (shape_of d.pool) (place_of d) wire c = (let P : List ℕ → Type 0 = λ w. Decodes (shape_of d.pool) (place_of d) w c in
     subst P (sym h.0) (decodes (shape_of d.pool) (place_of d) c clear.proper sound short (few_levels (shape_of d.pool) (place_of d) c fit))) in (
@@ -129,53 +131,53 @@ transcodes d tree c wire written decodes again clear texts stands sound fit h =
       decoded,
       h.0,
       h.2,
-      again (shape_of d.pool) (place_of d) false tree written c default_writing clear.proper clear.named clear.clear texts refl stands h.2,
+      again (shape_of d.pool) clear.proper clear.named clear.clear (place_of d) false tree written c o texts stands h.2,
     )
 
-unwritten : (d : Described DescriptorProto) (tree : Data) (c : Content) → FittingIsWritten → IsClear (shape_of d.pool) → HasTexts tree
+unwritten : (d : Described DescriptorProto) (tree : Data) (c : Content) (o : SerializeOptions) → ClearByAnyName → FittingIsWritten → IsClear (shape_of d.pool) → HasTexts tree
     → Stands (shape_of d.pool) (place_of d) false tree c → fits (shape_of d.pool) (place_of d) c ≡ true
-    → canonical (shape_of d.pool) (place_of d) c default_writing ≡ None → ⊥
-unwritten d tree c written clear texts stands fit h =
+    → canonical (shape_of d.pool) (place_of d) c o ≡ None → ⊥
+unwritten d tree c o clears written clear texts stands fit h =
     let made =
-    written (shape_of d.pool) (place_of d) false tree c default_writing clear.proper clear.named clear.clear texts stands
+    written (shape_of d.pool) (place_of d) false tree c o clear.proper clear.named (clears (shape_of d.pool) (naming_of o) clear.clear) texts stands
     (payloads_read (shape_of d.pool) (place_of d) c fit) in
     let bad : Some made.0 ≡ None = sym made.1 ∙ h in
     cc
 
 -- a content that a tree stands for is written
-pub not_told : (d : Described DescriptorProto) (tree : Data) (c : Content) (error : TopError) → FittingIsWritten → IsClear (shape_of d.pool) → HasTexts tree
+pub not_told : (d : Described DescriptorProto) (tree : Data) (c : Content) (o : SerializeOptions) (error : TopError) → ClearByAnyName → FittingIsWritten → IsClear (shape_of d.pool) → HasTexts tree
     → Stands (shape_of d.pool) (place_of d) false tree c → fits (shape_of d.pool) (place_of d) c ≡ true
-    → IsNotWritten (canonical (shape_of d.pool) (place_of d) c default_writing) error → IsNotTold d tree error
-not_told d tree c (File error) written clear texts stands fit h = absurd (unwritten d tree c written clear texts stands fit h)
-not_told d tree c (JsonNames message key) written clear texts stands fit h = absurd (unwritten d tree c written clear texts stands fit h)
-not_told d tree c (WellKnownShape message) written clear texts stands fit h = absurd (unwritten d tree c written clear texts stands fit h)
-not_told d tree c (TypeNotFound n) written clear texts stands fit h = absurd (unwritten d tree c written clear texts stands fit h)
-not_told d tree c (Json e) written clear texts stands fit h = absurd (unwritten d tree c written clear texts stands fit h)
-not_told d tree c TooDeep written clear texts stands fit h = absurd (unwritten d tree c written clear texts stands fit h)
-not_told d tree c NoMemory written clear texts stands fit h = tt
+    → IsNotWritten (canonical (shape_of d.pool) (place_of d) c o) error → IsNotTold d tree error
+not_told d tree c o (File error) clears written clear texts stands fit h = absurd (unwritten d tree c o clears written clear texts stands fit h)
+not_told d tree c o (JsonNames message key) clears written clear texts stands fit h = absurd (unwritten d tree c o clears written clear texts stands fit h)
+not_told d tree c o (WellKnownShape message) clears written clear texts stands fit h = absurd (unwritten d tree c o clears written clear texts stands fit h)
+not_told d tree c o (TypeNotFound n) clears written clear texts stands fit h = absurd (unwritten d tree c o clears written clear texts stands fit h)
+not_told d tree c o (Json e) clears written clear texts stands fit h = absurd (unwritten d tree c o clears written clear texts stands fit h)
+not_told d tree c o TooDeep clears written clear texts stands fit h = absurd (unwritten d tree c o clears written clear texts stands fit h)
+not_told d tree c o NoMemory clears written clear texts stands fit h = tt
 
 module _ (d e : Described DescriptorProto) (tree : Data) (c : Content) (same : e ≡ d) (clear : IsClear (shape_of d.pool)) (texts : HasTexts tree)
-    (stands : Stands (shape_of d.pool) (place_of d) false tree c) where
+    (stands : Stands (shape_of d.pool) (place_of d) false tree c) (o : SerializeOptions) where
   -- the same of a message of a type that is equal
-  pub transcoded_as : (wire : List ℕ) (written : Data) → EncodingDecodes → CanonicalStands → IsSound (shape_of e.pool) (place_of e) c
+  pub transcoded_as : (wire : List ℕ) (written : Data) → EncodingDecodes → WrittenStands → IsSound (shape_of e.pool) (place_of e) c
       → fits (shape_of e.pool) (place_of e) c ≡ true
-      → IsWritten e c wire written → Transcodes (shape_of d.pool) (place_of d) tree wire written
+      → IsWritten e c o wire written → Transcodes (shape_of d.pool) (place_of d) tree o wire written
   transcoded_as wire written decodes again sound fit h =
       let S : Described DescriptorProto → Type 0 = λ x. IsSound (shape_of x.pool) (place_of x) c in
-      let W : Described DescriptorProto → Type 0 = λ x. IsWritten x c wire written in
+      let W : Described DescriptorProto → Type 0 = λ x. IsWritten x c o wire written in
       let F : Described DescriptorProto → Type 0 = λ x. fits (shape_of x.pool) (place_of x) c ≡ true in
-      transcodes d tree c wire written decodes again clear texts stands (subst S same sound) (subst F same fit) (subst W same h)
+      transcodes d tree c o wire written decodes again clear texts stands (subst S same sound) (subst F same fit) (subst W same h)
 
   -- a message that does not fit is too deep, of either type
   pub too_deep_as : fits (shape_of e.pool) (place_of e) c ≡ false → IsTooDeep (shape_of d.pool) (place_of d) tree
   too_deep_as fit = (c, stands, subst (λ x. fits (shape_of x.pool) (place_of x) c ≡ false) same fit)
 
-  pub not_told_as : (error : TopError) → FittingIsWritten → fits (shape_of e.pool) (place_of e) c ≡ true
-      → IsNotWritten (canonical (shape_of e.pool) (place_of e) c default_writing) error → IsNotTold d tree error
-  not_told_as error written fit h =
+  pub not_told_as : (error : TopError) → ClearByAnyName → FittingIsWritten → fits (shape_of e.pool) (place_of e) c ≡ true
+      → IsNotWritten (canonical (shape_of e.pool) (place_of e) c o) error → IsNotTold d tree error
+  not_told_as error clears written fit h =
       let F : Described DescriptorProto → Type 0 = λ x. fits (shape_of x.pool) (place_of x) c ≡ true in
-      let W : Described DescriptorProto → Type 0 = λ x. IsNotWritten (canonical (shape_of x.pool) (place_of x) c default_writing) error in
-      not_told d tree c error written clear texts stands (subst F same fit) (subst W same h)
+      let W : Described DescriptorProto → Type 0 = λ x. IsNotWritten (canonical (shape_of x.pool) (place_of x) c o) error in
+      not_told d tree c o error clears written clear texts stands (subst F same fit) (subst W same h)
 
 -- ---- the type
 
@@ -201,8 +203,8 @@ module _ (types : PlaceHasType) (files : List FileDescriptorProto) (name : List 
   clear_there h = let Q : List FileDescriptorProto → Type 0 = λ fs. IsClear (shape_of fs) in subst Q (sym (pool_is types files name d pooled found)) h
 
   -- the tree is transcoded as a message of a type of the pool
-  pub named : (wire : List ℕ) (written : Data) → Transcodes (shape_of d.pool) (place_of d) tree wire written → IsNamed files name tree wire written
-  named wire written h = for_type (λ shape t. Transcodes shape t tree wire written) h
+  pub named : (o : SerializeOptions) (wire : List ℕ) (written : Data) → Transcodes (shape_of d.pool) (place_of d) tree o wire written → IsNamed files name tree o wire written
+  named o wire written h = for_type (λ shape t. Transcodes shape t tree o wire written) h
 
   -- or it is not
   pub not_named : (error : TopError) → IsNotTold d tree error → IsNotNamed files name tree error

@@ -10,10 +10,10 @@ use Rattle.pbx_desc_records.specs.declared.message.DescriptorProto.{DescriptorPr
 use Rattle.pbx_link_meaning.specs.Descriptors.{Described, message_of_name}
 use Rattle.pbx_link_meaning.specs.Shapes.{shape_of, place_of}
 use Rattle.pbx_json_meaning.specs.Canonical.{canonical}
-use Rattle.pbx_json_meaning.specs.Clash.{name_fault}
+use Rattle.pbx_json_meaning.specs.Clash.{ByAnyName, name_fault}
 use Rattle.pbx_json_meaning.specs.Named.{IsWellNamed}
-use Rattle.pbx_json_meaning.specs.Options.{default_writing}
 use Rattle.pbx_json_meaning.specs.declared.names_fault.NameFault.TheVariants as names
+use Rattle.pbx_json_meaning.specs.declared.options.SerializeOptions.{SerializeOptions}
 use Rattle.pbx_message_dynamic.specs.Message.{Dynamic, text_in}
 use Rattle.protox_compile.specs.Sets.{IsUndecodable}
 use Rattle.protox_transcode.specs.Top.{ForType, Transcodes, IsUnread, IsTooDeep}
@@ -24,7 +24,7 @@ use Rattle.protox_transcode.specs.declared.error.TopError.TheVariants as top
 pub record IsClear (shape : Shape) : Type 0 where
   pub proper : IsProper shape
   pub named : IsWellNamed shape
-  pub clear : name_fault false shape ≡ None
+  pub clear : name_fault ByAnyName shape ≡ None
 
 -- one of the files cannot be read again, or want of memory
 abbrev pub IsNoSet : List FileDescriptorProto → TopError → Type 0
@@ -34,16 +34,16 @@ IsNoSet files error = ⊥
 
 -- a key of a message of the files has two meanings, a message has not the shape of its well-known name, or want of memory
 abbrev pub IsNotClear : List FileDescriptorProto → TopError → Type 0
-IsNotClear files (top.JsonNames message key) = name_fault false (shape_of files) ≡ Some (names.JsonNames message key)
-IsNotClear files (top.WellKnownShape message) = name_fault false (shape_of files) ≡ Some (names.WellKnownShape message)
+IsNotClear files (top.JsonNames message key) = name_fault ByAnyName (shape_of files) ≡ Some (names.JsonNames message key)
+IsNotClear files (top.WellKnownShape message) = name_fault ByAnyName (shape_of files) ≡ Some (names.WellKnownShape message)
 IsNotClear files top.NoMemory = Unit {0}
 IsNotClear files error = ⊥
 
--- the wire bytes are those of the content, as many as memory can have, and the tree is its canonical one
-abbrev pub IsWritten : Described DescriptorProto → Content → List ℕ → Data → Type 0
-IsWritten d c wire written =
+-- the wire bytes are those of the content, as many as memory can have, and the tree is its tree under the options
+abbrev pub IsWritten : Described DescriptorProto → Content → SerializeOptions → List ℕ → Data → Type 0
+IsWritten d c o wire written =
     (wire ≡ encoded (shape_of d.pool) (place_of d) c) × (length wire < 2 ^ 64)
-    × (canonical (shape_of d.pool) (place_of d) c default_writing ≡ Some written)
+    × (canonical (shape_of d.pool) (place_of d) c o ≡ Some written)
 
 -- the bytes are those of the message, as many as memory can have
 abbrev pub IsWire : Dynamic → List ℕ → Type 0
@@ -62,8 +62,8 @@ IsNotTold d tree top.NoMemory = Unit {0}
 IsNotTold d tree error = ⊥
 
 -- the tree is transcoded as a message of the type of the name
-abbrev pub IsNamed : List FileDescriptorProto → List ℕ → Data → List ℕ → Data → Type 0
-IsNamed files name tree wire written = ForType name files (λ shape t. Transcodes shape t tree wire written)
+abbrev pub IsNamed : List FileDescriptorProto → List ℕ → Data → SerializeOptions → List ℕ → Data → Type 0
+IsNamed files name tree o wire written = ForType name files (λ shape t. Transcodes shape t tree o wire written)
 
 -- there is no type of the name, or the tree is not transcoded as a message of it, or want of memory
 abbrev pub IsNotNamed : List FileDescriptorProto → List ℕ → Data → TopError → Type 0

@@ -10,15 +10,15 @@ use Rattle.pbx_desc_records.specs.declared.message.DescriptorProto.{DescriptorPr
 use Rattle.pbx_link_meaning.specs.Descriptors.{Described, message_of_name}
 use Rattle.pbx_link_meaning.specs.Shapes.{shape_of, place_of}
 use Rattle.pbx_json_meaning.specs.Canonical.{canonical}
-use Rattle.pbx_json_meaning.specs.Clash.{name_fault}
+use Rattle.pbx_json_meaning.specs.Clash.{ByAnyName, name_fault}
 use Rattle.pbx_json_meaning.specs.Faults.{FirstJsonFault}
-use Rattle.pbx_json_meaning.specs.Options.{default_writing}
 use Rattle.pbx_json_meaning.specs.Stands.{Stands}
 use Rattle.pbx_json_meaning.specs.declared.error.JsonError.{JsonError}
 use Rattle.pbx_json_meaning.specs.declared.kind.JsonKind.{JsonKind}
 use Rattle.pbx_json_meaning.specs.declared.kind.JsonKind.TheVariants as json
 use Rattle.pbx_json_meaning.specs.declared.names_fault.NameFault.{NameFault}
 use Rattle.pbx_json_meaning.specs.declared.names_fault.NameFault.TheVariants as names
+use Rattle.pbx_json_meaning.specs.declared.options.SerializeOptions.{SerializeOptions}
 use Rattle.pbx_json_meaning.specs.Fits.{fits}
 use Rattle.pbx_link_rules.specs.Pool.{ArePooled}
 use Rattle.protox_file_error.specs.Lines.{long_line_of}
@@ -37,27 +37,27 @@ use Rattle.protox_transcode.specs.declared.error.TopError.{TopError}
 use Rattle.protox_transcode.specs.declared.error.TopError.TheVariants.{File, JsonNames, WellKnownShape, TypeNotFound, Json, TooDeep, NoMemory}
 
 -- The tree stands for a content that nests at most 100 levels, and whose payloads do so too; the wire bytes are its canonical encoding, and decode to
--- it; the written tree is its canonical tree, which stands for it again.
-abbrev pub Transcodes : Shape → ℕ → Data → List ℕ → Data → Type 0
-Transcodes shape t tree wire written =
+-- it; the written tree is its tree under the options, which stands for it again.
+abbrev pub Transcodes : Shape → ℕ → Data → SerializeOptions → List ℕ → Data → Type 0
+Transcodes shape t tree o wire written =
     (c : Content) × Stands shape t false tree c × (fits shape t c ≡ true) × Decodes shape t wire c × (wire ≡ encoded shape t c)
-    × (canonical shape t c default_writing ≡ Some written) × Stands shape t false written c
+    × (canonical shape t c o ≡ Some written) × Stands shape t false written c
 
--- each key has one meaning in the JSON of each message of the files, and each message of a well-known name has its shape
+-- each key has one meaning in the JSON of each message of the files, whichever names fields are written under, and each message of a well-known name has its shape
 abbrev pub HaveClearNames : List FileDescriptorProto → Type 0
-HaveClearNames files = name_fault false (shape_of files) ≡ None
+HaveClearNames files = name_fault ByAnyName (shape_of files) ≡ None
 
 -- this holds of the shape of the files' types, and of the place of the type of the name in it
 abbrev pub ForType : List ℕ → List FileDescriptorProto → (Shape → ℕ → Type 0) → Type 0
 ForType name files P = (d : Described DescriptorProto) × (message_of_name files name ≡ Some d) × P (shape_of files) (place_of d)
 
 -- Of these linked files each can be read again from their set, each key of their messages' JSON has one meaning, and each message of a well-known
--- name has its shape; and the tree is transcoded as a message of the type of that name.
-pub record IsTranscoded (name : List ℕ) (tree : Data) (files : List FileDescriptorProto) (set wire : List ℕ) (written : Data) : Type 0 where
+-- name has its shape; and the tree is transcoded as a message of the type of that name, under the options.
+pub record IsTranscoded (name : List ℕ) (tree : Data) (o : SerializeOptions) (files : List FileDescriptorProto) (set wire : List ℕ) (written : Data) : Type 0 where
   pub decodable : AreDecodable files
   pub set_is : IsSet files set
   pub clear : HaveClearNames files
-  pub transcodes : ForType name files (λ shape t. Transcodes shape t tree wire written)
+  pub transcodes : ForType name files (λ shape t. Transcodes shape t tree o wire written)
 
 -- The tree stands for no message of the type, and the error tells the first place where it breaks a rule of the JSON mapping; want of memory is no such
 -- rule.
@@ -73,8 +73,8 @@ IsTooDeep shape t tree = (c : Content) × Stands shape t false tree c × (fits s
 -- type's name, and the tree.
 abbrev pub IsRefused : List ℕ → Data → List FileDescriptorProto → TopError → Type 0
 IsRefused name tree files (File error) = IsUndecodable files error
-IsRefused name tree files (JsonNames message key) = AreDecodable files × (name_fault false (shape_of files) ≡ Some (names.JsonNames message key))
-IsRefused name tree files (WellKnownShape message) = AreDecodable files × (name_fault false (shape_of files) ≡ Some (names.WellKnownShape message))
+IsRefused name tree files (JsonNames message key) = AreDecodable files × (name_fault ByAnyName (shape_of files) ≡ Some (names.JsonNames message key))
+IsRefused name tree files (WellKnownShape message) = AreDecodable files × (name_fault ByAnyName (shape_of files) ≡ Some (names.WellKnownShape message))
 IsRefused name tree files (TypeNotFound n) = AreDecodable files × HaveClearNames files × (n ≡ name) × (message_of_name files name ≡ None)
 IsRefused name tree files (Json error) = AreDecodable files × HaveClearNames files × ForType name files (λ shape t. IsUnread shape t tree error)
 IsRefused name tree files TooDeep = AreDecodable files × HaveClearNames files × ForType name files (λ shape t. IsTooDeep shape t tree)

@@ -1,4 +1,4 @@
-//! From files, a type's name and a JSON tree to the set of the files, the wire bytes and the canonical tree.
+//! From files, a type's name and a JSON tree to the set of the files, the wire bytes and the tree under options.
 #![tactic(auto)]
 
 mod error;

@@ -1,9 +1,9 @@
-//! From files, a type's name and a tree to the set of the files, the wire bytes and the canonical tree.
+//! From files, a type's name and a tree to the set of the files, the wire bytes and the tree under options.
 
 ghost use Rattle.std.specs.Prelude.{◌≡◌, ◌≤◌, ◌⊎◌, [], IfOk, IfErr, OnOk, IsTrue, List as ListOf};
 ghost use Rattle.serde_json.specs.View.{view};
 ghost use Rattle.pbx_json_meaning.specs.Canonical.{canonical};
-ghost use Rattle.pbx_json_meaning.specs.Options.{default_reading, default_writing};
+ghost use Rattle.pbx_json_meaning.specs.Options.{default_reading};
 ghost use Rattle.pbx_json_meaning.specs.Trees.{HasTexts};
 ghost use Rattle.pbx_link_rules.specs.Pool.{ArePooled};
 ghost use Rattle.pbx_link_meaning.specs.Descriptors.{message_of_name};
@@ -23,9 +23,10 @@ use crate::input_tree::InputTree;
 use crate::set::set_of;
 use pbx_content::encoding_decodes;
 use pbx_desc_encoding::Message;
-use pbx_json::{JsonMessage, check_names, fits_levels};
+use pbx_json::{JsonMessage, SerializeOptions, check_names, fits_levels};
 use pbx_json_laws::{
-    canonical_stands, fitting_is_written, shapes_are_well_named, values_have_texts,
+    canonical_stands, clear_by_any_name, fitting_is_written, shapes_are_well_named,
+    values_have_texts,
 };
 use pbx_link::{DescriptorPool, MessageDescriptor};
 use pbx_message_dynamic::DynamicMessage;
@@ -36,14 +37,14 @@ use protox_file_sources::FileResolver;
 use serde_json::Value;
 use std::alloc::Global;
 
-/// The set of the files, the wire bytes and the canonical tree, and which paths were given again.
+/// The set of the files, the wire bytes and the written tree, and which paths were given again.
 #[derive(Drop)]
 pub struct Transcoded {
     /// The `google.protobuf.FileDescriptorSet` of the files, each behind all that it imports.
     pub set: Blob,
     /// The message's bytes on the wire.
     pub wire: Blob,
-    /// The message in canonical JSON.
+    /// The message in JSON, under the options.
     pub tree: Value,
     /// The indices of the paths whose name is that of an earlier path, in their order.
     pub repeated: List<u64>,
@@ -73,16 +74,20 @@ fn wire_of(alloc: Global, message: &DynamicMessage) -> Result<Blob, NoMemory>
     Ok(Blob::from_vec(bytes))
 }
 
-/// The wire bytes of the message, and its canonical tree.
-fn write_both(alloc: Global, message: &DynamicMessage) -> Result<(Blob, Value), TopError>
-    ensures ok { IfOk result (λ done. IsWritten message.now.of message.now.content done.0 (view done.1)) }
+/// The wire bytes of the message, and its tree under the options.
+fn write_both(
+    alloc: Global,
+    message: &DynamicMessage,
+    options: &SerializeOptions,
+) -> Result<(Blob, Value), TopError>
+    ensures ok { IfOk result (λ done. IsWritten message.now.of message.now.content options.now done.0 (view done.1)) }
     ensures stop { IfErr result (IsNotWritten
-        (canonical (shape_of message.now.of.pool) (place_of message.now.of) message.now.content default_writing)) }
+        (canonical (shape_of message.now.of.pool) (place_of message.now.of) message.now.content options.now)) }
 {
     let Ok(wire) = wire_of(alloc, message) else {
         return Err(TopError::NoMemory);
     };
-    match message.serialize(alloc) {
+    match message.serialize_with_options(alloc, options) {
         Ok(tree) => Ok((wire, tree)),
         Err(error) => Err(json_error(error)),
     }
@@ -107,18 +112,20 @@ fn message_of(
     }
 }
 
-/// The wire bytes of the message of the type that the tree stands for, and its canonical tree.
+/// The wire bytes of the message of the type that the tree stands for, and its tree under the options.
 fn transcode_as(
     alloc: Global,
     desc: MessageDescriptor,
     tree: InputTree<'_>,
+    options: &SerializeOptions,
 ) -> Result<(Blob, Value), TopError>
     ensures ok { IsClear (shape_of desc.pool) →
-        IfOk result (λ done. Transcodes (shape_of desc.pool) (place_of desc) (data_of tree.entry) done.0 (view done.1)) }
+        IfOk result (λ done. Transcodes (shape_of desc.pool) (place_of desc) (data_of tree.entry) options.now done.0 (view done.1)) }
     ensures err { IsClear (shape_of desc.pool) → IfErr result (IsNotTold desc (data_of tree.entry)) }
 {
     // What the message is written as stands for it, and decodes to it.
     canonical_stands();
+    clear_by_any_name();
     fitting_is_written();
     encoding_decodes();
     let message = match message_of(alloc, desc, tree) {
@@ -128,7 +135,7 @@ fn transcode_as(
     // What it holds may be held by a message of its type.
     let _sound = message.descriptor();
     match fits_levels(alloc, &message) {
-        Ok(true) => write_both(alloc, &message),
+        Ok(true) => write_both(alloc, &message, options),
         Ok(false) => Err(TopError::TooDeep),
         Err(NoMemory) => Err(TopError::NoMemory),
     }
@@ -157,15 +164,16 @@ fn transcode_named(
     pool: &DescriptorPool,
     type_name: &str,
     tree: InputTree<'_>,
+    options: &SerializeOptions,
 ) -> Result<(Blob, Value), TopError>
-    ensures ok { IsClear (shape_of pool.now) → IfOk result (λ done. IsNamed pool.now type_name.now (data_of tree.entry) done.0 (view done.1)) }
+    ensures ok { IsClear (shape_of pool.now) → IfOk result (λ done. IsNamed pool.now type_name.now (data_of tree.entry) options.now done.0 (view done.1)) }
     ensures err { IsClear (shape_of pool.now) → IfErr result (IsNotNamed pool.now type_name.now (data_of tree.entry)) }
 {
     // The message is one of this pool's.
     kinds_have_types();
     let _pooled = pool.files();
     match pool.get_message_by_name(type_name) {
-        Some(desc) => transcode_as(alloc, desc, tree),
+        Some(desc) => transcode_as(alloc, desc, tree, options),
         None => Err(type_not_found(alloc, type_name)),
     }
 }
@@ -176,9 +184,10 @@ fn transcode_in(
     pool: &DescriptorPool,
     type_name: &str,
     tree: InputTree<'_>,
+    options: &SerializeOptions,
     repeated: List<u64>,
 ) -> Result<Transcoded, TopError>
-    ensures ok { IfOk result (λ done. IsTranscoded type_name.now (data_of tree.entry) pool.now done.set done.wire (view done.tree)) }
+    ensures ok { IfOk result (λ done. IsTranscoded type_name.now (data_of tree.entry) options.now pool.now done.set done.wire (view done.tree)) }
     ensures repeated { IfOk result (λ done. done.repeated ≡ repeated) }
     ensures err { IfErr result (IsRefused type_name.now (data_of tree.entry) pool.now) }
 {
@@ -190,7 +199,7 @@ fn transcode_in(
         Ok(()) => {}
         Err(error) => return Err(error),
     }
-    match transcode_named(alloc, pool, type_name, tree) {
+    match transcode_named(alloc, pool, type_name, tree, options) {
         Ok((wire, tree)) => Ok(Transcoded {
             set,
             wire,
@@ -208,10 +217,11 @@ pub fn transcode_files<R: FileResolver>(
     paths: &Texts,
     type_name: &str,
     tree: InputTree<'_>,
+    options: &SerializeOptions,
 ) -> Attempt<R>
     // Over a resolver that tells, the files are the closure of the paths.
     ensures ok { IsTrue (R.library resolver).tells → IfOk result.result (λ done. ForFiles (R.library resolver).files (R.library resolver).resolves paths.now
-        (λ files. IsTranscoded type_name.now (data_of tree.entry) files done.set done.wire (view done.tree))) }
+        (λ files. IsTranscoded type_name.now (data_of tree.entry) options.now files done.set done.wire (view done.tree))) }
     ensures repeated { IsTrue (R.library resolver).tells → IfOk result.result (λ done. done.repeated ≡ repeats (R.library resolver).resolves paths.now) }
     ensures err { IsTrue (R.library resolver).tells → IfErr result.result
         (Refuses (R.library resolver).files (R.library resolver).resolves paths.now type_name.now (data_of tree.entry)) }
@@ -221,7 +231,7 @@ pub fn transcode_files<R: FileResolver>(
     // and an error is one of the walk or of such files.
     ensures ordered { IfOk result.result
         (λ done. (files : ListOf Done) × IsOrdered [] files × ArePooled [] (records files)
-        × IsTranscoded type_name.now (data_of tree.entry) (records files) done.set done.wire (view done.tree)) }
+        × IsTranscoded type_name.now (data_of tree.entry) options.now (records files) done.set done.wire (view done.tree)) }
     ensures judged { IfErr result.result (IsJudged paths.now type_name.now (data_of tree.entry)
         (FaultCause (R.library resolver) (R.count resolver) (R.count result.resolver))) }
     ensures keeps { KeepsFiles R.library R.count resolver result.resolver }
@@ -236,7 +246,7 @@ pub fn transcode_files<R: FileResolver>(
         }
     };
     let pool = compiler.descriptor_pool();
-    let result = transcode_in(alloc, &pool, type_name, tree, repeated);
+    let result = transcode_in(alloc, &pool, type_name, tree, options, repeated);
     Attempt {
         resolver: compiler.into_resolver(),
         result,
@@ -244,7 +254,8 @@ pub fn transcode_files<R: FileResolver>(
 }
 
 /// Compiles the files at the paths with all that they import, and transcodes a tree as a message of the type of that
-/// full name: into the set of the files, each behind all that it imports, the wire bytes and the canonical tree.
+/// full name: into the set of the files, each behind all that it imports, the wire bytes, and the message's tree under the
+/// options, which stands for the message again. The tree is read with the default options.
 /// At most 65,536 files are taken, and none that nests more than 100 levels or has options that do not decode, since no
 /// reader of the set would take it; neither is a message that nests so deep, or has a payload that does. The resolver is
 /// handed back.
@@ -259,10 +270,11 @@ pub fn compile_and_transcode<R: FileResolver>(
     paths: &Texts,
     type_name: &str,
     tree: &Value,
+    options: &SerializeOptions,
 ) -> Attempt<R>
     // Over a resolver that tells, the files are the closure of the paths.
     ensures ok { IsTrue (R.library resolver).tells → IfOk result.result (λ done. ForFiles (R.library resolver).files (R.library resolver).resolves paths.now
-        (λ files. IsTranscoded type_name.now (view tree.now) files done.set done.wire (view done.tree))) }
+        (λ files. IsTranscoded type_name.now (view tree.now) options.now files done.set done.wire (view done.tree))) }
     ensures repeated { IsTrue (R.library resolver).tells → IfOk result.result (λ done. done.repeated ≡ repeats (R.library resolver).resolves paths.now) }
     ensures err { IsTrue (R.library resolver).tells → IfErr result.result
         (Refuses (R.library resolver).files (R.library resolver).resolves paths.now type_name.now (view tree.now)) }
@@ -272,10 +284,11 @@ pub fn compile_and_transcode<R: FileResolver>(
     // and an error is one of the walk or of such files.
     ensures ordered { IfOk result.result
         (λ done. (files : ListOf Done) × IsOrdered [] files × ArePooled [] (records files)
-        × IsTranscoded type_name.now (view tree.now) (records files) done.set done.wire (view done.tree)) }
+        × IsTranscoded type_name.now (view tree.now) options.now (records files) done.set done.wire (view done.tree)) }
     ensures judged { IfErr result.result (IsJudged paths.now type_name.now (view tree.now)
         (FaultCause (R.library resolver) (R.count resolver) (R.count result.resolver))) }
     ensures keeps { KeepsFiles R.library R.count resolver result.resolver }
 {
-    transcode_files(alloc, resolver, paths, type_name, InputTree::Borrowed(tree))
+    let input = InputTree::Borrowed(tree);
+    transcode_files(alloc, resolver, paths, type_name, input, options)
 }

@@ -3,6 +3,7 @@
 use crate::program::objects::{came_of, line, words};
 use crate::stop::Stop;
 use hex::encode;
+use pbx_json::SerializeOptions;
 use pbx_wkt::make_wkt_descriptor_pool;
 use protox_file::DescriptorSetFileResolver;
 use protox_file_sources::GoogleFileResolver;
@@ -37,7 +38,8 @@ fn told(alloc: Global, came: &Result<Transcoded, TopError>) -> Result<String, St
 fn over_built_in(alloc: Global, row: &Row, tree: &Value) -> Result<String, Stop> {
     let paths = words(alloc, row)?;
     let files = GoogleFileResolver::new(make_wkt_descriptor_pool(alloc)?);
-    let came = came_of(alloc, files, &paths, row.text(TYPE), tree);
+    let options = SerializeOptions::default();
+    let came = came_of(alloc, files, &paths, row.text(TYPE), tree, &options);
     let told = told(alloc, &came);
     drop(came);
     told
@@ -48,7 +50,8 @@ fn over_set(alloc: Global, row: &Row, tree: &Value) -> Result<String, Stop> {
     let paths = words(alloc, row)?;
     match DescriptorSetFileResolver::decode(alloc, row.bytes(SET)) {
         Ok(files) => {
-            let came = came_of(alloc, files, &paths, row.text(TYPE), tree);
+            let options = SerializeOptions::default();
+            let came = came_of(alloc, files, &paths, row.text(TYPE), tree, &options);
             let told = told(alloc, &came);
             drop(came);
             told

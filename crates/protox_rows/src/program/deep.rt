@@ -3,6 +3,7 @@
 use crate::program::objects::{came_of, line};
 use crate::stop::Stop;
 use pbx_desc_records::{DescriptorProto, FileDescriptorProto};
+use pbx_json::SerializeOptions;
 use pbx_wire::{NoMemory, Text, Texts};
 use protox_file_sources::{File, MemoryResolver};
 use protox_transcode::{TopError, Transcoded};
@@ -120,7 +121,8 @@ fn transcoded(alloc: Global, row: &Row, tree: &Value) -> Result<String, Stop> {
         drop(files);
         return Err(Stop::NoMemory);
     }
-    let came = came_of(alloc, files, &paths, row.text(TYPE), tree);
+    let options = SerializeOptions::default();
+    let came = came_of(alloc, files, &paths, row.text(TYPE), tree, &options);
     let told = told(alloc, &came);
     drop(came);
     told

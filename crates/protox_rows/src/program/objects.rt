@@ -1,6 +1,7 @@
 //! The words, files, input and outputs of a row.
 
 use crate::stop::Stop;
+use pbx_json::SerializeOptions;
 use pbx_wire::{Blob, NoMemory, Text, Texts};
 use protox_file_sources::FileResolver;
 use protox_io::{MemoryDisk, MemorySink, MemorySource};
@@ -37,15 +38,16 @@ pub(crate) fn words(alloc: Global, row: &Row) -> Result<Texts, NoMemory> {
     }
 }
 
-/// What comes of transcoding the tree as a message of the type, over the files of the resolver, which goes.
+/// What comes of transcoding the tree as a message of the type, under the options, over the files of the resolver, which goes.
 pub(crate) fn came_of<R: FileResolver + Drop>(
     alloc: Global,
     files: R,
     paths: &Texts,
     type_name: &str,
     tree: &Value,
+    options: &SerializeOptions,
 ) -> Result<Transcoded, TopError> {
-    compile_and_transcode(alloc, files, paths, type_name, tree).result
+    compile_and_transcode(alloc, files, paths, type_name, tree, options).result
 }
 
 /// The line of what is refused.

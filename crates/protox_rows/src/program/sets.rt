@@ -1,8 +1,9 @@
-//! The set of files that a transcoding gives, and the paths that it tells as repeated.
+//! The set of files that a transcoding gives, the paths that it tells as repeated, and the tree that it writes under options.
 
 use crate::program::objects::{came_of, words};
 use crate::stop::Stop;
 use hex::encode;
+use pbx_json::SerializeOptions;
 use pbx_wire::NoMemory;
 use protox_file_sources::MemoryResolver;
 use protox_transcode::{TopError, Transcoded};
@@ -47,10 +48,21 @@ fn array(alloc: Global, numbers: &[u64]) -> Result<String, NoMemory> {
     Ok(text)
 }
 
-/// The set in hexadecimal digits, or the indices of the repeated paths where the word asks for them.
+/// The options that the word asks for: the default ones, or others.
+fn options(word: &str) -> SerializeOptions {
+    let other = word == "written";
+    SerializeOptions::new()
+        .stringify_64_bit_integers(!other)
+        .use_enum_numbers(other)
+        .use_proto_field_name(other)
+        .skip_default_fields(!other)
+}
+
+/// The set in hexadecimal digits, or what else the word asks for: the indices of the repeated paths, or the tree's text.
 fn told(alloc: Global, came: &Result<Transcoded, TopError>, word: &str) -> Result<String, Stop> {
     match came {
         Ok(done) if word == "repeated" => Ok(array(alloc, done.repeated.as_slice())?),
+        Ok(done) if word == "written" => Ok(done.tree.to_string(alloc)?),
         Ok(done) => Ok(encode(alloc, done.set.as_slice())?),
         Err(_) => Ok(String::from_str(alloc, "refused")?),
     }
@@ -59,7 +71,7 @@ fn told(alloc: Global, came: &Result<Transcoded, TopError>, word: &str) -> Resul
 fn told_with(alloc: Global, row: &Row, word: &str, tree: &Value) -> Result<String, Stop> {
     let paths = words(alloc, row)?;
     let files = resolver(alloc, row)?;
-    let came = came_of(alloc, files, &paths, row.text(TYPE), tree);
+    let came = came_of(alloc, files, &paths, row.text(TYPE), tree, &options(word));
     let told = told(alloc, &came, word);
     drop(came);
     told

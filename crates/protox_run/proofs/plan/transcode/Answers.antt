@@ -16,12 +16,12 @@ pub returns-in-Ok-result-clause-done : goal.returns-in-Ok-result-clause-done
 returns-in-Ok-result-clause-done g c tells =
     let a = args_told c.args.args.now in
     let told = of_folders g.D.Disk.volume c.in-Ok.files c.args.disk (folders a)
-    (λ l. IfOk c.transcode_files-resolver.result.result (λ done. ForFiles l.files l.resolves a.files (λ files. IsTranscoded c.args.name.now (view c.args.tree) files done.set done.wire (view done.tree))))
+    (λ l. IfOk c.transcode_files-resolver.result.result (λ done. ForFiles l.files l.resolves a.files (λ files. IsTranscoded c.args.name.now (view c.args.tree) c.options_of-options.result files done.set done.wire (view done.tree))))
     c.in-Ok.ensures.ok c.transcode_files-resolver.ensures.ok tells in
     let done = ok_of _ c.transcode_files-resolver.result.result c.in-Ok-result.done c.in-Ok-result.is told in
     ok_both c.write_transcoded.result
-    (λ ready writes text. gives a c.args.name.now (library_of a (g.D.Disk.volume c.args.disk)) (view c.args.tree) c.in-Ok-result.done.set c.in-Ok-result.done.wire (view c.in-Ok-result.done.tree)
-    (writes_told ready) (line_told (option_map string_bytes ready.line)) c.canonical_is_plain.ensures done writes text)
+    (λ ready writes text. gives a c.args.name.now (library_of a (g.D.Disk.volume c.args.disk)) (view c.args.tree) c.options_of-options.result c.in-Ok-result.done.set c.in-Ok-result.done.wire (view c.in-Ok-result.done.tree)
+    (writes_told ready) (line_told (option_map string_bytes ready.line)) c.options_of-options.ensures c.canonical_is_plain.ensures done writes text)
     c.write_transcoded.ensures.writes c.write_transcoded.ensures.text
 
 pub returns-in-Err-result-clause-stop : goal.returns-in-Err-result-clause-stop

@@ -16,4 +16,4 @@ pub returns-in-NeedsNumber-clause-said : goal.returns-in-NeedsNumber-clause-said
 returns-in-NeedsNumber-clause-said g c = rw c.in-NeedsNumber.is c.say_between-in-NeedsNumber.ensures.said
 
 pub returns-in-NeedsType-clause-said : goal.returns-in-NeedsType-clause-said
-returns-in-NeedsType-clause-said g c = rw c.in-NeedsType.is c.say-in-NeedsType.ensures.said
+returns-in-NeedsType-clause-said g c = rw c.in-NeedsType.is c.say_behind.ensures.said

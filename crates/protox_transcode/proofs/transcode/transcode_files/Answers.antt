@@ -32,7 +32,7 @@ returns-clause-ok g c tells =
     ok_then c.transcode_in-result.result
     (λ done h. all_given (g.R.FileResolver.library c.args.resolver).files (g.R.FileResolver.library c.args.resolver).resolves c.args.paths.now c.in-Ok.opened.compiler.done
     (accepted (g.R.FileResolver.library c.args.resolver) c.args.paths.now c.in-Ok.opened.compiler.done (c.in-Ok.ensures.ok tells))
-    c.descriptor_pool-pool.result c.descriptor_pool-pool.ensures.pool c.args.type_name.now (data_of c.args.tree) done.set done.wire (view done.tree) h)
+    c.descriptor_pool-pool.result c.descriptor_pool-pool.ensures.pool c.args.type_name.now (data_of c.args.tree) c.args.options.now done.set done.wire (view done.tree) h)
     c.transcode_in-result.ensures.ok
 
 pub returns-clause-err : goal.returns-clause-err
@@ -54,7 +54,7 @@ returns-clause-cause g c =
 pub returns-clause-ordered : goal.returns-clause-ordered
 returns-clause-ordered g c =
     ok_then c.transcode_in-result.result
-    (λ done h. all_pooled c.args.type_name.now (data_of c.args.tree) c.in-Ok.opened.compiler.done c.descriptor_pool-pool.result done.set done.wire (view done.tree) c.descriptor_pool-pool.ensures.pool
+    (λ done h. all_pooled c.args.type_name.now (data_of c.args.tree) c.args.options.now c.in-Ok.opened.compiler.done c.descriptor_pool-pool.result done.set done.wire (view done.tree) c.descriptor_pool-pool.ensures.pool
     c.descriptor_pool-pool.ensures.ordered c.descriptor_pool-pool.ensures.pooled h)
     c.transcode_in-result.ensures.ok
 

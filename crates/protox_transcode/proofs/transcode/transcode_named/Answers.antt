@@ -12,7 +12,7 @@ returns-in-Some-clause-ok c clear =
     let types = c.kinds_have_types.ensures.place in
     let pooled = c.files-pooled.ensures.pooled in
     ok_then c.transcode_as.result
-    (λ done h. named types c.args.pool.now c.args.type_name.now (data_of c.args.tree) d pooled found done.0 (view done.1) h)
+    (λ done h. named types c.args.pool.now c.args.type_name.now (data_of c.args.tree) d pooled found c.args.options.now done.0 (view done.1) h)
     (c.transcode_as.ensures.ok (clear_there types c.args.pool.now c.args.type_name.now (data_of c.args.tree) d pooled found clear))
 
 pub returns-in-Some-clause-err : goal.returns-in-Some-clause-err
