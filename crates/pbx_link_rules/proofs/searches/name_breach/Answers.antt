@@ -1,4 +1,4 @@
-use Rattle.std.proofs.Common.{◌∙◌, ap, sym, arith}
+use Rattle.std.proofs.Common.{arith}
 use Rattle.pbx_link_scope.specs.Scope.{visible}
 use Rattle.pbx_link_rules_record.specs.FileRules.{bad_names}
 use Rattle.pbx_link_rules.specs.Rules.{names_twice}
@@ -20,7 +20,7 @@ returns-in-Some-2 g c =
     let seen = visible files f in
     let kept_4 =
     kept_at files seen f 4 (bad_names f) (rule_4 files seen f) c.in_ok-place.field-0 c.in_ok-place.ensures 4 (start files seen f 4) c.in_default.is in
-    broken_at files seen f 5 (names_twice files c.file.result.now) (rule_5 files seen f ∙ ap (names_twice files) (sym c.file.ensures))
+    broken_at files seen f 5 (names_twice files f) (rule_5 files seen f)
     c.in_ok-place-2.field-0 c.in_ok-place-2.ensures 4 kept_4 5 c.in-Some-2.place (omega arith) (omega arith) c.in-Some-2.is
 
 pub returns-in-None : goal.returns-in-None
@@ -31,6 +31,6 @@ returns-in-None g c =
     let kept_4 =
     kept_at files seen f 4 (bad_names f) (rule_4 files seen f) c.in_ok-place.field-0 c.in_ok-place.ensures 4 (start files seen f 4) c.in_default.is in
     let kept_5 =
-    kept_at files seen f 5 (names_twice files c.file.result.now) (rule_5 files seen f ∙ ap (names_twice files) (sym c.file.ensures))
+    kept_at files seen f 5 (names_twice files f) (rule_5 files seen f)
     c.in_ok-place-2.field-0 c.in_ok-place-2.ensures 4 kept_4 c.in-None.is in
     kept_5
