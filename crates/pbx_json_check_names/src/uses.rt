@@ -69,10 +69,7 @@ fn set_use(
 }
 
 /// The uses of these fields' JSON names as their keys.
-fn uses_of(
-    alloc: Global,
-    fields: &[FieldShape],
-) -> Result<BTreeMap<String, KeyUse>, NoMemory>
+fn uses_of(alloc: Global, fields: &[FieldShape]) -> Result<BTreeMap<String, KeyUse>, NoMemory>
     ensures { IfOk result (λ uses. (q : ListOf ℕ) → get_by_text uses q ≡ used_by q fields.now None) }
 {
     let mut uses = BTreeMap::new(alloc);

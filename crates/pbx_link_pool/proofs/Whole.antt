@@ -1,6 +1,6 @@
 -- The index before and after a file is added, or refused.
 use Rattle.std.proofs.Common.{◌≡◌, ℕ, ℤ, true, List, subst}
-use Rattle.std.specs.Prelude.{Result, Ok, Err, OnErr, is_err}
+use Rattle.std.specs.Prelude.{Result, Ok, Err, OnOk, OnErr, is_err}
 use Rattle.pbx_link_names.specs.Numbers.{is_there}
 use Rattle.pbx_link_names.specs.Packages as packaged
 use Rattle.pbx_link_pool.specs.Index.{HaveAddedPlaces, ArePlacesAlikeBut, HaveForgottenPlaces, FindTheSamePlaces, new_places, HasAddedAll, AreAllAlikeBut, HasForgottenAll, FindAllTheSame, new_of}
@@ -14,6 +14,14 @@ use Rattle.pbx_link_pool.proofs.Maps.{added_new, set_back}
 pub on_err_at : {U E : Type 0} {P : Type 0} (r : Result U E) → is_err r ≡ true → OnErr r P → P
 on_err_at (Ok u) e h = cc
 on_err_at (Err d) e h = h
+
+pub on_ok_of : {U E : Type 0} {P Q : Type 0} (r : Result U E) → (P → Q) → OnOk r P → OnOk r Q
+on_ok_of (Ok u) f h = f h
+on_ok_of (Err d) f h = tt
+
+pub on_err_of : {U E : Type 0} {P Q : Type 0} (r : Result U E) → (P → Q) → OnErr r P → OnErr r Q
+on_err_of (Ok u) f h = tt
+on_err_of (Err d) f h = f h
 
 added_places : (all : PlaceItems) (old new : Places) → HaveAddedPlaces (new_places old all) old new → HaveAddedPlaces all old new
 added_places all old new h = record {

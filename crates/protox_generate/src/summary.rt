@@ -75,7 +75,8 @@ fn transcode(
         name.as_str(),
         InputTree::Owned(tree),
         &options,
-    ).result
+    )
+    .result
 }
 
 /// Transcodes a tree over the files of the number: file `gI.proto` imports the two before it and defines the message `GI`, which has a number,
