@@ -27,9 +27,10 @@ pub fn check_names(alloc: Global, pool: &DescriptorPool) -> Result<(), NameFault
     shapes_are_well_named();
     let _pooled = pool.files();
     match pool.schema() {
-        Ok(schema) => {
-            let _proper = schema.as_ref().shape();
-            first_fault(alloc, schema.as_ref())
+        Ok(shared) => {
+            let schema = shared.as_ref();
+            let _proper = schema.shape();
+            first_fault(alloc, schema)
         }
         Err(NoMemory) => Err(NameFault::NoMemory),
     }
