@@ -1,4 +1,4 @@
-ghost use Rattle.std.specs.Prelude.{◌≡◌, ◌≤◌, [], length, insert, IfOk, IfErr, OnOk, MatchResult};
+ghost use Rattle.std.specs.Prelude.{◌≡◌, ◌≤◌, [], length, insert, IfOk, IfErr, OnOk, OnErr, MatchResult};
 ghost use Rattle.pbx_content.specs.Content.{bytes_before};
 ghost use Rattle.pbx_types.specs.Texts.{with_entry, IsInOrder, place_of as place_of_text, StandsAt, IsGapAt};
 
@@ -62,9 +62,10 @@ impl<T: Drop> TextMap<T> {
         }
     }
 
-    /// The same. The only error is want of memory, where both are dropped.
+    /// The same. The only error is want of memory, where both are dropped and nothing is changed.
     pub fn add(&mut self, text: Text, value: T) -> Result<(), NoMemory>
-        ensures { OnOk result (self.new ≡ with_entry text value self.old) }
+        ensures ok { OnOk result (self.new ≡ with_entry text value self.old) }
+        ensures err { OnErr result (self.new ≡ self.old) }
     {
         match self.insert(text, value) {
             Ok(()) => Ok(()),

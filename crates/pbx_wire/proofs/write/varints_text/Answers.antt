@@ -10,4 +10,4 @@ varints_more xs i h = rw (take_more xs i 0 h, map-append, concat-append, append-
 
 pub loop-value-preserved : goal.loop-value-preserved
 loop-value-preserved c =
-    rw (c.in_ok-put_varint.ensures, varints_more c.args.values.now c.loop-value.value-index c.loop-value-test.true, c.loop-value.invariant) refl
+    rw (c.in_ok-put_varint.ensures.ok, varints_more c.args.values.now c.loop-value.value-index c.loop-value-test.true, c.loop-value.invariant) refl
