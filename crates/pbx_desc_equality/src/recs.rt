@@ -84,6 +84,12 @@ impl Equals for Rec {
     }
 }
 
+impl Equals for Recs {
+    fn equals(&self, other: &Recs) -> bool {
+        are_equal(self, other)
+    }
+}
+
 impl Equals for Options {
     fn equals(&self, other: &Options) -> bool {
         are_equal(&self.recs, &other.recs)
