@@ -29,3 +29,7 @@ pub mod FaultyAlone
 pub mod OntoAppends
 pub mod OntoOne
 pub mod OntoSound
+pub mod More
+pub mod OntoMore
+pub mod OntoSettled
+pub mod OntoWritten

@@ -39,7 +39,7 @@ mutual
   fields_once shape gs no_fields = refl
   fields_once shape gs (field n v fs) = rw (val_once shape (type_in (field_of n gs)) v, fields_once shape gs fs) refl
 
-  val_once : (shape : Shape) (t : ℕ) (v : Val) → settled_val shape t (settled_val shape t v) ≡ settled_val shape t v
+  pub val_once : (shape : Shape) (t : ℕ) (v : Val) → settled_val shape t (settled_val shape t v) ≡ settled_val shape t v
   val_once shape t (number z) = refl
   val_once shape t (truth b) = refl
   val_once shape t (text s) = refl

@@ -1,5 +1,5 @@
 -- What records mean behind a content that a message may have, a message may have.
-use Rattle.std.proofs.Common.{◌≡◌, ◌⊎◌, inl, inr, ℕ, zero, suc, ◌≤◌, max, Bool, true, false, not, ◌&&◌, if◌then◌else◌, List, [], ◌∷◌, ◌++◌, map, Option, Some, None, option_map, refl, sym, ap, ◌∙◌, subst, arith}
+use Rattle.std.proofs.Common.{◌≡◌, ◌⊎◌, inl, inr, ℕ, zero, suc, ◌-◌, ◌≤◌, max, Bool, true, false, not, ◌&&◌, if◌then◌else◌, List, [], ◌∷◌, ◌++◌, map, Option, Some, None, option_map, refl, sym, ap, ◌∙◌, subst, arith}
 use Rattle.std.specs.Prelude.{◌==◌, option_and_then, IsTrue}
 use Rattle.std.specs.List.{AllByRecursion, list_all, filter}
 use Rattle.std.proofs.lemmas.Bool.Decides.{nat_tests}
@@ -428,14 +428,25 @@ pub parts_sound : (shape : Shape) (t : ℕ) (bytes : List ℕ) (c : Content) →
     → IsSound shape t c
 parts_sound shape t bytes c proper e = (within_sound shape 101 100 t bytes c proper (omega arith) e).0
 
--- What bytes mean behind a content that a message may have, a message may have.
+-- What bytes mean behind a content that a message may have, a message may have, and it nests no deeper than both may.
+merged_within : (shape : Shape) (t m : ℕ) (old new : Content) (bytes : List ℕ) → IsProper shape → IsSound shape t old → 100 ≤ m
+    → content_depth old ≤ suc m → merged_of shape t old bytes ≡ Some new → IsSound shape t new × (content_depth new ≤ suc m)
+merged_within shape t m old new bytes proper s enough deep e =
+    let gs = fields_of shape t in
+    let rs = bound_is (meaning_onto shape 100 gs old) (records_in 100 bytes) new e in
+    let is =
+    sound_by shape 100 m 100 proper (onto_keeps shape 100 m proper enough) (omega arith) gs (types shape proper t) old new rs.0
+    (sound_in shape t old s) deep (records_good 100 bytes rs.0 rs.1) rs.2 in
+    (sound_of shape t new is.0, is.1)
+
 pub merged_sound : (shape : Shape) (t : ℕ) (old new : Content) (bytes : List ℕ) → IsProper shape → IsSound shape t old
     → merged_of shape t old bytes ≡ Some new → IsSound shape t new
 merged_sound shape t old new bytes proper s e =
-    let gs = fields_of shape t in
-    let m = max (content_depth old) 100 in
-    let rs = bound_is (meaning_onto shape 100 gs old) (records_in 100 bytes) new e in
-    let is =
-    sound_by shape 100 m 100 proper (onto_keeps shape 100 m proper (omega arith)) (omega arith) gs (types shape proper t) old new rs.0
-    (sound_in shape t old s) (omega arith) (records_good 100 bytes rs.0 rs.1) rs.2 in
-    sound_of shape t new is.0
+    (merged_within shape t (max (content_depth old) 100) old new bytes proper s (omega arith) (omega arith) e).0
+
+pub merged_shallow : (shape : Shape) (t : ℕ) (old new : Content) (bytes : List ℕ) → IsProper shape → IsSound shape t old
+    → merged_of shape t old bytes ≡ Some new → content_depth new ≤ max (content_depth old) 101
+merged_shallow shape t old new bytes proper s e =
+    let m = max (content_depth old) 101 - 1 in
+    let deep = (merged_within shape t m old new bytes proper s (omega arith) (omega arith) e).1 in
+    omega (arith, deep)

@@ -163,7 +163,7 @@ kept_short : (a b n : ℕ) → n ≡ a + b → n < 2 ^ 64 → a < 2 ^ 64
 kept_short a b n e h = omega (arith, e, h)
 
 -- only groups among the kept records take levels here: messages are payloads
-content_spelled : (shape : Shape) (t levels : ℕ) (fs : Fields) (kept : List Rec) → IsProper shape → IsSound shape t (content fs kept)
+pub content_spelled : (shape : Shape) (t levels : ℕ) (fs : Fields) (kept : List Rec) → IsProper shape → IsSound shape t (content fs kept)
     → size (content_recs shape t (content fs kept)) < 2 ^ 64 → depth_of kept ≤ levels
     → records_in levels (encoded shape t (content fs kept)) ≡ Some (content_recs shape t (content fs kept))
 content_spelled shape t levels fs kept proper h short d =
@@ -295,7 +295,7 @@ key_shallow (text_key s) = refl
 -- ---- by levels
 
 -- whatever holds the fields in so many levels means them
-abbrev Means : Shape → ℕ → Type 0
+abbrev pub Means : Shape → ℕ → Type 0
 Means shape levels =
     (gs : List FieldShape) (fs : Fields) (kept rs : List Rec) → AreFields shape gs fs → Holds shape gs fs kept rs → size rs < 2 ^ 64 → fields_depth fs ≤ levels
     → meaning shape levels gs rs ≡ Some (content (settled_fields shape gs fs) kept)
@@ -312,7 +312,7 @@ message_fields : (shape : Shape) (t : ℕ) (fs : Fields) (kept : List Rec) → I
     → AreFields shape (fields_of shape t) fs
 message_fields shape t fs kept proper h = record { above = fields_above shape t proper; ascending = h.0; sound = h.1; one_member = h.2 }
 
-message_means : (shape : Shape) (levels t : ℕ) (fs : Fields) (kept : List Rec) → IsProper shape → Means shape levels → IsSound shape t (content fs kept)
+pub message_means : (shape : Shape) (levels t : ℕ) (fs : Fields) (kept : List Rec) → IsProper shape → Means shape levels → IsSound shape t (content fs kept)
     → size (content_recs shape t (content fs kept)) < 2 ^ 64 → fields_depth fs ≤ levels
     → meaning shape levels (fields_of shape t) (content_recs shape t (content fs kept)) ≡ Some (settled shape t (content fs kept))
 message_means shape levels t fs kept proper means h short d =
@@ -347,7 +347,7 @@ entry_read shape levels means key k l v h e short d =
     let P : List Rec → Type 0 = λ xs. inside shape levels (entry_fields key k) (text_of xs ∷ []) ≡ Some (entry l value) in
     subst P is (one_payload shape levels gs (text_of rs) rs spelled ∙ meant ∙ key_same)
 
-means : (shape : Shape) → IsProper shape → (levels : ℕ) → Means shape levels
+pub means : (shape : Shape) → IsProper shape → (levels : ℕ) → Means shape levels
 unfolding meaning
 means shape proper zero gs fs kept rs h holds short d =
     layer_back shape 0 no_inner

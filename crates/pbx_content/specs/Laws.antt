@@ -1,5 +1,5 @@
 -- Laws of the definitions, each proved as the contract of a public function.
-use Rattle.std.specs.Prelude.{◌≡◌, ◌≢◌, ◌⊎◌, ℕ, zero, suc, ◌-◌, ◌≤◌, ◌<◌, ◌^◌, ◌↔◌, List, [], ◌∷◌, ◌++◌, length, Bool, true, false, ◌||◌, ◌==◌}
+use Rattle.std.specs.Prelude.{◌≡◌, ◌≢◌, ◌⊎◌, ℕ, zero, suc, ◌-◌, ◌≤◌, ◌<◌, ◌^◌, max, ◌↔◌, List, [], ◌∷◌, ◌++◌, length, Bool, true, false, ◌||◌, ◌==◌}
 use Rattle.std.specs.Prelude.{Option, Some, None, option_and_then, Ok, Err, if◌then◌else◌}
 use Rattle.pbx_wire.specs.declared.error.DecodeError.{DecodeError}
 use Rattle.pbx_wire.specs.declared.error.DecodeError.TheVariants as errors
@@ -99,6 +99,19 @@ OntoIsFollowing =
     → IsProper shape → meaning shape levels (fields_of shape t) rs ≡ Some c
     → meaning_onto shape levels (fields_of shape t) c ss ≡ meaning shape levels (fields_of shape t) (rs ++ ss)
 
+-- Merging bytes into any content that a message may have is reading its canonical records and theirs behind them: the content itself may nest deeper than
+-- is read, and so do all together, with as many levels as it takes and at least the 100 that the bytes have.
+abbrev pub MergedIsFollowing : Type 0
+MergedIsFollowing =
+    (shape : Shape) (levels t : ℕ) (old new : Content) (bytes : List ℕ)
+    → IsProper shape → IsSound shape t old → IsShort shape t old → depth old ≤ levels → 100 ≤ levels → merged_of shape t old bytes ≡ Some new
+    → DecodesWithin shape levels t (encoded shape t old ++ bytes) new
+
+-- Bytes are merged exactly where they mean something by themselves.
+abbrev pub MergedJudgesTheNew : Type 0
+MergedJudgesTheNew =
+    (shape : Shape) (t : ℕ) (old : Content) (bytes : List ℕ) → (merged_of shape t old bytes ≡ None) ↔ (meaning_of shape t bytes ≡ None)
+
 -- Records mean something behind a content exactly where they mean something by themselves.
 abbrev pub OntoJudgesTheNew : Type 0
 OntoJudgesTheNew =
@@ -110,6 +123,12 @@ abbrev pub MergedIsSound : Type 0
 MergedIsSound =
     (shape : Shape) (t : ℕ) (old new : Content) (bytes : List ℕ)
     → IsProper shape → IsSound shape t old → merged_of shape t old bytes ≡ Some new → IsSound shape t new
+
+-- It nests no deeper than the content, or than what bytes alone mean may (`MeaningIsSound`).
+abbrev pub MergedIsShallow : Type 0
+MergedIsShallow =
+    (shape : Shape) (t : ℕ) (old new : Content) (bytes : List ℕ)
+    → IsProper shape → IsSound shape t old → merged_of shape t old bytes ≡ Some new → depth new ≤ max (depth old) 101
 
 -- ---- faults
 

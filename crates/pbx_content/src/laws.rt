@@ -1,7 +1,7 @@
 ghost use Rattle.pbx_content.specs.Laws.{EncodingDecodes, EncodingDecodesWithin, EncodingDecodesParts, MeaningIsSound, PartsMeaningIsSound, DecodesToOne};
 ghost use Rattle.pbx_content.specs.Laws.{DecodesToSame, SameIsWrittenAlike, SameIsReflexive, SameIsSymmetric, SameIsTransitive, SortedAlike, OntoEmpty};
-ghost use Rattle.pbx_content.specs.Laws.{OntoIsFollowing, OntoJudgesTheNew, MergedIsSound, MeansOrFaulty, FaultyMeansNothing, PartsMeanOrFaulty};
-ghost use Rattle.pbx_content.specs.Laws.{FaultyPartsMeanNothing};
+ghost use Rattle.pbx_content.specs.Laws.{OntoIsFollowing, OntoJudgesTheNew, MergedIsFollowing, MergedJudgesTheNew, MergedIsSound, MergedIsShallow};
+ghost use Rattle.pbx_content.specs.Laws.{MeansOrFaulty, FaultyMeansNothing, PartsMeanOrFaulty, FaultyPartsMeanNothing};
 ghost use Rattle.pbx_content.specs.Laws.{MessageFaultsAreWith, MeansOrFaultyWith, FaultyMeansNothingWith, FirstIsWith, FaultsBehind, FirstBehind};
 ghost use Rattle.pbx_content.specs.Laws.{FirstAtFront, FirstByKey, FirstOfRecord, FirstAsField, FirstInPayload, RecMeansNothing, NumbersGoOn, NumbersStop};
 ghost use Rattle.pbx_content.specs.Laws.{SpelledNext, OntoAppends, OntoMeansAlone, FirstIsMerged};
@@ -44,12 +44,16 @@ pub fn sorted_records_are_alike()
     ensures { SortedAlike }
 {}
 
-/// What records mean behind a content is what they mean behind any records that mean it.
+/// What records mean behind a content is what they mean behind any records that mean it, and bytes that are merged mean what they
+/// mean behind the text of the old content.
 pub fn onto_is_following()
     ensures empty { OntoEmpty }
     ensures following { OntoIsFollowing }
     ensures judges { OntoJudgesTheNew }
+    ensures merged { MergedIsFollowing }
+    ensures merged_where { MergedJudgesTheNew }
     ensures sound { MergedIsSound }
+    ensures shallow { MergedIsShallow }
 {}
 
 /// Bytes mean something as a message exactly where they break no rule.

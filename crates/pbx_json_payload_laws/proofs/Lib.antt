@@ -1,6 +1,5 @@
 pub mod Inside
 pub mod Shrinks
-pub mod More
 pub mod NoKept
 pub mod Long
 pub mod Writable

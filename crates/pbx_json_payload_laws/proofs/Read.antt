@@ -28,7 +28,7 @@ use Rattle.pbx_content.proofs.SoundValues.{bound_is}
 use Rattle.pbx_content.specs.Same.{Same}
 use Rattle.pbx_json_payload_laws.specs.Inside.{HasNoKept}
 use Rattle.pbx_json_payload_laws.proofs.Shrinks.{ArePayloadsBelow}
-use Rattle.pbx_json_payload_laws.proofs.More.{more_levels}
+use Rattle.pbx_content.proofs.More.{more_levels}
 use Rattle.pbx_json_payload_laws.proofs.NoKept.{same_is_equal}
 use Rattle.pbx_json_payload_laws.proofs.Long.{fit_if_read, payloads_fit, fits_below}
 use Rattle.pbx_json_payload_laws.proofs.Writable.{short_payloads, fields_writable, content_known}

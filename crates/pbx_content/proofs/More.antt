@@ -46,16 +46,16 @@ spells_more (suc levels) bytes rs h = all_more (SpellsBelow levels) (SpellsBelow
 abbrev pub IsUnder : {A : Type 0} → Option A → Option A → Type 0
 IsUnder {A = A} a b = (x : A) → a ≡ Some x → b ≡ Some x
 
-map_under : {A B : Type 0} (g : A → B) (a b : Option A) → IsUnder a b → IsUnder (option_map g a) (option_map g b)
+pub map_under : {A B : Type 0} (g : A → B) (a b : Option A) → IsUnder a b → IsUnder (option_map g a) (option_map g b)
 map_under g None b u y e = absurd cc
 map_under g (Some x) b u y e = rw (u x refl) e
 
-bind_under : {A B : Type 0} (f g : A → Option B) (a b : Option A) → IsUnder a b → ((x : A) → IsUnder (f x) (g x))
+pub bind_under : {A B : Type 0} (f g : A → Option B) (a b : Option A) → IsUnder a b → ((x : A) → IsUnder (f x) (g x))
     → IsUnder (option_and_then f a) (option_and_then g b)
 bind_under f g None b u v y e = absurd cc
 bind_under f g (Some x) b u v y e = rw (u x refl) (v x y e)
 
-each_under : {A B : Type 0} (f g : A → Option B) → ((x : A) → IsUnder (f x) (g x)) → (xs : List A) → IsUnder (each f xs) (each g xs)
+pub each_under : {A B : Type 0} (f g : A → Option B) → ((x : A) → IsUnder (f x) (g x)) → (xs : List A) → IsUnder (each f xs) (each g xs)
 each_under f g v [] ys e = e
 each_under {B = B} f g v (x ∷ xs) ys e =
     bind_under (λ y. option_map (λ (zs : List B). y ∷ zs) (each f xs)) (λ y. option_map (λ (zs : List B). y ∷ zs) (each g xs)) (f x) (g x) (v x)
@@ -66,7 +66,7 @@ pub records_under : (levels : ℕ) (bytes : List ℕ) → IsUnder (records_in le
 records_under levels bytes rs e =
     (are_spelled (suc levels) bytes rs).1 (spells_more (suc levels) bytes rs ((are_spelled levels bytes rs).0 e))
 
-all_under : (levels : ℕ) (bs : List (List ℕ)) → IsUnder (records_of levels bs) (records_of (suc levels) bs)
+pub all_under : (levels : ℕ) (bs : List (List ℕ)) → IsUnder (records_of levels bs) (records_of (suc levels) bs)
 all_under levels bs =
     map_under flat (each (records_in levels) bs) (each (records_in (suc levels)) bs)
     (each_under (records_in levels) (records_in (suc levels)) (records_under levels) bs)
@@ -74,7 +74,7 @@ all_under levels bs =
 -- ---- one layer
 
 -- what payloads mean in the first, they mean in the second
-abbrev InnerUnder : Inner → Inner → Type 0
+abbrev pub InnerUnder : Inner → Inner → Type 0
 InnerUnder a b = (gs : List FieldShape) (bs : List (List ℕ)) → IsUnder (a gs bs) (b gs bs)
 
 alone_under : (shape : Shape) (a b : Inner) → InnerUnder a b → (k : Kind) (r : Rec) → IsUnder (alone shape a k r) (alone shape b k r)
@@ -83,7 +83,7 @@ alone_under shape a b u (kind.Message t) r v e =
     (λ c. map_under message (a (fields_of shape t) (c ∷ [])) (b (fields_of shape t) (c ∷ [])) (u (fields_of shape t) (c ∷ []))) v e
 alone_under shape a b u k r v e = e
 
-spread_under : (shape : Shape) (a b : Inner) → InnerUnder a b → (k : Kind) (r : Rec) → IsUnder (spread shape a k r) (spread shape b k r)
+pub spread_under : (shape : Shape) (a b : Inner) → InnerUnder a b → (k : Kind) (r : Rec) → IsUnder (spread shape a k r) (spread shape b k r)
 spread_under shape a b u k r vs = at (is_packable k) (bytes_of r)
   where
     single : IsUnder (one (alone shape a k r)) (one (alone shape b k r))
@@ -101,7 +101,7 @@ repeated_under shape a b u k rs =
     map_under (λ (vs : List (List Val)). shown shape false k (Some (many (vals_of (flat vs))))) (each (spread shape a k) rs) (each (spread shape b k) rs)
     (each_under (spread shape a k) (spread shape b k) (spread_under shape a b u k) rs)
 
-entry_under : (a b : Inner) → InnerUnder a b → (key k : Kind) (r : Rec) → IsUnder (entry_in a key k r) (entry_in b key k r)
+pub entry_under : (a b : Inner) → InnerUnder a b → (key k : Kind) (r : Rec) → IsUnder (entry_in a key k r) (entry_in b key k r)
 entry_under a b u key k r =
     bind_under (λ (c : List ℕ). a (entry_fields key k) (c ∷ [])) (λ (c : List ℕ). b (entry_fields key k) (c ∷ [])) (bytes_of r) (bytes_of r) (λ c d. d)
     (λ c. u (entry_fields key k) (c ∷ []))
@@ -122,7 +122,7 @@ singular_under shape a b u p (kind.Message t) rs o e =
     (joined_under a b u (fields_of shape t)) o e
 singular_under shape a b u p k rs o e = e
 
-value_under : (shape : Shape) (a b : Inner) → InnerUnder a b → (f : FieldShape) (rs : List Rec) → IsUnder (value shape a f rs) (value shape b f rs)
+pub value_under : (shape : Shape) (a b : Inner) → InnerUnder a b → (f : FieldShape) (rs : List Rec) → IsUnder (value shape a f rs) (value shape b f rs)
 value_under shape a b u f rs o = at (is_float f.kind)
   where
     by : (c : Cardinality) → by_cardinality shape a f c rs ≡ Some o → by_cardinality shape b f c rs ≡ Some o
