@@ -1,5 +1,5 @@
 //! protox: compiles Protocol Buffers source files with all that they import into descriptor sets, and carries messages
-//! from JSON to the wire format and to canonical JSON.
+//! from JSON to the wire format and to JSON under options, by default the canonical one.
 //!
 //! The public items of the other crates stand in modules of the crates' names, since two crates have a `Value`; `file` has
 //! those of files, resolvers and errors together.
