@@ -1,7 +1,7 @@
 ghost use Rattle.std.specs.Prelude.{◌≡◌, ◌⊎◌, Some, None, OnOk, IfErr};
 ghost use Rattle.pbx_link_meaning.specs.Shapes.{shape_of};
 ghost use Rattle.pbx_json_meaning.specs.Clash.{ByAnyName, name_fault};
-ghost use Rattle.pbx_json_meaning.specs.Laws.{WritesBack};
+ghost use Rattle.pbx_json_meaning.specs.Laws.{EachWrittenStands};
 
 use pbx_json_check_names::first_fault;
 use pbx_json_laws::{canonical_stands, shapes_are_well_named};
@@ -20,7 +20,7 @@ use std::alloc::Global;
 /// it is the name of another field.
 pub fn check_names(alloc: Global, pool: &DescriptorPool) -> Result<(), NameFault>
     ensures clear { OnOk result (name_fault ByAnyName (shape_of pool.now) ≡ None) }
-    ensures written { OnOk result (WritesBack (shape_of pool.now)) }
+    ensures written { OnOk result (EachWrittenStands (shape_of pool.now)) }
     ensures fault { IfErr result (λ e. (e ≡ NameFault.NoMemory) ⊎ (name_fault ByAnyName (shape_of pool.now) ≡ Some e)) }
 {
     canonical_stands();

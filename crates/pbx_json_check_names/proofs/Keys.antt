@@ -9,7 +9,7 @@ use Rattle.pbx_content.specs.declared.shape.FieldShape.{FieldShape}
 use Rattle.pbx_json_meaning.specs.Names.{json_name_is, name_is}
 use Rattle.pbx_json_meaning.specs.Clash.{ByAnyName, is_shared, is_of_extension, is_name_of_another, clashes, least_key}
 use Rattle.pbx_json_meaning.specs.Urls.{is_type_key}
-use Rattle.pbx_json_check_names.specs.Uses.{with_use, used_by, is_of_another, named, named_by, meaning_of, is_clash, is_clashing, least_with}
+use Rattle.pbx_json_check_names.specs.Uses.{with_use, used_by, is_of_another, named, named_by, use_by_names, is_clash, is_clashing, least_with}
 use Rattle.pbx_json_check_names.specs.declared.uses.KeyUse.{KeyUse}
 use Rattle.pbx_json_check_names.specs.declared.uses.KeyUse.TheVariants as use_of
 
@@ -285,7 +285,7 @@ clash_only (Some use_of.Clash) h = refl
 
 -- the key of a field has two meanings by all names where it has so by the JSON names, or is the name of another field
 meaning_is : (xs : List FieldShape) (f : FieldShape) (ys : List FieldShape) → f.is_extension ≡ false
-    → is_clash (meaning_of f.json_name (xs ++ f ∷ ys))
+    → is_clash (use_by_names f.json_name (xs ++ f ∷ ys))
     ≡ (is_clash (used_by f.json_name (xs ++ f ∷ ys) None) || is_name_of_another (xs ++ f ∷ ys) f)
 meaning_is xs f ys e = at (is_clash (used_by f.json_name (xs ++ f ∷ ys) None)) refl
   where
@@ -323,11 +323,11 @@ own_there (x ∷ xs) f ys e =
     at false ih = ih
 
 clashing_seam : (xs : List FieldShape) (f : FieldShape) (ys : List FieldShape)
-    → is_clashing (meaning_of f.json_name (xs ++ f ∷ ys)) f ≡ clashes ByAnyName (xs ++ f ∷ ys) f
+    → is_clashing (use_by_names f.json_name (xs ++ f ∷ ys)) f ≡ clashes ByAnyName (xs ++ f ∷ ys) f
 clashing_seam xs f ys = at f.is_extension refl
   where
     at : (e : Bool) → f.is_extension ≡ e
-        → (not e && (is_clash (meaning_of f.json_name (xs ++ f ∷ ys)) || is_type_key f.json_name))
+        → (not e && (is_clash (use_by_names f.json_name (xs ++ f ∷ ys)) || is_type_key f.json_name))
         ≡ (not e && (((is_shared (xs ++ f ∷ ys) f.json_name || is_type_key f.json_name) || is_of_extension (xs ++ f ∷ ys) f.json_name)
         || (true && is_name_of_another (xs ++ f ∷ ys) f)))
     at true e = refl
@@ -346,10 +346,10 @@ drop_here [] i x h is = absurd (omega arith)
 drop_here (y ∷ xs) zero x h is = ap (λ z. z ∷ xs) (sym is)
 drop_here (y ∷ xs) (suc i) x h is = drop_here xs i x (omega arith) is
 
-clashing_is : (fs : List FieldShape) (i : ℕ) (f : FieldShape) → i < length fs → f ≡ get_or fs i f → is_clashing (meaning_of f.json_name fs) f ≡ clashes ByAnyName fs f
+clashing_is : (fs : List FieldShape) (i : ℕ) (f : FieldShape) → i < length fs → f ≡ get_or fs i f → is_clashing (use_by_names f.json_name fs) f ≡ clashes ByAnyName fs f
 clashing_is fs i f within is =
     let e = split_at fs i f within is in
-    ap (λ xs. is_clashing (meaning_of f.json_name xs) f) e ∙ clashing_seam (take i fs) f (drop (suc i) fs) ∙ ap (λ xs. clashes ByAnyName xs f) (sym e)
+    ap (λ xs. is_clashing (use_by_names f.json_name xs) f) e ∙ clashing_seam (take i fs) f (drop (suc i) fs) ∙ ap (λ xs. clashes ByAnyName xs f) (sym e)
 
 -- the least key at fault of these fields
 abbrev pub least_in : List FieldShape → List FieldShape → Option (List ℕ)
@@ -365,7 +365,7 @@ least_cons fs g gs = at (clashes ByAnyName fs g)
 
 -- the least key with the field before
 pub least_more : (fs : List FieldShape) (left i : ℕ) (f : FieldShape) (u : List ℕ → Option KeyUse) (old new : Option (List ℕ)) → left ≡ i + 1 → i < length fs
-    → f ≡ get_or fs i f → ((q : List ℕ) → u q ≡ meaning_of q fs) → old ≡ least_in fs (drop left fs)
+    → f ≡ get_or fs i f → ((q : List ℕ) → u q ≡ use_by_names q fs) → old ≡ least_in fs (drop left fs)
     → new ≡ least_with (is_clashing (u f.json_name) f) f.json_name old → new ≡ least_in fs (drop i fs)
 least_more fs left i f u old new next within is uses so step =
     let after : left ≡ suc i = omega arith in

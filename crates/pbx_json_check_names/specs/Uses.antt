@@ -43,8 +43,8 @@ named_by q [] u = u
 named_by q (f ∷ fs) u = named_by q fs (named q f u)
 
 -- what a key is used for by these fields, as their JSON name and as their name
-abbrev pub meaning_of : List ℕ → List FieldShape → Option KeyUse
-meaning_of q fs = named_by q fs (used_by q fs None)
+abbrev pub use_by_names : List ℕ → List FieldShape → Option KeyUse
+use_by_names q fs = named_by q fs (used_by q fs None)
 
 -- the key has two meanings
 abbrev pub is_clash : Option KeyUse → Bool

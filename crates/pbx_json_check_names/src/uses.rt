@@ -1,7 +1,7 @@
 ghost use Rattle.std.specs.Prelude.{◌≡◌, ℕ, List as ListOf, Some, None, cond, IfOk, OnOk};
 ghost use Rattle.std.specs.BTreeMap.{get_by_text};
 ghost use Rattle.std.specs.Str.{bytes_eq};
-ghost use Rattle.pbx_json_check_names.specs.Uses.{with_use as with_use_of, used_by, named, named_by, meaning_of, is_another as is_another_of};
+ghost use Rattle.pbx_json_check_names.specs.Uses.{with_use as with_use_of, used_by, named, named_by, use_by_names, is_another as is_another_of};
 ghost use Rattle.pbx_json_check_names.specs.Uses.{is_of_another as is_of_another_of, is_clash as is_clash_of, is_clashing as is_clashing_of};
 
 use pbx_content::FieldShape;
@@ -134,7 +134,7 @@ pub(crate) fn meanings_of(
     alloc: Global,
     fields: &[FieldShape],
 ) -> Result<BTreeMap<String, KeyUse>, NoMemory>
-    ensures { IfOk result (λ uses. (q : ListOf ℕ) → get_by_text uses q ≡ meaning_of q fields.now) }
+    ensures { IfOk result (λ uses. (q : ListOf ℕ) → get_by_text uses q ≡ use_by_names q fields.now) }
 {
     let mut uses = uses_of(alloc, fields)?;
     add_names(alloc, &mut uses, fields)?;

@@ -63,14 +63,14 @@ CanonicalStands =
     → Stands shape t allow tree c → canonical shape t c o ≡ Some d → Stands shape t false d c
 
 -- Of a content that some tree stands for as a message of the shape's, each tree that is written of it, under any options, stands for it too.
-abbrev pub WritesBack : Shape → Type 0
-WritesBack shape =
+abbrev pub EachWrittenStands : Shape → Type 0
+EachWrittenStands shape =
     (t : ℕ) (allow : Bool) (tree d : Data) (c : Content) (o : SerializeOptions)
     → HasTexts tree → Stands shape t allow tree c → canonical shape t c o ≡ Some d → Stands shape t false d c
 
 -- The same of each shape where moreover no field's JSON name is the name of another field.
 abbrev pub WrittenStands : Type 0
-WrittenStands = (shape : Shape) → IsProper shape → IsWellNamed shape → name_fault ByAnyName shape ≡ None → WritesBack shape
+WrittenStands = (shape : Shape) → IsProper shape → IsWellNamed shape → name_fault ByAnyName shape ≡ None → EachWrittenStands shape
 
 -- A content that some tree stands for has a tree under any options, where no key has two meanings under them, well-known names have their shapes, and
 -- the payloads of its `Any` messages are read again.

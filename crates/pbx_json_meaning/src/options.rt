@@ -12,7 +12,7 @@ pub struct SerializeOptions {
     pub use_enum_numbers: bool,
     /// Whether fields are written under their names in the source.
     pub use_proto_field_name: bool,
-    /// Whether fields without presence are left out where they have no value.
+    /// Whether fields without presence are left out where they have no value; floats and extensions are left out in any case.
     pub skip_default_fields: bool,
 }
 
@@ -59,7 +59,7 @@ impl SerializeOptions {
         }
     }
 
-    /// Whether fields without presence are left out where they have no value.
+    /// Whether fields without presence are left out where they have no value; floats and extensions are left out in any case.
     pub fn skip_default_fields(self, yes: bool) -> SerializeOptions
         ensures { result ≡ record self { skip_default_fields = yes } }
     {

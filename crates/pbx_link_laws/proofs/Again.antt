@@ -21,7 +21,7 @@ use Rattle.pbx_link_rules.proofs.First.{rule_16}
 use Rattle.pbx_link_rules.proofs.RulesKept.{keeps_each}
 use Rattle.pbx_link_rules.proofs.Lists.{neither, none_where}
 use Rattle.pbx_link_rules.specs.Pool.{IsLinked, ArePooled}
-use Rattle.pbx_link_laws.specs.ContentLaws.{LinkedIsLinked, SettledIsLinked, PooledAreLinked}
+use Rattle.pbx_link_laws.specs.ContentLaws.{LinkedIsLinked, SettledIsLinked, PooledAreLinked, AreLinked, PoolIsLinked}
 use Rattle.pbx_link_laws.proofs.Linking.{linking_is_of_contents}
 use Rattle.pbx_link_laws.proofs.Lists.{halves}
 use Rattle.pbx_link_laws.proofs.Rules.{Places, both, all_of}
@@ -133,3 +133,11 @@ linked_at start (k ∷ before) after g h =
 
 pub pooled_are_linked : PooledAreLinked
 pooled_are_linked before after g h = linked_at [] before after g h
+
+are_linked : (before files : List FileDescriptorProto) → ArePooled before files → AreLinked before files
+unfolding ArePooled AreLinked
+are_linked before [] h = tt
+are_linked before (g ∷ gs) h = (linked_is_linked before h.0.0 g h.0.1, are_linked (before ++ g ∷ []) gs h.1)
+
+pub pool_is_linked : PoolIsLinked
+pool_is_linked files h = are_linked [] files h

@@ -31,3 +31,12 @@ SettledIsLinked =
 -- Each file of a pool is linked to itself among those before it.
 abbrev pub PooledAreLinked : Type 0
 PooledAreLinked = (before after : List FileDescriptorProto) (g : FileDescriptorProto) → ArePooled [] (before ++ g ∷ after) → IsLinked before g g
+
+-- each of these files is linked to itself among those before it
+unfoldable pub AreLinked : List FileDescriptorProto → List FileDescriptorProto → Type 0
+AreLinked before [] = Unit {0}
+AreLinked before (g ∷ gs) = IsLinked before g g × AreLinked (before ++ g ∷ []) gs
+
+-- The files of a pool are.
+abbrev pub PoolIsLinked : Type 0
+PoolIsLinked = (files : List FileDescriptorProto) → ArePooled [] files → AreLinked [] files

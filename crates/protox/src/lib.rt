@@ -1,5 +1,5 @@
 //! protox: compiles Protocol Buffers source files with all that they import into descriptor sets, and carries messages
-//! from JSON to the wire format and to canonical JSON.
+//! from JSON to the wire format and to JSON under options, by default the canonical one.
 //!
 //! The public items of the other crates stand in modules of the crates' names, since two crates have a `Value`; `file` has
 //! those of files, resolvers and errors together.
@@ -20,7 +20,8 @@ pub use protox_file;
 pub use protox_file as file;
 pub use protox_file::Error;
 pub use protox_io;
-pub use protox_run::{Ran, Refusal, done_is_determined, run};
+pub use protox_run::{Ran, Refusal, done_is_determined, run, stopped_run_leaves};
 pub use protox_transcode::{
-    Attempt, TopError, Transcoded, compile_and_transcode, transcoded_is_determined,
+    Attempt, TopError, Transcoded, compile_and_transcode, refused_is_determined,
+    transcoded_is_determined,
 };

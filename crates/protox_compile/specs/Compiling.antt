@@ -1,11 +1,14 @@
 -- What compiling paths at once comes to.
-use Rattle.std.specs.Prelude.{◌≡◌, ◌⊎◌, [], ℕ, List, true}
+use Rattle.std.specs.Prelude.{◌≡◌, ◌⊎◌, [], ℕ, List, length, true}
 use Rattle.pbx_desc_records.specs.declared.file.FileDescriptorSet.{FileDescriptorSet}
+use Rattle.pbx_link_laws.specs.ContentLaws.{AreLinked}
 use Rattle.protox_file_error.specs.declared.error.ErrorKind.{ErrorKind}
 use Rattle.protox_file_error.specs.declared.error.ErrorKind.TheVariants.{NoMemory}
 use Rattle.protox_file_sources.specs.Library.{Library}
 use Rattle.protox_file_sources.specs.Told.{ByLookups}
-use Rattle.protox_compile_walk.specs.Walk.{Done}
+use Rattle.protox_compile_walk.specs.Walk.{Done, records}
+use Rattle.protox_compile_walk.specs.Compiled.{IsOrdered}
+use Rattle.protox_compile_walk.specs.Opens.{OpensTimes, GrowsWithin}
 use Rattle.protox_compile_walk.specs.Opening.{Accepted, closure}
 use Rattle.protox_compile_walk.specs.Closures.{StopsAt}
 use Rattle.protox_compile_walk.specs.Refusals.{HasOpeningsCause}
@@ -30,6 +33,13 @@ StopsWalk library paths error =
 abbrev pub StopsCompiling : Library → List (List ℕ) → ErrorKind → Type 0
 StopsCompiling library paths error = (error ≡ NoMemory) ⊎ StopsWalk library paths error
 
--- the same over every resolver, whose faults have this cause
+-- What opening so many paths leaves over every resolver: files in order, each once and behind its imports, and each linked to itself among those before it.
+pub record AreCompiled (count : ℕ) (done : List Done) : Type 0 where
+  pub opened : OpensTimes count [] done
+  pub ordered : IsOrdered [] done
+  pub linked : AreLinked [] (records done)
+
+-- why there is no such set over every resolver, whose faults have this cause: a path is refused, those before it being opened
 abbrev pub HasCompilingCause : List (List ℕ) → (ErrorKind → Type 0) → ErrorKind → Type 0
-HasCompilingCause paths fault error = (error ≡ NoMemory) ⊎ ((done : List Done) × HasOpeningsCause most_files paths done fault error)
+HasCompilingCause paths fault error =
+    (error ≡ NoMemory) ⊎ ((done : List Done) × GrowsWithin (length paths) [] done × HasOpeningsCause most_files paths done fault error)

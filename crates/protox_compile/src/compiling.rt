@@ -1,18 +1,18 @@
 //! Compiling the files at paths at once.
 
-ghost use Rattle.std.specs.Prelude.{◌≡◌, ◌++◌, [], IsTrue, IfOk, IfErr, OnOk, Some, List as ListOf};
-ghost use Rattle.pbx_link_rules.specs.Pool.{ArePooled};
+ghost use Rattle.std.specs.Prelude.{◌≡◌, ◌++◌, [], length, IsTrue, IfOk, IfErr, OnOk, Some, List as ListOf};
 ghost use Rattle.pbx_wkt_files.specs.Files.{wkt_files};
 ghost use Rattle.protox_file_sources.specs.Causes.{FaultCause};
 ghost use Rattle.protox_file.specs.Standard.{standard};
-ghost use Rattle.protox_compile_walk.specs.Walk.{Done, records};
-ghost use Rattle.protox_compile_walk.specs.Compiled.{IsOrdered};
+ghost use Rattle.protox_compile_walk.specs.Walk.{Done};
+ghost use Rattle.protox_compile_walk.specs.Opens.{OpensTimes};
 ghost use Rattle.protox_compile.specs.State.{KeepsFiles, KeepsSettings, fresh};
 ghost use Rattle.protox_compile.specs.Repeats.{index_if, is_again, repeats};
-ghost use Rattle.protox_compile.specs.Compiling.{Compiles, StopsCompiling, HasCompilingCause, whole_set};
+ghost use Rattle.protox_compile.specs.Compiling.{AreCompiled, Compiles, StopsCompiling, HasCompilingCause, whole_set};
 
 use crate::compiler::Compiler;
 use pbx_desc_records::FileDescriptorSet;
+use pbx_link_laws::linking_ends;
 use pbx_wire::{List, NoMemory, Texts};
 use protox_compile_walk::Opened;
 use protox_file::StandardResolver;
@@ -60,6 +60,7 @@ fn open_each<R: FileResolver>(
     ensures repeated { IsTrue (R.library compiler.old.resolver).tells →
         OnOk result (repeated.new ≡ repeats (R.library compiler.old.resolver).resolves files.now) }
     ensures err { IsTrue (R.library compiler.old.resolver).tells → IfErr result (StopsCompiling (R.library compiler.old.resolver) files.now) }
+    ensures opens { OnOk result (OpensTimes (length files.now) [] compiler.new.done) }
     ensures cause { IfErr result (HasCompilingCause files.now
         (FaultCause (R.library compiler.old.resolver) (R.count compiler.old.resolver) (R.count compiler.new.resolver))) }
     ensures keeps { KeepsSettings R.library R.count compiler.old compiler.new }
@@ -84,6 +85,9 @@ pub fn open_all<R: FileResolver>(
     ensures ok { IsTrue (R.library resolver).tells → IfOk result (λ o. Compiles (R.library resolver) files.now (λ done. o.compiler.done ≡ done)) }
     ensures repeated { IsTrue (R.library resolver).tells → IfOk result (λ o. o.repeated ≡ repeats (R.library resolver).resolves files.now) }
     ensures err { IsTrue (R.library resolver).tells → IfErr result (λ e. StopsCompiling (R.library resolver) files.now e.1) }
+
+    // Over every resolver, each path adds files as imports and then marks one of all.
+    ensures opens { IfOk result (λ o. OpensTimes (length files.now) [] o.compiler.done) }
     ensures cause { IfErr result (λ e. HasCompilingCause files.now (FaultCause (R.library resolver) (R.count resolver) (R.count e.0)) e.1) }
     ensures keeps { IfOk result (λ o. KeepsFiles R.library R.count resolver o.compiler.resolver) }
     ensures back { IfErr result (λ e. KeepsFiles R.library R.count resolver e.0) }
@@ -107,10 +111,11 @@ fn compile_with<R: FileResolver>(
 ) -> (R, Result<FileDescriptorSet, Error>)
     ensures ok { IsTrue (R.library resolver).tells → IfOk result.1 (λ set. Compiles (R.library resolver) files.now (λ done. set ≡ whole_set done)) }
     ensures err { IsTrue (R.library resolver).tells → IfErr result.1 (StopsCompiling (R.library resolver) files.now) }
-    ensures ordered { IfOk result.1 (λ set. (done : ListOf Done) × IsOrdered [] done × ArePooled [] (records done) × (set ≡ whole_set done)) }
+    ensures ordered { IfOk result.1 (λ set. (done : ListOf Done) × AreCompiled (length files.now) done × (set ≡ whole_set done)) }
     ensures cause { IfErr result.1 (HasCompilingCause files.now (FaultCause (R.library resolver) (R.count resolver) (R.count result.0))) }
     ensures keeps { KeepsFiles R.library R.count resolver result.0 }
 {
+    linking_ends();
     let mut compiler = match open_all(alloc, resolver, files) {
         Ok(opened) => opened.compiler,
         Err((resolver, error)) => return (resolver, Err(error)),
@@ -137,8 +142,8 @@ pub fn compile<D: Disk>(alloc: Global, disk: D, files: &Texts, includes: &Texts)
     ensures err { IsTrue (D.volume disk).tells → IfErr result.result
         (StopsCompiling (standard wkt_files (D.volume disk) includes.now) files.now) }
 
-    // Over every disk, the files stand in order, each once and behind its imports, and each is linked among those before it.
-    ensures ordered { IfOk result.result (λ set. (done : ListOf Done) × IsOrdered [] done × ArePooled [] (records done) × (set ≡ whole_set done)) }
+    // Over every disk, the files stand in order, each once and behind its imports, and each is linked to itself among those before it.
+    ensures ordered { IfOk result.result (λ set. (done : ListOf Done) × AreCompiled (length files.now) done × (set ≡ whole_set done)) }
     ensures cause { IfErr result.result (HasCompilingCause files.now
         (FaultCause (standard wkt_files (D.volume disk) includes.now) (D.count disk) (D.count result.disk))) }
     ensures keeps { KeepsFiles D.volume D.count disk result.disk }

@@ -6,7 +6,7 @@ use Rattle.std.specs.List.{list_any}
 use Rattle.std.specs.Map.{lookup}
 use Rattle.std.specs.Str.{bytes_eq}
 use Rattle.protox_file_error.specs.declared.error.ErrorKind.{ErrorKind}
-use Rattle.protox_file_error.specs.declared.error.ErrorKind.TheVariants.{OpenFile, Custom, NoMemory}
+use Rattle.protox_file_error.specs.declared.error.ErrorKind.TheVariants.{Custom, NoMemory}
 use Rattle.protox_file_sources.specs.declared.memory.Put.{Put}
 use Rattle.protox_file_sources.specs.declared.memory.Put.TheVariants.{Source, File}
 use Rattle.protox_file_sources.specs.Library.{Library}
@@ -66,9 +66,3 @@ abbrev pub IsFault : Result Entry ErrorKind → Type 0
 IsFault (Err (Custom text is_io)) = (text ≡ codes "failed to load file!") × (is_io ≡ true)
 IsFault (Err NoMemory) = Unit {0}
 IsFault answer = ⊥
-
--- no answer of a fault
-abbrev pub NoFault : Result Entry ErrorKind → Type 0
-NoFault (Err (Custom text is_io)) = ⊥
-NoFault (Err (OpenFile name path fault)) = ⊥
-NoFault answer = Unit {0}

@@ -6,7 +6,7 @@ ghost use Rattle.std.specs.Str.{bytes_eq};
 ghost use Rattle.protox_io.specs.Count.{Rose, Later, raised, counted};
 ghost use Rattle.protox_file_sources.specs.Library.{never};
 ghost use Rattle.protox_file_sources.specs.Causes.{HasCause, IsTold};
-ghost use Rattle.protox_file_sources.specs.Memory.{library, by_text, told_put, stored_as, named_by, is_listed, IsFault, NoFault};
+ghost use Rattle.protox_file_sources.specs.Memory.{library, by_text, told_put, stored_as, named_by, is_listed, IsFault};
 ghost use Rattle.protox_io.specs.FileNames.{name_of};
 ghost use Rattle.protox_file_sources.specs.Told.{Absent, Recorded, told_source};
 
@@ -211,7 +211,7 @@ impl FileResolver for MemoryResolver {
     fn open_file(&mut self, alloc: Global, name: &str) -> Result<File, Error>
         ensures told { IsTold name.now (stored_as self.old.files name.now) result }
         ensures listed { IsTrue (is_listed self.old) → IsFault result }
-        ensures unlisted { IsFalse (is_listed self.old) → NoFault result }
+        ensures unlisted { IsFalse (is_listed self.old) → IfErr result (HasCause never name.now ⊥) }
         ensures calls { self.new.calls ≡ raised self.old.calls }
         ensures counts { self.new.faults ≡ (if is_listed self.old then raised self.old.faults else self.old.faults) }
         ensures keeps_listed { self.new.listed ≡ self.old.listed }

@@ -11,6 +11,7 @@ use Rattle.pbx_link_meaning.specs.Shapes.{shape_of, place_of}
 use Rattle.pbx_wkt_files.specs.Files.{wkt_files}
 use Rattle.protox_io.specs.Count.{Count, Rose}
 use Rattle.protox_io.specs.Disk.{Volume, untold}
+use Rattle.protox_file_error.specs.Errors.{IsWhole}
 use Rattle.protox_file_error.specs.declared.error.ErrorKind.{ErrorKind}
 use Rattle.protox_file_error.specs.declared.error.ErrorKind.TheVariants as kinds
 use Rattle.protox_file_sources.specs.Causes.{IsNamedFault, FaultCause}
@@ -32,7 +33,7 @@ use Rattle.protox_transcode.specs.declared.error.TopError.{TopError}
 use Rattle.protox_transcode.specs.declared.error.TopError.TheVariants as top
 use Rattle.protox_compile.proofs.Standard.{of_counts}
 use Rattle.protox_transcode.proofs.Determined.{no_fault}
-use Rattle.protox_transcode.proofs.Judged.{walk_caused}
+use Rattle.protox_transcode.proofs.Judged.{compiling_caused}
 use Rattle.protox_generate.specs.Summary.{RefusesNumber}
 use Rattle.protox_words.specs.Words.{Args, folders}
 use Rattle.protox_run.specs.Class.{limit, json_of, library_of, options_of, Write, Refusing, write_to, Ending, Transcoded, RefusesSet, set_of, Task, Generate, Transcode, Compile, task, ComesTo, Judges, is_transcode, reads_input, repeated_by, repeated_of, resolves_of}
@@ -188,9 +189,8 @@ set_refused args library error h = at (is_memory error) refl
     at true e = tt
     at false e = elim h [ inl memory ↦ (let no : true ≡ false = sym (ap is_memory memory) ∙ e in absurd (cc)) | inr walk ↦ inl walk ]
 
-pub set_caused : (paths : List (List ℕ)) (fault : ErrorKind → Type 0) (error : ErrorKind) → HasCompilingCause paths fault error → IsCaused fault (of_error error)
-set_caused paths fault error (inl memory) = let P : ErrorKind → Type 0 = λ e. IsCaused fault (of_error e) in subst P (sym memory) tt
-set_caused paths fault error (inr h) = walk_caused most_files h.1.0 h.0 fault error h.1.2
+pub set_caused : (paths : List (List ℕ)) (fault : ErrorKind → Type 0) (error : ErrorKind) → IsWhole error → HasCompilingCause paths fault error → IsCaused fault (of_error error)
+set_caused paths fault error w h = compiling_caused paths fault error w h
 
 -- an error of the set
 pub unencodable_refused : (args : Args) (library : Library) (done : List Done) (error : ErrorKind) → ByLookups library.files (λ ls. closure ls library.resolves most_files args.files [] ≡ (done, Accepted))
@@ -273,8 +273,8 @@ repeats_told args disk = repeats_alike (library_of args disk).resolves (resolves
 caused_then : (f g : ErrorKind → Type 0) (error : TopError) → ((e : ErrorKind) → f e → g e) → IsCaused f error → IsCaused g error
 caused_then f g (top.File (kinds.OpenFile name path words)) k h = k _ h
 caused_then f g (top.File (kinds.Custom text is_io)) k h = k _ h
-caused_then f g (top.File (kinds.Parse x)) k h = tt
-caused_then f g (top.File (kinds.Check x)) k h = tt
+caused_then f g (top.File (kinds.Parse x)) k h = h
+caused_then f g (top.File (kinds.Check x)) k h = h
 caused_then f g (top.File (kinds.FileTooLarge name)) k h = tt
 caused_then f g (top.File (kinds.FileInvalidUtf8 name)) k h = tt
 caused_then f g (top.File (kinds.FileNotFound name)) k h = tt

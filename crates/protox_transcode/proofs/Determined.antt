@@ -30,16 +30,16 @@ use Rattle.protox_transcode.specs.declared.error.TopError.TheVariants as top
 
 -- ---- a refused path keeps the paths from being accepted
 
-abbrev IsStopped : List Done × Ended → Type 0
+abbrev pub IsStopped : List Done × Ended → Type 0
 IsStopped (done, Accepted) = ⊥
 IsStopped (done, NotIncluded) = Unit {0}
 IsStopped (done, Refused (NotRead name)) = ⊥
 IsStopped (done, Refused fault) = Unit {0}
 
-stopped_by : (o p : List Done × Ended) → o ≡ p → IsStopped p → IsStopped o
+pub stopped_by : (o p : List Done × Ended) → o ≡ p → IsStopped p → IsStopped o
 stopped_by o p e h = let P : List Done × Ended → Type 0 = λ x. IsStopped x in subst P (sym e) h
 
-stopped : (path : List ℕ) (root : Option (List ℕ × Option (List ℕ))) (files : (List ℕ → Lookup) → List Done) (o : (List ℕ → Lookup) → List Done × Ended) (lookups : List ℕ → Lookup) (later : List Done) (error : ErrorKind) → is_fault error ≡ false → RefusesWith path root files o lookups later error → IsStopped (o lookups)
+pub stopped : (path : List ℕ) (root : Option (List ℕ × Option (List ℕ))) (files : (List ℕ → Lookup) → List Done) (o : (List ℕ → Lookup) → List Done × Ended) (lookups : List ℕ → Lookup) (later : List Done) (error : ErrorKind) → is_fault error ≡ false → RefusesWith path root files o lookups later error → IsStopped (o lookups)
 stopped path root files o lookups later (kinds.Parse (parse.Syntax file line column expected found)) f h = stopped_by (o lookups) _ h tt
 stopped path root files o lookups later (kinds.Parse parse.NoMemory) f h = absurd h
 stopped path root files o lookups later (kinds.Check e) f h = stopped_by (o lookups) _ h.opened_is tt
@@ -64,7 +64,7 @@ stays (done, Accepted) rest s = absurd s
 stays (done, NotIncluded) rest s = refl
 stays (done, Refused fault) rest s = refl
 
-decided : (o : List Done × Ended) → IsStopped o → IsDecided o.1
+pub decided : (o : List Done × Ended) → IsStopped o → IsDecided o.1
 decided (done, Accepted) s = absurd s
 decided (done, NotIncluded) s = tt
 decided (done, Refused (NotRead name)) s = absurd s
@@ -81,13 +81,16 @@ module _ (lookups : List ℕ → Lookup) (resolves : List ℕ → Option (List �
       at later (done, Refused fault) = refl
 
   -- the paths come to what the refused one comes to
+  pub stopped_whole : (paths : List (List ℕ)) (later : List Done) (error : ErrorKind) → is_fault error ≡ false → (s : StopsAt lookups resolves n paths [] later error) → closure lookups resolves n paths [] ≡ opening lookups resolves n s.path s.middle
+  stopped_whole paths later error f s =
+      ap (λ ps. closure lookups resolves n ps []) s.split ∙ closure_of_both s.before (s.path ∷ s.after) [] ∙ ap (λ x. after_opening x (closure lookups resolves n (s.path ∷ s.after))) s.accepted
+      ∙ stays (opening lookups resolves n s.path s.middle) (closure lookups resolves n s.after)
+      (stopped s.path (root_of resolves s.path) (λ ls. grown ls n (root_of resolves s.path) s.middle) (λ ls. opening ls resolves n s.path s.middle) lookups later error f s.refused.refused)
+
   stopped_all : (paths : List (List ℕ)) (later : List Done) (error : ErrorKind) → is_fault error ≡ false → StopsAt lookups resolves n paths [] later error → IsStopped (closure lookups resolves n paths [])
   stopped_all paths later error f s =
-      let o : IsStopped (opening lookups resolves n s.path s.middle) = stopped s.path (root_of resolves s.path) (λ ls. grown ls n (root_of resolves s.path) s.middle) (λ ls. opening ls resolves n s.path s.middle) lookups later error f s.refused.refused in
-      let whole : closure lookups resolves n paths [] ≡ opening lookups resolves n s.path s.middle =
-      ap (λ ps. closure lookups resolves n ps []) s.split ∙ closure_of_both s.before (s.path ∷ s.after) [] ∙ ap (λ x. after_opening x (closure lookups resolves n (s.path ∷ s.after))) s.accepted
-      ∙ stays (opening lookups resolves n s.path s.middle) (closure lookups resolves n s.after) o in
-      stopped_by (closure lookups resolves n paths []) (opening lookups resolves n s.path s.middle) whole o
+      stopped_by (closure lookups resolves n paths []) (opening lookups resolves n s.path s.middle) (stopped_whole paths later error f s)
+      (stopped s.path (root_of resolves s.path) (λ ls. grown ls n (root_of resolves s.path) s.middle) (λ ls. opening ls resolves n s.path s.middle) lookups later error f s.refused.refused)
 
 pub accepted_decided : (o : List Done × Ended) (files : List Done) → o ≡ (files, Accepted) → IsDecided o.1
 accepted_decided o files e = let P : List Done × Ended → Type 0 = λ x. IsDecided x.1 in subst P (sym e) tt
@@ -140,7 +143,7 @@ decodable files kinds.NoMemory fit h = absurd h
 
 -- a content stands for the tree, so no error tells that none does
 -- two facts of the type of one name are of one type
-both_of_type : (name : List ℕ) (files : List FileDescriptorProto) (P Q : Shape → ℕ → Type 0) → ForType name files P → ForType name files Q
+pub both_of_type : (name : List ℕ) (files : List FileDescriptorProto) (P Q : Shape → ℕ → Type 0) → ForType name files P → ForType name files Q
     → (t : ℕ) × P (shape_of files) t × Q (shape_of files) t
 both_of_type name files P Q h k =
     let R : Described DescriptorProto → Type 0 = λ d. Q (shape_of files) (place_of d) in
@@ -169,7 +172,7 @@ not_refused name tree o files set wire written top.TooDeep k h r =
 not_refused name tree o files set wire written top.NoMemory k h r = absurd (cc)
 
 -- the linked files are the same, by whatever look-ups
-among : ClosesOnce → (told : List ℕ → Told) (resolves : List ℕ → Option (List ℕ)) (paths : List (List ℕ)) (P Q : List FileDescriptorProto → Type 0) (h : ForFiles told resolves paths P) → ForFiles told resolves paths Q → Q (records h.2.0)
+pub among : ClosesOnce → (told : List ℕ → Told) (resolves : List ℕ → Option (List ℕ)) (paths : List (List ℕ)) (P Q : List FileDescriptorProto → Type 0) (h : ForFiles told resolves paths P) → ForFiles told resolves paths Q → Q (records h.2.0)
 among once told resolves paths P Q h k =
     let same : closure h.0 resolves most_files paths [] ≡ closure k.0 resolves most_files paths [] =
     once told resolves most_files paths [] h.0 k.0 h.1 k.1 (accepted_decided (closure h.0 resolves most_files paths []) h.2.0 h.2.1) (accepted_decided (closure k.0 resolves most_files paths []) k.2.0 k.2.1) in

@@ -1,20 +1,19 @@
 -- From the answers of the parts to what the whole run comes to.
-use Rattle.std.proofs.Common.{◌≡◌, [], Bool, true, false, inl, inr, if◌then◌else◌, Result, Ok, Err, IfOk, IfErr, MatchOption, ℕ, List, Option, Some, ap, refl, ◌∙◌, sym, subst}
+use Rattle.std.proofs.Common.{◌≡◌, [], Bool, true, false, inl, inr, if◌then◌else◌, Result, Ok, Err, IfOk, IfErr, MatchOption, ℕ, List, length, Option, Some, ap, refl, ◌∙◌, sym, subst}
 use Rattle.serde_json.specs.Data.{Data}
 use Rattle.pbx_desc_records.specs.declared.file.FileDescriptorProto.{FileDescriptorProto}
 use Rattle.pbx_json_meaning.specs.declared.options.SerializeOptions.{SerializeOptions}
-use Rattle.pbx_link_rules.specs.Pool.{ArePooled}
 use Rattle.protox_file_sources.specs.Library.{Library}
 use Rattle.protox_file_sources.specs.Told.{Told, ByLookups}
+use Rattle.protox_file_error.specs.Errors.{IsWhole}
 use Rattle.protox_file_error.specs.declared.error.ErrorKind.{ErrorKind}
 use Rattle.protox_file_error.specs.declared.error.ErrorKind.TheVariants as kinds
 use Rattle.protox_compile_walk.specs.Walk.{Done, records}
 use Rattle.protox_compile_walk.specs.Opening.{Accepted, closure}
-use Rattle.protox_compile_walk.specs.Compiled.{IsOrdered}
 use Rattle.protox_compile_walk.specs.Refusals.{HasOpeningCause}
 use Rattle.protox_compile.specs.State.{most_files}
 use Rattle.protox_compile.specs.Sets.{IsUndecodable}
-use Rattle.protox_compile.specs.Compiling.{Compiles, StopsCompiling, HasCompilingCause}
+use Rattle.protox_compile.specs.Compiling.{AreCompiled, Compiles, StopsCompiling, HasCompilingCause}
 use Rattle.protox_transcode.specs.Top.{ForFiles, IsCaused, IsJudged, IsRefused, IsStopped, IsTranscoded, Refuses, is_memory, of_error}
 use Rattle.protox_transcode.specs.declared.error.TopError.{TopError}
 use Rattle.protox_transcode.specs.declared.error.TopError.TheVariants as top
@@ -72,35 +71,35 @@ module _ (told : List ℕ → Told) (resolves : List ℕ → Option (List ℕ)) 
   pub all_given : (name : List ℕ) (tree : Data) (o : SerializeOptions) (set wire : List ℕ) (written : Data) → IsTranscoded name tree o files set wire written → ForFiles told resolves paths (λ fs. IsTranscoded name tree o fs set wire written)
   all_given name tree o set wire written h = for_files (λ fs. IsTranscoded name tree o fs set wire written) h
 
--- the files of the pool are those that the compiler holds, in order and linked
-pub all_pooled : (name : List ℕ) (tree : Data) (o : SerializeOptions) (later : List Done) (files : List FileDescriptorProto) (set wire : List ℕ) (written : Data) → files ≡ records later → IsOrdered [] later → ArePooled [] (records later)
-    → IsTranscoded name tree o files set wire written → (dones : List Done) × IsOrdered [] dones × ArePooled [] (records dones) × IsTranscoded name tree o (records dones) set wire written
-all_pooled name tree o later files set wire written e ordered pooled h =
-    (later, ordered, pooled, (let P : List FileDescriptorProto → Type 0 = λ fs. IsTranscoded name tree o fs set wire written in subst P e h))
+-- the files of the pool are those that opening the paths leaves
+pub all_pooled : (name : List ℕ) (tree : Data) (o : SerializeOptions) (count : ℕ) (later : List Done) (files : List FileDescriptorProto) (set wire : List ℕ) (written : Data) → files ≡ records later → AreCompiled count later
+    → IsTranscoded name tree o files set wire written → (dones : List Done) × AreCompiled count dones × IsTranscoded name tree o (records dones) set wire written
+all_pooled name tree o count later files set wire written e compiled h =
+    (later, compiled, (let P : List FileDescriptorProto → Type 0 = λ fs. IsTranscoded name tree o fs set wire written in subst P e h))
 
 -- the cause that an error of a walk has over every resolver
-pub walk_caused : (most : ℕ) (path : List ℕ) (later : List Done) (fault : ErrorKind → Type 0) (error : ErrorKind) → HasOpeningCause most path later fault error → IsCaused fault (of_error error)
-walk_caused most path later fault (kinds.Parse e) h = tt
-walk_caused most path later fault (kinds.Check e) h = tt
-walk_caused most path later fault (kinds.OpenFile name p words) h = h
-walk_caused most path later fault (kinds.FileTooLarge name) h = tt
-walk_caused most path later fault (kinds.FileInvalidUtf8 name) h = tt
-walk_caused most path later fault (kinds.FileNotFound name) h = tt
-walk_caused most path later fault (kinds.ImportNotFound file index place name) h = tt
-walk_caused most path later fault (kinds.CircularImport name cycle) h = tt
-walk_caused most path later fault (kinds.FileNotIncluded p) h = tt
-walk_caused most path later fault (kinds.FileShadowed name asked shadow) h = tt
-walk_caused most path later fault (kinds.DuplicateImport file index place name) h = tt
-walk_caused most path later fault (kinds.ImportEscapes file index place name) h = tt
-walk_caused most path later fault (kinds.Custom text is_io) h = h
-walk_caused most path later fault (kinds.NameMismatch asked declared) h = tt
-walk_caused most path later fault (kinds.FileLimit n) h = tt
-walk_caused most path later fault (kinds.Undecodable file) h = tt
-walk_caused most path later fault kinds.NoMemory h = tt
+pub walk_caused : (most : ℕ) (path : List ℕ) (later : List Done) (fault : ErrorKind → Type 0) (error : ErrorKind) → IsWhole error → HasOpeningCause most path later fault error → IsCaused fault (of_error error)
+walk_caused most path later fault (kinds.Parse e) w h = w
+walk_caused most path later fault (kinds.Check e) w h = w
+walk_caused most path later fault (kinds.OpenFile name p words) w h = h
+walk_caused most path later fault (kinds.FileTooLarge name) w h = tt
+walk_caused most path later fault (kinds.FileInvalidUtf8 name) w h = tt
+walk_caused most path later fault (kinds.FileNotFound name) w h = tt
+walk_caused most path later fault (kinds.ImportNotFound file index place name) w h = tt
+walk_caused most path later fault (kinds.CircularImport name cycle) w h = tt
+walk_caused most path later fault (kinds.FileNotIncluded p) w h = tt
+walk_caused most path later fault (kinds.FileShadowed name asked shadow) w h = tt
+walk_caused most path later fault (kinds.DuplicateImport file index place name) w h = tt
+walk_caused most path later fault (kinds.ImportEscapes file index place name) w h = tt
+walk_caused most path later fault (kinds.Custom text is_io) w h = h
+walk_caused most path later fault (kinds.NameMismatch asked declared) w h = tt
+walk_caused most path later fault (kinds.FileLimit n) w h = tt
+walk_caused most path later fault (kinds.Undecodable file) w h = tt
+walk_caused most path later fault kinds.NoMemory w h = tt
 
-pub compiling_caused : (paths : List (List ℕ)) (fault : ErrorKind → Type 0) (error : ErrorKind) → HasCompilingCause paths fault error → IsCaused fault (of_error error)
-compiling_caused paths fault error (inl memory) = let P : ErrorKind → Type 0 = λ e. IsCaused fault (of_error e) in subst P (sym memory) tt
-compiling_caused paths fault error (inr h) = walk_caused most_files h.1.0 h.0 fault error h.1.2
+pub compiling_caused : (paths : List (List ℕ)) (fault : ErrorKind → Type 0) (error : ErrorKind) → IsWhole error → HasCompilingCause paths fault error → IsCaused fault (of_error error)
+compiling_caused paths fault error w (inl memory) = let P : ErrorKind → Type 0 = λ e. IsCaused fault (of_error e) in subst P (sym memory) tt
+compiling_caused paths fault error w (inr h) = walk_caused most_files h.2.0 h.0 fault error w h.2.2
 
 -- an error that is told of the pool has no cause outside
 pub pool_caused : (fault : ErrorKind → Type 0) (name : List ℕ) (tree : Data) (files : List FileDescriptorProto) (error : TopError) → IsRefused name tree files error → IsCaused fault error
@@ -141,8 +140,8 @@ walk_judged paths name tree fault error h = inl (at (is_memory error) refl)
 
 -- why the files are refused that the compiler holds
 pub pool_judged : (paths : List (List ℕ)) (fault : ErrorKind → Type 0) (name : List ℕ) (tree : Data) (later : List Done) (files : List FileDescriptorProto)
-    (error : TopError) → files ≡ records later → IsOrdered [] later → ArePooled [] (records later) → IsRefused name tree files error
+    (error : TopError) → files ≡ records later → AreCompiled (length paths) later → IsRefused name tree files error
     → IsJudged paths name tree fault error
-pool_judged paths fault name tree later files error e ordered pooled h =
+pool_judged paths fault name tree later files error e compiled h =
     let P : List FileDescriptorProto → Type 0 = λ fs. IsRefused name tree fs error in
-    inr (later, ordered, pooled, subst P e h)
+    inr (later, compiled, subst P e h)

@@ -1,5 +1,5 @@
 -- What files, a type's name and a tree come to: the transcoding, or the first refusal.
-use Rattle.std.specs.Prelude.{◌≡◌, ◌∷◌, [], ℕ, List, Bool, true, false, Option, Some, None, ◌⊎◌, codes, if◌then◌else◌}
+use Rattle.std.specs.Prelude.{◌≡◌, ◌∷◌, [], ℕ, List, length, Bool, true, false, Option, Some, None, ◌⊎◌, codes, if◌then◌else◌}
 use Rattle.serde_json.specs.Data.{Data}
 use Rattle.pbx_content.specs.Content.{Content}
 use Rattle.pbx_content.specs.Encoding.{encoded}
@@ -20,7 +20,7 @@ use Rattle.pbx_json_meaning.specs.declared.names_fault.NameFault.{NameFault}
 use Rattle.pbx_json_meaning.specs.declared.names_fault.NameFault.TheVariants as names
 use Rattle.pbx_json_meaning.specs.declared.options.SerializeOptions.{SerializeOptions}
 use Rattle.pbx_json_meaning.specs.Fits.{fits}
-use Rattle.pbx_link_rules.specs.Pool.{ArePooled}
+use Rattle.protox_file_error.specs.Errors.{IsWhole}
 use Rattle.protox_file_error.specs.Lines.{long_line_of}
 use Rattle.protox_file_sources.specs.Told.{Told, ByLookups}
 use Rattle.protox_file_error.specs.declared.error.ErrorKind.{ErrorKind}
@@ -28,8 +28,9 @@ use Rattle.protox_file_error.specs.declared.error.ErrorKind.TheVariants as kinds
 use Rattle.protox_compile_walk.specs.Walk.{Done, records}
 use Rattle.protox_compile_walk.specs.Opening.{Accepted, closure}
 use Rattle.protox_compile_walk.specs.Closures.{StopsAt}
-use Rattle.protox_compile_walk.specs.Compiled.{IsOrdered}
+use Rattle.protox_compile_walk.specs.Opens.{GrowsWithin}
 use Rattle.protox_compile_walk.specs.Refusals.{HasOpeningsCause}
+use Rattle.protox_compile.specs.Compiling.{AreCompiled}
 use Rattle.protox_compile.specs.Sets.{IsSet, AreDecodable, IsUndecodable}
 use Rattle.protox_compile.specs.State.{most_files}
 use Rattle.protox_transcode.specs.Json.{json_line}
@@ -110,26 +111,30 @@ is_refusal (File error) = (if is_fault error then false else true)
 is_refusal NoMemory = false
 is_refusal error = true
 
--- a fault has its cause, and some errors never come
+-- a fault has its cause, no want of memory stands inside of an error, and some errors never come
 abbrev pub IsCaused : (ErrorKind → Type 0) → TopError → Type 0
 IsCaused fault (File (kinds.OpenFile name path words)) = fault (kinds.OpenFile name path words)
 IsCaused fault (File (kinds.Custom text is_io)) = fault (kinds.Custom text is_io)
 IsCaused fault (File kinds.NoMemory) = ⊥
-IsCaused fault (File error) = Unit {0}
+IsCaused fault (File error) = IsWhole error
+IsCaused fault (JsonNames message key) = Unit {0}
+IsCaused fault (WellKnownShape message) = Unit {0}
+IsCaused fault (TypeNotFound name) = Unit {0}
 IsCaused fault (Json error) = ¬ (error.kind ≡ json.NoMemory)
-IsCaused fault error = Unit {0}
+IsCaused fault TooDeep = Unit {0}
+IsCaused fault NoMemory = Unit {0}
 
--- why the walk stopped, over every resolver: one of the paths was refused, and what is known of that; or want of memory
+-- why the walk stopped, over every resolver: one of the paths was refused, fewer of them being opened before, and what is known of that; or want of memory
 abbrev pub IsStopped : List (List ℕ) → (ErrorKind → Type 0) → TopError → Type 0
-IsStopped paths fault (File error) = (later : List Done) × HasOpeningsCause most_files paths later fault error
+IsStopped paths fault (File error) = (later : List Done) × GrowsWithin (length paths) [] later × HasOpeningsCause most_files paths later fault error
 IsStopped paths fault NoMemory = Unit {0}
 IsStopped paths fault error = ⊥
 
--- Over every resolver: why the walk stopped, or else why files in order, each once and behind its imports and linked among those before it, are refused.
+-- Over every resolver: why the walk stopped, or else why the files that opening all paths leaves are refused.
 abbrev pub IsJudged : List (List ℕ) → List ℕ → Data → (ErrorKind → Type 0) → TopError → Type 0
 IsJudged paths name tree fault error =
     IsStopped paths fault error
-    ⊎ ((files : List Done) × IsOrdered [] files × ArePooled [] (records files) × IsRefused name tree (records files) error)
+    ⊎ ((files : List Done) × AreCompiled (length paths) files × IsRefused name tree (records files) error)
 
 -- the line of an error, as the pieces that stand in it one after another
 abbrev pub top_line : TopError → List (List ℕ)

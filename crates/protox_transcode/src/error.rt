@@ -2,6 +2,7 @@
 
 ghost use Rattle.std.specs.Prelude.{◌≡◌, ◌∷◌, [], IfOk, string_bytes, codes};
 ghost use Rattle.std.specs.List.{concat};
+ghost use Rattle.protox_file_error.specs.Errors.{IsWhole};
 ghost use Rattle.protox_transcode.specs.Top.{top_line, is_refusal, is_fault, is_memory, of_error, of_json, of_names};
 
 use crate::json_line::json_line;
@@ -107,7 +108,9 @@ fn is_fault(error: &Error) -> bool
 
 /// The error of a compiler's; want of memory stands inside of no other error. It takes no memory.
 pub fn file_error(error: Error) -> TopError
-    ensures { result ≡ of_error error }
+    ensures is { result ≡ of_error error }
+    // Inside of the error no want of memory stands.
+    ensures whole { IsWhole error }
 {
     if is_memory(&error) {
         return TopError::NoMemory;
@@ -116,7 +119,8 @@ pub fn file_error(error: Error) -> TopError
 }
 
 fn is_memory(error: &Error) -> bool
-    ensures { result ≡ is_memory error.now }
+    ensures same { result ≡ is_memory error.now }
+    ensures whole { IsWhole error.now }
 {
     matches!(error.kind(), ErrorKind::NoMemory)
 }

@@ -1,17 +1,16 @@
 //! From files, a type's name and a tree to the set of the files, the wire bytes and the tree under options.
 
-ghost use Rattle.std.specs.Prelude.{◌≡◌, ◌≤◌, ◌⊎◌, [], IfOk, IfErr, OnOk, IsTrue, List as ListOf};
+ghost use Rattle.std.specs.Prelude.{◌≡◌, ◌≤◌, ◌⊎◌, length, IfOk, IfErr, OnOk, IsTrue, List as ListOf};
 ghost use Rattle.serde_json.specs.View.{view};
 ghost use Rattle.pbx_json_meaning.specs.Canonical.{canonical};
 ghost use Rattle.pbx_json_meaning.specs.Options.{default_reading};
 ghost use Rattle.pbx_json_meaning.specs.Trees.{HasTexts};
-ghost use Rattle.pbx_link_rules.specs.Pool.{ArePooled};
 ghost use Rattle.pbx_link_meaning.specs.Descriptors.{message_of_name};
 ghost use Rattle.pbx_link_meaning.specs.Shapes.{shape_of, place_of};
 ghost use Rattle.pbx_message_dynamic.specs.Trees.{IsRead};
 ghost use Rattle.protox_file_sources.specs.Causes.{FaultCause};
 ghost use Rattle.protox_compile_walk.specs.Walk.{Done, records};
-ghost use Rattle.protox_compile_walk.specs.Compiled.{IsOrdered};
+ghost use Rattle.protox_compile.specs.Compiling.{AreCompiled};
 ghost use Rattle.protox_compile.specs.State.{KeepsFiles};
 ghost use Rattle.protox_compile.specs.Repeats.{repeats};
 ghost use Rattle.protox_transcode.specs.Input.{data_of};
@@ -29,6 +28,7 @@ use pbx_json_laws::{
     values_have_texts,
 };
 use pbx_link::{DescriptorPool, MessageDescriptor};
+use pbx_link_laws::linking_ends;
 use pbx_message_dynamic::DynamicMessage;
 use pbx_message_laws::kinds_have_types;
 use pbx_wire::{Blob, List, NoMemory, Text, Texts};
@@ -227,15 +227,16 @@ pub fn transcode_files<R: FileResolver>(
         (Refuses (R.library resolver).files (R.library resolver).resolves paths.now type_name.now (data_of tree.entry)) }
     ensures cause { IfErr result.result (IsCaused (FaultCause (R.library resolver) (R.count resolver) (R.count result.resolver))) }
 
-    // Over every resolver, the files stand in order, each once and behind its imports, and each is linked among those before it;
-    // and an error is one of the walk or of such files.
+    // Over every resolver, each path adds files as imports and then marks one of all; they stand in order, each once and behind its
+    // imports, and each is linked to itself among those before it. An error is one of the walk or of such files.
     ensures ordered { IfOk result.result
-        (λ done. (files : ListOf Done) × IsOrdered [] files × ArePooled [] (records files)
+        (λ done. (files : ListOf Done) × AreCompiled (length paths.now) files
         × IsTranscoded type_name.now (data_of tree.entry) options.now (records files) done.set done.wire (view done.tree)) }
     ensures judged { IfErr result.result (IsJudged paths.now type_name.now (data_of tree.entry)
         (FaultCause (R.library resolver) (R.count resolver) (R.count result.resolver))) }
     ensures keeps { KeepsFiles R.library R.count resolver result.resolver }
 {
+    linking_ends();
     let OpenedAll { compiler, repeated } = match open_all(alloc, resolver, paths) {
         Ok(opened) => opened,
         Err((resolver, error)) => {
@@ -280,10 +281,10 @@ pub fn compile_and_transcode<R: FileResolver>(
         (Refuses (R.library resolver).files (R.library resolver).resolves paths.now type_name.now (view tree.now)) }
     ensures cause { IfErr result.result (IsCaused (FaultCause (R.library resolver) (R.count resolver) (R.count result.resolver))) }
 
-    // Over every resolver, the files stand in order, each once and behind its imports, and each is linked among those before it;
-    // and an error is one of the walk or of such files.
+    // Over every resolver, each path adds files as imports and then marks one of all; they stand in order, each once and behind its
+    // imports, and each is linked to itself among those before it. An error is one of the walk or of such files.
     ensures ordered { IfOk result.result
-        (λ done. (files : ListOf Done) × IsOrdered [] files × ArePooled [] (records files)
+        (λ done. (files : ListOf Done) × AreCompiled (length paths.now) files
         × IsTranscoded type_name.now (view tree.now) options.now (records files) done.set done.wire (view done.tree)) }
     ensures judged { IfErr result.result (IsJudged paths.now type_name.now (view tree.now)
         (FaultCause (R.library resolver) (R.count resolver) (R.count result.resolver))) }

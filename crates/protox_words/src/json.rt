@@ -22,7 +22,7 @@ pub struct JsonFlags<'w> {
     pub enum_numbers: bool,
     /// Whether fields are written under their names in the source.
     pub proto_names: bool,
-    /// Whether fields without presence are written where they have no value.
+    /// Whether fields without presence, but floats and extensions, are written where they have no value.
     pub defaults: bool,
 }
 

@@ -5,7 +5,7 @@ use Rattle.protox_file_sources.specs.Told.{ByLookups}
 use Rattle.protox_compile_walk.specs.Walk.{Done}
 use Rattle.protox_compile_walk.specs.Opening.{Accepted, Ended}
 use Rattle.protox_compile_walk.specs.Closures.{StopsAt}
-use Rattle.protox_compile_walk.proofs.Closures.{accepts_next, stops_next}
+use Rattle.protox_compile_walk.proofs.Closures.{accepts_next, opens_next, stops_next}
 use Rattle.protox_compile_walk.proofs.Right.{nothing, right_nothing}
 use Rattle.protox_compile_walk.proofs.Openings.{cause_later, fault_since}
 use Rattle.protox_compile.specs.State.{most_files}
@@ -21,6 +21,7 @@ loop-index-init g c =
     let end : List Done → List Done × Ended = λ d. (d, Accepted) in
     record {
       keeps = settings_same g.R.FileResolver.library g.R.FileResolver.count c.args.compiler.now;
+      opens = empty;
       before = λ tells. (nothing, right_nothing (g.R.FileResolver.library c.args.compiler.now.resolver).files, ap end (sym empty));
       noted = λ tells. ap (λ (xs : List ℕ). xs ++ repeats (g.R.FileResolver.library c.args.compiler.now.resolver).resolves c.as_slice-paths.result.now) c.requires.none;
     }
@@ -29,6 +30,7 @@ pub loop-index-preserved : goal.loop-index-preserved
 loop-index-preserved g c =
     let limit : c.loop-index.compiler.limit ≡ most_files = ap (λ s. s.limit) c.loop-index.invariant.keeps.settings ∙ ap (λ s. s.limit) c.requires.empty in
     record {
+      opens = opens_next c.loop-index.index [] c.loop-index.compiler.done c.open_file.new.self.done c.in_ok-report.report c.loop-index.invariant.opens c.in_ok-report.ensures.opens;
       keeps = settings_join g.R.FileResolver.library g.R.FileResolver.count c.args.compiler.now c.loop-index.compiler c.open_file.new.self c.loop-index.invariant.keeps c.in_ok-report.ensures.keeps;
       before = λ tells.
           let told : IsTrue (g.R.FileResolver.library c.loop-index.compiler.resolver).tells = rw c.loop-index.invariant.keeps.files.keeps tells in
@@ -64,6 +66,13 @@ returns-in_err-report-clause-cause g c =
     c.from_residual.result q.0 c.in_err-report.field-0.0 q.1 q.2
     (inr (
       c.open_file.new.self.done,
+      record {
+        count = c.loop-index.index;
+        fewer = (search rules);
+        middle = c.loop-index.compiler.done;
+        opens = c.loop-index.invariant.opens;
+        grows = c.in_err-report.ensures.grows;
+      },
       (
         c.as_str.result.now,
         (c.loop-index.index, (search rules), (search rules)),

@@ -1,7 +1,8 @@
 use Rattle.serde_json.specs.View.{view}
-use Rattle.std.proofs.Common.{◌∙◌, sym, subst}
+use Rattle.std.proofs.Common.{◌∙◌, length, sym, subst}
 use Rattle.protox_file_sources.specs.Causes.{FaultCause}
 use Rattle.protox_compile.proofs.Kept.{files_as}
+use Rattle.protox_compile.proofs.Compiled.{are_compiled}
 use Rattle.protox_transcode.specs.Input.{data_of}
 use Rattle.protox_transcode.specs.Top.{IsCaused, IsJudged, Refuses}
 use Rattle.protox_transcode.specs.declared.error.TopError.{TopError}
@@ -12,19 +13,19 @@ use Rattle.protox_transcode.proofs.transcode.transcode_files.Goals as goal
 pub returns-in-Err-clause-err : goal.returns-in-Err-clause-err
 returns-in-Err-clause-err g c tells =
     let P : TopError → Type 0 = λ e. Refuses (g.R.FileResolver.library c.args.resolver).files (g.R.FileResolver.library c.args.resolver).resolves c.args.paths.now c.args.type_name.now (data_of c.args.tree) e in
-    subst P (sym c.file_error.ensures)
+    subst P (sym c.file_error.ensures.is)
     (stopped (g.R.FileResolver.library c.args.resolver) c.args.paths.now c.args.type_name.now (data_of c.args.tree) c.in-Err.error (c.in-Err.ensures.err tells))
 
 pub returns-in-Err-clause-cause : goal.returns-in-Err-clause-cause
 returns-in-Err-clause-cause g c =
     let P : TopError → Type 0 = λ e. IsCaused (FaultCause (g.R.FileResolver.library c.args.resolver) (g.R.FileResolver.count c.args.resolver) (g.R.FileResolver.count c.in-Err.resolver)) e in
-    subst P (sym c.file_error.ensures) (compiling_caused c.args.paths.now
-    (FaultCause (g.R.FileResolver.library c.args.resolver) (g.R.FileResolver.count c.args.resolver) (g.R.FileResolver.count c.in-Err.resolver)) c.in-Err.error c.in-Err.ensures.cause)
+    subst P (sym c.file_error.ensures.is) (compiling_caused c.args.paths.now
+    (FaultCause (g.R.FileResolver.library c.args.resolver) (g.R.FileResolver.count c.args.resolver) (g.R.FileResolver.count c.in-Err.resolver)) c.in-Err.error c.file_error.ensures.whole c.in-Err.ensures.cause)
 
 pub returns-in-Err-clause-judged : goal.returns-in-Err-clause-judged
 returns-in-Err-clause-judged g c =
     let P : TopError → Type 0 = λ e. IsJudged c.args.paths.now c.args.type_name.now (data_of c.args.tree) (FaultCause (g.R.FileResolver.library c.args.resolver) (g.R.FileResolver.count c.args.resolver) (g.R.FileResolver.count c.in-Err.resolver)) e in
-    subst P (sym c.file_error.ensures) (walk_judged c.args.paths.now c.args.type_name.now (data_of c.args.tree)
+    subst P (sym c.file_error.ensures.is) (walk_judged c.args.paths.now c.args.type_name.now (data_of c.args.tree)
     (FaultCause (g.R.FileResolver.library c.args.resolver) (g.R.FileResolver.count c.args.resolver) (g.R.FileResolver.count c.in-Err.resolver)) c.in-Err.error c.in-Err.ensures.cause)
 
 pub returns-clause-ok : goal.returns-clause-ok
@@ -54,15 +55,16 @@ returns-clause-cause g c =
 pub returns-clause-ordered : goal.returns-clause-ordered
 returns-clause-ordered g c =
     ok_then c.transcode_in-result.result
-    (λ done h. all_pooled c.args.type_name.now (data_of c.args.tree) c.args.options.now c.in-Ok.opened.compiler.done c.descriptor_pool-pool.result done.set done.wire (view done.tree) c.descriptor_pool-pool.ensures.pool
-    c.descriptor_pool-pool.ensures.ordered c.descriptor_pool-pool.ensures.pooled h)
+    (λ done h. all_pooled c.args.type_name.now (data_of c.args.tree) c.args.options.now (length c.args.paths.now) c.in-Ok.opened.compiler.done c.descriptor_pool-pool.result done.set done.wire (view done.tree) c.descriptor_pool-pool.ensures.pool
+    (are_compiled c.linking_ends.ensures.each (length c.args.paths.now) c.in-Ok.opened.compiler.done c.in-Ok.ensures.opens c.descriptor_pool-pool.ensures.ordered c.descriptor_pool-pool.ensures.pooled) h)
     c.transcode_in-result.ensures.ok
 
 pub returns-clause-judged : goal.returns-clause-judged
 returns-clause-judged g c =
     err_then c.transcode_in-result.result
     (λ error h. pool_judged c.args.paths.now (FaultCause (g.R.FileResolver.library c.args.resolver) (g.R.FileResolver.count c.args.resolver) (g.R.FileResolver.count c.into_resolver.result)) c.args.type_name.now (data_of c.args.tree) c.in-Ok.opened.compiler.done c.descriptor_pool-pool.result
-    error c.descriptor_pool-pool.ensures.pool c.descriptor_pool-pool.ensures.ordered c.descriptor_pool-pool.ensures.pooled h)
+    error c.descriptor_pool-pool.ensures.pool
+    (are_compiled c.linking_ends.ensures.each (length c.args.paths.now) c.in-Ok.opened.compiler.done c.in-Ok.ensures.opens c.descriptor_pool-pool.ensures.ordered c.descriptor_pool-pool.ensures.pooled) h)
     c.transcode_in-result.ensures.err
 
 pub returns-clause-keeps : goal.returns-clause-keeps
