@@ -123,11 +123,11 @@ wrote_at key (v ∷ ws) old new w = elim (wrote_at key ws w.0 new w.3) [
   | inr k ↦ inr (record { write = k.write; within = there v ws k.write k.within; at = k.at; stands = k.stands })
   | inl same ↦ elim (key_or_not key (disk_key v.path)) [
     | inl at ↦ inr (record {
-        write = v;
-        within = here v ws;
-        at = at;
-        stands = stands_by key v.bytes w.0 new same (subst (λ (k : List Component). Stands k v.bytes w.0) (sym at) w.1);
-      })
+      write = v;
+      within = here v ws;
+      at = at;
+      stands = stands_by key v.bytes w.0 new same (subst (λ (k : List Component). Stands k v.bytes w.0) (sym at) w.1);
+    })
     | inr other ↦ inl (same_there key old w.0 new (w.2 key other) same)
   ]
 ]
@@ -170,12 +170,12 @@ module _ (run : Run) (a : Args) (key : List Component) where
         | inl at ↦ elim s.own [
           | inl same ↦ on (subst (λ (k : List Component). IsSameAt k s.middle run.disk.new) (sym at) same)
           | inr spoiled ↦ inr (inr (
-              s.next.bytes,
-              to_be ws text s.next judged
-              (subst (λ (xs : List Write). Contains xs s.next) (sym s.split) (Contains-append_right s.done (s.next ∷ s.left) s.next (here s.next s.left))) at,
-              refused,
-              subst (λ (k : List Component). IsTrue (run.disk.new.spoiled k)) (sym at) spoiled,
-            ))
+            s.next.bytes,
+            to_be ws text s.next judged
+                (subst (λ (xs : List Write). Contains xs s.next) (sym s.split) (Contains-append_right s.done (s.next ∷ s.left) s.next (here s.next s.left))) at,
+            refused,
+            subst (λ (k : List Component). IsTrue (run.disk.new.spoiled k)) (sym at) spoiled,
+          ))
         ]
       ]
 
