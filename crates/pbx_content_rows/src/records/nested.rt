@@ -24,7 +24,7 @@ fn put(recs: &mut Recs, rec: Rec, word: &str) -> Result<(), usize> {
     }
 }
 
-/// A varint of number 2 and value 5 where the word asks for one beside each group, in front of it or behind it.
+/// A varint of number 2 and value 5, where the word asks for one at this place beside each group.
 fn put_beside(recs: &mut Recs, word: &str, place: &str) -> Result<(), usize> {
     if word == place {
         put(recs, Rec::Varint(2, 5), "push")?;
@@ -32,7 +32,7 @@ fn put_beside(recs: &mut Recs, word: &str, place: &str) -> Result<(), usize> {
     Ok(())
 }
 
-/// The records, in which that many levels nest, in a group of number 1, and what stands beside it.
+/// Puts the records into a group of number 1 in a list of its own, with what stands beside it.
 fn put_level(alloc: Global, recs: &mut Recs, word: &str) -> Result<(), usize> {
     let inner = replace(recs, Recs::new(alloc));
     put_beside(recs, word, "before")?;
@@ -40,10 +40,10 @@ fn put_level(alloc: Global, recs: &mut Recs, word: &str) -> Result<(), usize> {
     put_beside(recs, word, "behind")
 }
 
-/// Of a word and a number: so many groups of number 1 in one another, which `push`, `add` or `insert` puts into a list, or `push`
-/// with a varint beside each that stands `before` or `behind` it. What is told of them: how many records a copy has, and the
-/// lengths of its text as it is written and as that of its first is counted; or which group is refused, and the length of its
-/// text where it is handed back.
+/// Of a word and a number: so many groups of number 1 in one another. The word is the call that puts each into its list (`push`,
+/// `add` or `insert`), or where a varint stands beside each (`before` or `behind` it). Told is how many records a copy has, and
+/// the lengths of its text as it is written and as that of its first is counted; or which group is refused, and the length of
+/// its text where it is handed back.
 pub(crate) fn answer(alloc: Global, row: &Row) -> Result<String, Stop> {
     let mut recs = Recs::new(alloc);
     for level in 0..row.number(1) {
