@@ -10,6 +10,7 @@ mod files;
 mod json;
 mod made;
 mod messages;
+mod nested;
 mod parts;
 mod services;
 mod shapes;
@@ -27,6 +28,7 @@ pub(crate) fn answer(alloc: Global, row: &Row, word: &str) -> Result<String, Sto
         "varints" => wire::varints(alloc, row),
         "read-records" => wire::read(alloc, row),
         "read-nested" => wire::nested(alloc, row),
+        "nest-records" => nested::answer(alloc, row),
         "read-front" => wire::front(alloc, row),
         "front-key" => wire::key(alloc, row),
         "write-records" => wire::written(alloc, row),

@@ -102,7 +102,7 @@ fn lengths(alloc: Global, recs: &Recs) -> Result<String, Stop> {
 }
 
 /// The same of a copy.
-fn lengths_of_copy(alloc: Global, recs: &Recs) -> Result<String, Stop> {
+pub(crate) fn lengths_of_copy(alloc: Global, recs: &Recs) -> Result<String, Stop> {
     let copy = copy_recs(recs, alloc)?;
     lengths(alloc, &copy)
 }
