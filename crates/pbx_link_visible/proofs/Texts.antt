@@ -1,6 +1,6 @@
 -- Sets and maps whose keys are looked up as texts.
 use Rattle.std.proofs.Common.{◌≡◌, ◌∙◌, ℕ, zero, suc, ◌+◌, ◌<◌, ◌≤◌, List, [], ◌∷◌, ◌++◌, length, take, get_or, Bool, true, false, ◌||◌, if◌then◌else◌, Option, Some, None, refl, ap, sym, arith}
-use Rattle.std.specs.Prelude.{◌==◌, slice_get, find}
+use Rattle.std.specs.Prelude.{◌==◌, slice_get, find, option_map}
 use Rattle.std.specs.List.{list_any, flat_map}
 use Rattle.std.specs.Option.{option_or}
 use Rattle.std.specs.Ordering.{nat_cmp, is_eq}
@@ -106,19 +106,58 @@ none_first {X} test k (x ∷ xs) e = by_test (test x) e (none_first test (k + 1)
     by_test true e ih = absurd (cc)
     by_test false e ih = ih e
 
+or_twice : {X : Type 0} (a b c : Option X) → option_or (option_or a b) c ≡ option_or a (option_or b c)
+or_twice None b c = refl
+or_twice (Some x) b c = refl
+
+mapped_or : {X Y : Type 0} (f : X → Y) (a : Option X) (b : Bool) (x : X) → option_or (option_map f a) (if b then Some (f x) else None) ≡ option_map f (option_or a (if b then Some x else None))
+mapped_or f None true x = refl
+mapped_or f None false x = refl
+mapped_or f (Some y) b x = refl
+
 -- one named item more
-pub first_named : {X : Type 0} (name : X → List ℕ) (q key : List ℕ) (xs : List X) (i : ℕ) (x : X) (old new : Option ℕ) → i < length xs → x ≡ get_or xs i x → key ≡ name x
-    → old ≡ first_index (λ y. bytes_eq (name y) q) 0 (take i xs) → new ≡ option_or old (if bytes_eq key q then Some i else None) → new ≡ first_index (λ y. bytes_eq (name y) q) 0 (take (i + 1) xs)
-first_named name q key xs i x old new lt is same before after =
-    after ∙ ap (λ (o : Option ℕ). option_or o (if bytes_eq key q then Some i else None)) before
-    ∙ ap (λ (n : List ℕ). option_or (first_index (λ y. bytes_eq (name y) q) 0 (take i xs)) (if bytes_eq n q then Some i else None)) same
-    ∙ first_more (λ y. bytes_eq (name y) q) xs i x lt is
+pub first_named : {X Y : Type 0} (name : X → List ℕ) (place : ℕ → Y) (q key : List ℕ) (xs : List X) (i : ℕ) (x : X) (start old new : Option Y) → i < length xs → x ≡ get_or xs i x → key ≡ name x
+    → old ≡ option_or start (option_map place (first_index (λ y. bytes_eq (name y) q) 0 (take i xs))) → new ≡ option_or old (if bytes_eq key q then Some (place i) else None)
+    → new ≡ option_or start (option_map place (first_index (λ y. bytes_eq (name y) q) 0 (take (i + 1) xs)))
+first_named {X} {Y} name place q key xs i x start old new lt is same before after =
+    let test : X → Bool = λ y. bytes_eq (name y) q in
+    let first : Option ℕ = first_index test 0 (take i xs) in
+    after ∙ ap (λ (o : Option Y). option_or o (if bytes_eq key q then Some (place i) else None)) before
+    ∙ ap (λ (n : List ℕ). option_or (option_or start (option_map place first)) (if bytes_eq n q then Some (place i) else None)) same
+    ∙ or_twice start (option_map place first) (if test x then Some (place i) else None)
+    ∙ ap (option_or start) (mapped_or place first (test x) i ∙ ap (option_map place) (first_more test xs i x lt is))
 
 pub found_at : {X : Type 0} (test : X → Bool) (xs : List X) (i : ℕ) → first_index test 0 xs ≡ Some i → slice_get xs i ≡ find test xs
 found_at test xs i e =
     let at = first_found test 0 xs i e in
     let same : at.0 ≡ i = omega (arith, at.1) in
     ap (slice_get xs) (sym same) ∙ at.2
+
+-- where an index is found, an item is
+pub some_first : {X : Type 0} (test : X → Bool) (k : ℕ) (xs : List X) (i : ℕ) → first_index test k xs ≡ Some i → (x : X) × (find test xs ≡ Some x)
+some_first test k [] i e = absurd (cc)
+some_first {X} test k (x ∷ xs) i e = by_test (test x) e (some_first test (k + 1) xs i)
+  where
+    by_test : (b : Bool) → (if b then Some k else first_index test (k + 1) xs) ≡ Some i → (first_index test (k + 1) xs ≡ Some i → (y : X) × (find test xs ≡ Some y))
+        → (y : X) × ((if b then Some x else find test xs) ≡ Some y)
+    by_test true e ih = (x, refl)
+    by_test false e ih = ih e
+
+abbrev pub by_index : {X Y B : Type 0} → (X → B) → (Y → B) → List X → List Y → Option ℕ → Option ℕ → Option B
+by_index of_x of_y xs ys (Some i) p = option_map of_x (slice_get xs i)
+by_index of_x of_y xs ys None (Some j) = option_map of_y (slice_get ys j)
+by_index of_x of_y xs ys None None = None
+
+-- what is found first among items of one kind, and else among those of another, by its index
+pub either_found : {X Y B : Type 0} (of_x : X → B) (of_y : Y → B) (test_x : X → Bool) (test_y : Y → Bool) (xs : List X) (ys : List Y) (o p : Option ℕ) → first_index test_x 0 xs ≡ o → first_index test_y 0 ys ≡ p
+    → option_or (option_map of_x (find test_x xs)) (option_map of_y (find test_y ys)) ≡ by_index of_x of_y xs ys o p
+either_found {X} {Y} {B} of_x of_y test_x test_y xs ys (Some i) p e g =
+    let some = some_first test_x 0 xs i e in
+    ap (λ (x : Option X). option_or (option_map of_x x) (option_map of_y (find test_y ys))) some.1 ∙ ap (option_map of_x) (sym some.1 ∙ sym (found_at test_x xs i e))
+either_found {X} {Y} {B} of_x of_y test_x test_y xs ys None (Some j) e g =
+    ap (λ (x : Option X). option_or (option_map of_x x) (option_map of_y (find test_y ys))) (none_first test_x 0 xs e) ∙ ap (option_map of_y) (sym (found_at test_y ys j g))
+either_found {X} {Y} {B} of_x of_y test_x test_y xs ys None None e g =
+    ap (λ (x : Option X). option_or (option_map of_x x) (option_map of_y (find test_y ys))) (none_first test_x 0 xs e) ∙ ap (option_map of_y) (none_first test_y 0 ys g)
 
 pub added_index : (i j : ℕ) (xs : List ℕ) (k : ℕ) (before after : Bool) → k < length xs → j ≡ get_or xs k j → before ≡ list_any (λ x. i == x) (take k xs) → after ≡ (if is_eq (nat_cmp j i) then true else before)
     → after ≡ list_any (λ x. i == x) (take (k + 1) xs)

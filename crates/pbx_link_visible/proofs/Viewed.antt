@@ -11,16 +11,21 @@ use Rattle.pbx_link_names.specs.Packages.{is_there}
 use Rattle.pbx_link_names.specs.declared.package_names.PackageNames.{PackageNames}
 use Rattle.pbx_desc_records.specs.declared.file.FileDescriptorProto.{FileDescriptorProto}
 use Rattle.pbx_link_definitions.specs.Names.{among}
-use Rattle.pbx_link_definitions.specs.Definitions.{full_name, is_scope, definitions, message_name, enum_name, messages, enums}
+use Rattle.pbx_desc_records.specs.declared.enumeration.EnumDescriptorProto.{EnumDescriptorProto}
+use Rattle.pbx_desc_records.specs.declared.message.DescriptorProto.{DescriptorProto}
+use Rattle.pbx_link_definitions.specs.declared.definitions.Sort.{Sort}
+use Rattle.pbx_link_definitions.specs.declared.definitions.Sort.TheVariants.{Message as a_message, Enum as an_enum}
+use Rattle.pbx_link_definitions.specs.Definitions.{Part, full_name, is_scope, definitions, message_name, enum_name, messages, enums}
 use Rattle.pbx_link_scope.specs.Pooled.{AreDistinct, file_types, type_with_file, definition_with_file, scope_with_file}
 use Rattle.pbx_link_scope.specs.declared.types.Bound.{Bound}
 use Rattle.pbx_link_scope.specs.declared.types.Bound.TheVariants.{Message as to_message, Enum as to_enum}
 use Rattle.pbx_link_scope.specs.Scope.{visible, reached, packages, bound_name, type_named, is_scope_name}
 use Rattle.pbx_link_visible.specs.Imports.{AreVisible}
-use Rattle.pbx_link_visible.specs.Names.{is_among, if_seen, is_seen, packages_of, packages_at}
+use Rattle.pbx_link_visible.specs.Names.{first_index, own_place, own_type, type_at_place, is_among, if_seen, is_seen, packages_of, packages_at}
 use Rattle.pbx_link_visible.specs.Look.{SeesFiles}
 use Rattle.pbx_link_visible.proofs.Counted.{is_called, defined_once, typed_once}
 use Rattle.pbx_link_visible.proofs.Seen.{seen_found, seen_any}
+use Rattle.pbx_link_visible.proofs.Texts.{by_index, either_found}
 
 -- the packages of the files at the indexes are those of the files that are seen
 packages_seen : (files : List FileDescriptorProto) (indexes : List ℕ) (fs : List FileDescriptorProto) → map (slice_get files) indexes ≡ map Some fs → flat_map (packages_at files) indexes ≡ flat_map packages fs
@@ -61,12 +66,26 @@ is_seen_alike : (a b : ℕ → Bool) (o : Option (ℕ × Bool)) → ((i : ℕ) �
 is_seen_alike a b None same = refl
 is_seen_alike a b (Some e) same = ap (λ (c : Bool). c && e.1) (sym (same e.0))
 
-or_twice : {X : Type 0} (a b c : Option X) → option_or (option_or a b) c ≡ option_or a (option_or b c)
-or_twice None None None = refl
-or_twice None None (Some z) = refl
-or_twice None (Some y) None = refl
-or_twice None (Some y) (Some z) = refl
-or_twice (Some x) b c = refl
+-- what stands at a place, if there is one
+abbrev pub placed : FileDescriptorProto → Option (Sort × ℕ) → Option Bound
+placed f None = None
+placed f (Some p) = type_at_place f p.0 p.1
+
+pub type_placed : (f : FileDescriptorProto) (name : List ℕ) (o : Option (Sort × ℕ)) → o ≡ own_place f name → placed f o ≡ own_type f name
+type_placed f name o e =
+    ap (placed f) e ∙ by_indexes (first_index is_message 0 (messages f)) (first_index is_enum 0 (enums f))
+    ∙ sym (either_found to_message to_enum is_message is_enum (messages f) (enums f) (first_index is_message 0 (messages f)) (first_index is_enum 0 (enums f)) refl refl)
+  where
+    is_message : Part DescriptorProto → Bool
+    is_message p = bytes_eq (message_name p) name
+
+    is_enum : Part EnumDescriptorProto → Bool
+    is_enum p = bytes_eq (enum_name p) name
+
+    by_indexes : (m n : Option ℕ) → placed f (option_or (option_map (λ i. (a_message, i)) m) (option_map (λ i. (an_enum, i)) n)) ≡ by_index to_message to_enum (messages f) (enums f) m n
+    by_indexes (Some i) n = refl
+    by_indexes None (Some j) = refl
+    by_indexes None None = refl
 
 from_none : {X : Type 0} (a : Option X) → None ≡ a → (b : Option X) → b ≡ option_or a b
 from_none None e None = refl
@@ -77,7 +96,7 @@ module _ (files : List FileDescriptorProto) (f : FileDescriptorProto) (indexes :
   abbrev is_typed : Bound → Bool
   is_typed b = bytes_eq (bound_name b) name
 
-  own_types : find is_typed (file_types f) ≡ option_or (option_map to_message (find (λ p. bytes_eq (message_name p) name) (messages f))) (option_map to_enum (find (λ p. bytes_eq (enum_name p) name) (enums f)))
+  own_types : find is_typed (file_types f) ≡ own_type f name
   own_types =
       find-append is_typed (map to_message (messages f)) (map to_enum (enums f))
       ∙ ap (λ (o : Option Bound). option_or o (find is_typed (map to_enum (enums f)))) (find_mapped is_typed to_message (messages f))
@@ -85,17 +104,14 @@ module _ (files : List FileDescriptorProto) (f : FileDescriptorProto) (indexes :
 
   -- the type of a name is the file's own, a message first, or that of the pool, if its file is seen
   pub typed : type_named (visible files f) name
-      ≡ option_or (option_map to_message (find (λ p. bytes_eq (message_name p) name) (messages f)))
-      (option_or (option_map to_enum (find (λ p. bytes_eq (enum_name p) name) (enums f))) (if_seen (contains nat_cmp indexes) (type_with_file files name)))
+      ≡ option_or (own_type f name) (if_seen (contains nat_cmp indexes) (type_with_file files name))
   unfolding type_named
   typed =
       let fs = reached f.dependency (reverse files) in
       find-append is_typed (file_types f) (flat_map file_types fs)
       ∙ ap (λ (o : Option Bound). option_or o (find is_typed (flat_map file_types fs))) own_types
-      ∙ ap (option_or (option_or (option_map to_message (find (λ p. bytes_eq (message_name p) name) (messages f))) (option_map to_enum (find (λ p. bytes_eq (enum_name p) name) (enums f)))))
+      ∙ ap (option_or (own_type f name))
       (seen_found file_types is_typed files (typed_once files s.0 name) s.1.0 fs s.1.1 ∙ seen_alike (contains nat_cmp indexes) (is_among s.1.0) (type_with_file files name) s.1.2)
-      ∙ or_twice (option_map to_message (find (λ p. bytes_eq (message_name p) name) (messages f))) (option_map to_enum (find (λ p. bytes_eq (enum_name p) name) (enums f)))
-      (if_seen (contains nat_cmp indexes) (type_with_file files name))
 
   -- a name is that of a scope in the file itself, in a file of the pool that is seen, or of a package
   pub scoped : is_scope_name (visible files f) name
@@ -113,22 +129,11 @@ module _ (files : List FileDescriptorProto) (f : FileDescriptorProto) (indexes :
 
   -- ---- answers, one after another
 
-  abbrev own_message : Option Bound
-  own_message = option_map to_message (find (λ p. bytes_eq (message_name p) name) (messages f))
+  pub own_answers : (b : Bound) → Some b ≡ own_type f name → Some b ≡ type_named (visible files f) name
+  own_answers b own = ap (λ (o : Option Bound). option_or o (if_seen (contains nat_cmp indexes) (type_with_file files name))) own ∙ sym typed
 
-  abbrev own_enum : Option Bound
-  own_enum = option_map to_enum (find (λ p. bytes_eq (enum_name p) name) (enums f))
-
-  pub message_answers : (b : Bound) → Some b ≡ own_message → Some b ≡ type_named (visible files f) name
-  message_answers b m = ap (λ (o : Option Bound). option_or o (option_or own_enum (if_seen (contains nat_cmp indexes) (type_with_file files name)))) m ∙ sym typed
-
-  pub enum_answers : (b : Bound) → None ≡ own_message → Some b ≡ own_enum → Some b ≡ type_named (visible files f) name
-  enum_answers b m e =
-      ap (λ (o : Option Bound). option_or o (if_seen (contains nat_cmp indexes) (type_with_file files name))) e ∙ from_none own_message m (option_or own_enum (if_seen (contains nat_cmp indexes) (type_with_file files name))) ∙ sym typed
-
-  pub pool_answers : (r : Option Bound) → None ≡ own_message → None ≡ own_enum → r ≡ if_seen (contains nat_cmp indexes) (type_with_file files name) → r ≡ type_named (visible files f) name
-  pool_answers r m e is =
-      is ∙ from_none own_enum e (if_seen (contains nat_cmp indexes) (type_with_file files name)) ∙ from_none own_message m (option_or own_enum (if_seen (contains nat_cmp indexes) (type_with_file files name))) ∙ sym typed
+  pub pool_answers : (r : Option Bound) → None ≡ own_type f name → r ≡ if_seen (contains nat_cmp indexes) (type_with_file files name) → r ≡ type_named (visible files f) name
+  pool_answers r own is = is ∙ from_none (own_type f name) own (if_seen (contains nat_cmp indexes) (type_with_file files name)) ∙ sym typed
 
   abbrev own_scope : Bool
   own_scope = list_any (λ d. is_scope d.sort && bytes_eq (full_name d) name) (definitions f)

@@ -9,16 +9,16 @@ use Rattle.pbx_link_names.specs.Packages.{is_there}
 use Rattle.pbx_link_names.specs.declared.package_names.PackageNames.{PackageNames}
 use Rattle.pbx_desc_records.specs.declared.file.FileDescriptorProto.{FileDescriptorProto}
 use Rattle.pbx_link_definitions.specs.Names.{among}
-use Rattle.pbx_link_definitions.specs.Definitions.{full_name, is_scope, definitions, message_name, enum_name, messages, enums}
+use Rattle.pbx_link_definitions.specs.declared.definitions.Sort.{Sort}
+use Rattle.pbx_link_definitions.specs.Definitions.{full_name, is_scope, definitions}
 use Rattle.pbx_link_scope.specs.Pooled.{AreDistinct}
 use Rattle.pbx_link_scope.specs.Scope.{reached, packages}
-use Rattle.pbx_link_visible.specs.Names.{has_text, first_index, is_among}
+use Rattle.pbx_link_visible.specs.Names.{has_text, own_place, is_among}
 
 -- the file's own messages and enums by their full names, and the names of its messages, enums and services
-abbrev pub FindsOwnNames : {Y : Type 0} → FileDescriptorProto → BTreeMap (String Y) ℕ → BTreeMap (String Y) ℕ → BTreeSet (String Y) → Type 0
-FindsOwnNames f by_message by_enum scopes =
-    ((q : List ℕ) → get_by_text by_message q ≡ first_index (λ p. bytes_eq (message_name p) q) 0 (messages f))
-    × ((q : List ℕ) → get_by_text by_enum q ≡ first_index (λ p. bytes_eq (enum_name p) q) 0 (enums f))
+abbrev pub FindsOwnNames : {Y : Type 0} → FileDescriptorProto → BTreeMap (String Y) (Sort × ℕ) → BTreeSet (String Y) → Type 0
+FindsOwnNames f places scopes =
+    ((q : List ℕ) → get_by_text places q ≡ own_place f q)
     × ((q : List ℕ) → has_text string_bytes scopes q ≡ list_any (λ d. is_scope d.sort && bytes_eq (full_name d) q) (definitions f))
 
 -- the indexes of the files that the file sees besides itself, and the packages of all that it sees

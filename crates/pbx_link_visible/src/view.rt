@@ -1,18 +1,15 @@
 // What a file sees of a pool, as look-ups of full names.
-ghost use Rattle.std.specs.Prelude.{◌≡◌, ℕ, List as ListOf, find, option_map, IfOk};
-ghost use Rattle.std.specs.Str.{bytes_eq};
+ghost use Rattle.std.specs.Prelude.{◌≡◌, ℕ, IfOk};
 ghost use Rattle.std.specs.Ordering.{nat_cmp};
 ghost use Rattle.std.specs.BTreeSet.{contains};
-ghost use Rattle.std.specs.BTreeMap.{get_by_text};
-ghost use Rattle.pbx_link_definitions.specs.Definitions.{message_name, enum_name, messages as messages_of, enums as enums_of};
 ghost use Rattle.pbx_link_scope.specs.Pooled.{AreDistinct, type_with_file, definition_with_file, scope_with_file};
 ghost use Rattle.pbx_link_scope.specs.Scope.{visible};
-ghost use Rattle.pbx_link_visible.specs.Names.{first_index, is_among, if_seen, is_seen};
+ghost use Rattle.pbx_link_visible.specs.Names.{is_among, if_seen, is_seen};
 
 use crate::imports::visible_files;
-use crate::own_names::{first_indexes, first_part, scope_names};
+use crate::own_names::{own_places, own_type, scope_names};
 use crate::packages::package_names;
-use pbx_link_definitions::FileParts;
+use pbx_link_definitions::{FileParts, Sort};
 use pbx_link_names::PackageNames;
 use pbx_link_scope::{Bound, Pooled, Visible};
 use pbx_wire::NoMemory;
@@ -29,36 +26,6 @@ fn index_set(alloc: Global, indexes: &[usize]) -> Result<BTreeSet<usize>, NoMemo
         set.insert(*index)?;
     }
     Ok(set)
-}
-
-/// The first message of the file of exactly this full name.
-fn own_message<'b>(
-    parts: &'b FileParts<'_>,
-    indexes: &BTreeMap<String, usize>,
-    name: &str,
-) -> Option<Bound<'b>>
-    requires { (q : ListOf ℕ) → get_by_text indexes.now q ≡ first_index (λ p. bytes_eq (message_name p) q) 0 (messages_of parts.now) }
-    ensures { result ≡ option_map Bound.Message (find (λ p. bytes_eq (message_name p) name.now) (messages_of parts.now)) }
-{
-    match first_part(indexes, parts.messages(), name) {
-        Some(part) => Some(Bound::Message(part)),
-        None => None,
-    }
-}
-
-/// The first enum of the file of exactly this full name.
-fn own_enum<'b>(
-    parts: &'b FileParts<'_>,
-    indexes: &BTreeMap<String, usize>,
-    name: &str,
-) -> Option<Bound<'b>>
-    requires { (q : ListOf ℕ) → get_by_text indexes.now q ≡ first_index (λ p. bytes_eq (enum_name p) q) 0 (enums_of parts.now) }
-    ensures { result ≡ option_map Bound.Enum (find (λ p. bytes_eq (enum_name p) name.now) (enums_of parts.now)) }
-{
-    match first_part(indexes, parts.enums(), name) {
-        Some(part) => Some(Bound::Enum(part)),
-        None => None,
-    }
 }
 
 /// The message or enum of exactly this full name, where its file is at one of the indexes.
@@ -100,8 +67,7 @@ pub struct VisibleFiles<'a, P: Pooled> {
     pool: &'a P,
     parts: &'a FileParts<'a>,
     indexes: BTreeSet<usize>,
-    messages: BTreeMap<String, usize>,
-    enums: BTreeMap<String, usize>,
+    places: BTreeMap<String, (Sort, usize)>,
     scopes: BTreeSet<String>,
     packages: PackageNames,
 }
@@ -120,7 +86,7 @@ impl<'a, P: Pooled> Model for VisibleFiles<'a, P> {
 
     ghost view = { λ s. visible (P.files s.pool.now) s.parts.now };
 
-    ghost invariant = { λ s. SeesFiles (P.files s.pool.now) s.parts.now s.indexes s.packages × FindsOwnNames s.parts.now s.messages s.enums s.scopes };
+    ghost invariant = { λ s. SeesFiles (P.files s.pool.now) s.parts.now s.indexes s.packages × FindsOwnNames s.parts.now s.places s.scopes };
 }
 
 impl<'a, P: Pooled> VisibleFiles<'a, P> {
@@ -139,8 +105,7 @@ impl<'a, P: Pooled> VisibleFiles<'a, P> {
             pool,
             parts,
             indexes: index_set(alloc, found.as_slice())?,
-            messages: first_indexes(alloc, parts.messages())?,
-            enums: first_indexes(alloc, parts.enums())?,
+            places: own_places(alloc, parts)?,
             scopes: scope_names(alloc, parts)?,
             packages: package_names(alloc, pool, found.as_slice(), file)?,
         })
@@ -151,10 +116,7 @@ impl<P: Pooled> Visible for VisibleFiles<'_, P> {
     ghost files = { λ s. s };
 
     fn type_named(&self, name: &str) -> Option<Bound<'_>> {
-        if let Some(found) = own_message(self.parts, &self.messages, name) {
-            return Some(found);
-        }
-        if let Some(found) = own_enum(self.parts, &self.enums, name) {
+        if let Some(found) = own_type(self.parts, &self.places, name) {
             return Some(found);
         }
         seen_type(self.pool, &self.indexes, name)
