@@ -64,7 +64,6 @@ front_numbered levels bytes next s = (rec_writable (SpellsBelow levels) (below_w
 
 -- ---- of what a call read
 
-pub recs_numbered : (levels : ℕ) (bytes : List ℕ) (r : Result (List Rec) DecodeError) → IfOk r (λ rs. Spells levels bytes rs)
-    → IfOk r (λ rs. IsTrue (are_numbered rs))
+pub recs_numbered : (levels : ℕ) (bytes : List ℕ) (r : Result (List Rec) DecodeError) → IfOk r (λ rs. Spells levels bytes rs) → IfOk r (λ rs. IsTrue (are_numbered rs))
 recs_numbered levels bytes (Ok rs) s = spelled_numbered levels bytes rs s
 recs_numbered levels bytes (Err e) s = tt

@@ -5,7 +5,8 @@ use crate::memory::NoMemory;
 use std::alloc::Global;
 use std::marker::Model;
 
-/// How many levels may nest below a list: copying, comparing, writing or dropping it takes the stack of a few calls for each.
+/// How many levels of lists may stand in one another below a list: copying, comparing, writing or dropping it takes the stack of a
+/// few calls for each.
 pub(crate) const DEEPEST: u32 = 1024;
 
 /// A list whose items may hold such lists. Contracts see it as the list of its items.

@@ -1,7 +1,7 @@
 -- `Rec` contains itself through `NestedList`: a group holds a `NestedList<Rec>`. What is proved of such a type goes from a list to its items, so the logic
 -- is told here which items a list contains, and that lists are alike where their items are.
 -- The check looks for the names that begin with `the_`; the others are this file's own.
-use Rattle.std.specs.Prelude.{◌≡◌, ℕ, List, [], map}
+use Rattle.std.specs.Prelude.{◌≡◌, ℕ, List, [], ◌∷◌, map}
 use Rattle.std.specs.Int.{w32}
 use Rattle.std.specs.Vec.Recursive as vec_lemmas
 use Rattle.pbx_wire.specs.formers.list.List as list
@@ -29,8 +29,7 @@ the_items T items = items
 pub the_items_listed : (T : Type 0) (items : List T) → parts.listed _ (former.children (the_former former.this) T items) ≡ the_items T items
 the_items_listed = parts.list-listed
 
--- Recursion into the items ends: a list measures as much as its largest item. And the empty list needs no item, so even a type that holds a list in each
--- case has a value.
+-- Recursion into the items ends: a list measures as much as its largest item. And the empty list needs no item, so even a type that holds a list in each case has a value.
 abbrev pub the_weighed : {inner : former.Former {0}} → depth.Weighed inner → depth.Weighed (the_former inner)
 the_weighed = depth.w_list
 
