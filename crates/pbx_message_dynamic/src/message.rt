@@ -366,8 +366,12 @@ impl DynamicMessage {
 
     /// The value that the message's bytes mean.
     pub fn transcode_to<T: DecodeMessage>(&self, alloc: Global) -> Result<T, DecodeError>
-        ensures found { IfOk result (λ made. T.means (text_in self.now) ≡ Some (T.content made)) }
-        ensures fault { IfErr result (IsToldFault (T.means (text_in self.now)) (T.IsFault (text_in self.now))) }
+        ensures found { IfOk result (λ made. meaning_by T.DECODING T.SHAPE T.TYPE_AT (text_in self.now) ≡ Some (T.content made)) }
+
+        // And nothing beside it.
+        ensures exact { IfOk result (λ made. T.is_exact made ≡ true) }
+        ensures fault { IfErr result (IsToldFault
+            (meaning_by T.DECODING T.SHAPE T.TYPE_AT (text_in self.now)) (IsFaultBy T.DECODING T.SHAPE T.TYPE_AT (text_in self.now))) }
     {
         let bytes = self.encode_to_vec(alloc)?;
         T::decode(alloc, bytes.as_slice())
