@@ -1,10 +1,10 @@
 -- No two exact records hold the same content.
-use Rattle.std.proofs.Common.{◌≡◌, ℕ, ℤ, ◌<◌, Bool, true, false, ◌&&◌, List, [], ◌∷◌, map, Option, Some, None, refl, sym, ap, ◌∙◌, subst, arith}
+use Rattle.std.proofs.Common.{◌≡◌, ℕ, ℤ, Bool, true, false, List, [], ◌∷◌, map, Option, Some, None, refl, sym, ap, ◌∙◌, subst, arith}
 use Rattle.pbx_wire.specs.Text.{all_true}
 use Rattle.pbx_wire.proofs.Written.{both}
 use Rattle.pbx_wire.specs.declared.rec.Rec.{Rec}
 use Rattle.pbx_content.specs.declared.shape.FieldShape.{FieldShape}
-use Rattle.pbx_content.specs.Content.{Content, content, fields, kept, Fields, no_fields, field, Val, number, truth, text, message, vals_of, IsAbove}
+use Rattle.pbx_content.specs.Content.{Content, fields, kept, Fields, Val, number, text, message, vals_of, IsAbove}
 use Rattle.pbx_content.specs.Meaning.{with_field}
 use Rattle.pbx_content.specs.Shape.{fields_of}
 use Rattle.pbx_content.proofs.WrittenOrder.{AreAbove, fields_above}

@@ -2,8 +2,6 @@
 use Rattle.std.specs.Prelude.{◌≡◌, ℕ, List, Bool, true, Some}
 use Rattle.pbx_content.specs.Content.{Content}
 use Rattle.pbx_desc_encoding.specs.Content.{file_content, file_set_content}
-use Rattle.pbx_desc_records.specs.declared.file.FileDescriptorProto.{FileDescriptorProto}
-use Rattle.pbx_desc_records.specs.declared.file.FileDescriptorSet.{FileDescriptorSet}
 use Rattle.pbx_desc_shapes.specs.DescriptorShape.{descriptor_shape}
 use Rattle.pbx_desc.specs.Decoding.{Decoding, meaning_by, Whole, ByParts}
 use Rattle.pbx_desc.specs.Exact.{is_exact_file, is_exact_file_set}

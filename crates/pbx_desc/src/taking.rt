@@ -140,7 +140,7 @@ pub(crate) fn take_records<R: FromContents>(
 ) -> Result<List<R>, NoMemory>
     ensures { IfOk result (λ records.
         Takes Repeated (kind.Message R.TYPE_AT) number (of_records R.content records) (are_exact R.is_exact records)
-            (content_of contents.old) (content_of contents.new)) }
+        (content_of contents.old) (content_of contents.new)) }
 {
     record_list(take_values(contents, number, alloc), alloc)
 }

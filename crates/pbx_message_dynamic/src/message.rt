@@ -1,10 +1,11 @@
-ghost use Rattle.std.specs.Prelude.{◌≡◌, ◌-◌, ◌^◌, min, Some, IfOk, IfErr, OnOk, OnErr};
+ghost use Rattle.std.specs.Prelude.{◌≡◌, ◌-◌, ◌^◌, min, true, Some, IfOk, IfErr, OnOk, OnErr};
 ghost use Rattle.pbx_content.specs.Content.{empty, kept as kept_of, fields as fields_in_content, without, with_fields};
 ghost use Rattle.pbx_content.specs.Encoding.{encoded};
 ghost use Rattle.pbx_content.specs.Faults.{IsFaultOf, IsToldFault};
 ghost use Rattle.pbx_content.specs.Meaning.{meaning_of};
 ghost use Rattle.pbx_content.specs.Onto.{merged_of};
 ghost use Rattle.pbx_content.specs.Sound.{IsSound, depth as depth_of};
+ghost use Rattle.pbx_desc.specs.Decoding.{meaning_by, IsFaultBy};
 ghost use Rattle.pbx_link_meaning.specs.Shapes.{shape_of, place_of};
 ghost use Rattle.pbx_message_dynamic.specs.Message.{shape_in, place_in, text_in, dynamic, with_content};
 ghost use Rattle.pbx_message_dynamic.specs.Targets.{IsNumbered};
