@@ -20,6 +20,7 @@ use Rattle.pbx_content.proofs.WrittenOrder.{AreAbove, AreListed, all_listed, kno
 use Rattle.pbx_content.proofs.WrittenFields.{get-above}
 use Rattle.pbx_desc_encoding.specs.Content.{writable, fields_from, record_content}
 use Rattle.pbx_desc_encoding.specs.Sound.{IsOf, AreOf, MayBe}
+use Rattle.pbx_desc.specs.Exact.{are_writable}
 
 -- ---- values by number
 
@@ -93,6 +94,13 @@ kept_again gs (r ∷ rs) u n =
     let us = both (is_kept gs r) (all_true (map (is_kept gs) rs)) u in
     let ns = both (is_numbered r) (are_numbered rs) n in
     rw (ns.0, us.0, kept_again gs rs us.1 ns.1) refl
+
+written_all : (gs : List FieldShape) (rs : List Rec) → all_true (map (is_kept gs) rs) ≡ true → are_numbered rs ≡ true → are_writable gs rs ≡ true
+written_all gs [] u n = refl
+written_all gs (r ∷ rs) u n =
+    let us = both (is_kept gs r) (all_true (map (is_kept gs) rs)) u in
+    let ns = both (is_numbered r) (are_numbered rs) n in
+    rw (ns.0, us.0) (written_all gs rs us.1 ns.1)
 
 -- ---- values of fields
 
@@ -194,6 +202,7 @@ all_may shape all (g ∷ gs) fs l s h =
 pub record IsMade (shape : Shape) (gs : List FieldShape) (c : Content) : Type 0 where
   pub may : MayHave gs shape (fields c)
   pub made : record_content gs (values_at gs (fields c)) (kept c) ≡ c
+  pub written : are_writable gs (kept c) ≡ true
 
 pub made_of : (shape : Shape) (t : ℕ) (gs : List FieldShape) (c : Content) → fields_of shape t ≡ gs → are_simple gs ≡ true → AreAbove 0 (fields_of shape t) → IsSound shape t c → IsMade shape gs c
 made_of shape t gs (content fs ks) e simple above sound =
@@ -203,4 +212,5 @@ made_of shape t gs (content fs ks) e simple above sound =
     record {
       may = all_may shape gs gs fs (all_listed 0 gs ascending) simple values;
       made = ap (λ hs. content hs (writable gs ks)) (fields_again 0 gs fs ascending sound.0 (known_from shape gs fs values)) ∙ ap (content fs) (kept_again gs ks unread.unread unread.numbered);
+      written = written_all gs ks unread.unread unread.numbered;
     }

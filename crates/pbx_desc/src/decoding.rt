@@ -1,9 +1,9 @@
-ghost use Rattle.std.specs.Prelude.{◌≡◌, ℕ, List, Option, Some, IfOk, IfErr};
-ghost use Rattle.pbx_wire.specs.declared.error.DecodeError.{DecodeError as Fault};
-ghost use Rattle.pbx_content.specs.Content.{Content};
+ghost use Rattle.std.specs.Prelude.{◌≡◌, ℕ, Bool, true, Some, IfOk, IfErr};
+ghost use Rattle.pbx_content.specs.declared.shape.Shape.{Shape};
 ghost use Rattle.pbx_content.specs.Meaning.{meaning_of};
 ghost use Rattle.pbx_content.specs.Faults.{IsFaultOf, IsToldFault};
 ghost use Rattle.pbx_desc_shapes.specs.DescriptorShape.{descriptor_shape as descriptor_shape_of};
+ghost use Rattle.pbx_desc.specs.Decoding.{Decoding, meaning_by, IsFaultBy};
 
 use crate::taking::FromContents;
 use pbx_content::meaning_is_sound;
@@ -15,18 +15,31 @@ use std::alloc::Global;
 
 /// A type whose values are read from the bytes of messages.
 pub trait DecodeMessage: Message + Sized {
-    /// What bytes mean as a message of the type, as far as a value has a place for it.
-    ghost means: { List ℕ → Option Content };
+    /// The types among which the message's type stands.
+    ghost SHAPE: { Shape };
 
-    /// Which rules bytes break as a message of the type, and in which record.
-    ghost IsFault: { List ℕ → Fault → Type 0 };
+    /// The place of the message's type.
+    ghost TYPE_AT: { ℕ };
+
+    /// How bytes are read.
+    ghost DECODING: { Decoding };
+
+    /// Whether nothing stands in a value beside its content. No two such values have the same one.
+    ghost is_exact: { Self → Bool };
 
     /// The value that holds what the bytes mean.
     fn decode(alloc: Global, bytes: &[u8]) -> Result<Self, DecodeError>
-        ensures found { IfOk result (λ value. means bytes.now ≡ Some (Self.content value)) }
+        ensures found { IfOk result (λ value. meaning_by DECODING SHAPE TYPE_AT bytes.now ≡ Some (Self.content value)) }
+
+        // And nothing beside it: no unknown record that could not be written, and no member that a content leaves out.
+        ensures exact { IfOk result (λ value. is_exact value ≡ true) }
+
+        // As a message of the type as which it is written.
+        ensures typed { IfOk result (λ value. (Self.shape value ≡ SHAPE) × (Self.type_at value ≡ TYPE_AT)) }
 
         // Only where they mean nothing. Where there are several faults, the first: none is in a record with a lesser offset.
-        ensures fault { IfErr result (IsToldFault (means bytes.now) (IsFault bytes.now)) };
+        ensures fault { IfErr result
+            (IsToldFault (meaning_by DECODING SHAPE TYPE_AT bytes.now) (IsFaultBy DECODING SHAPE TYPE_AT bytes.now)) };
 }
 
 /// The record of the bytes of a message of its type.
@@ -35,6 +48,7 @@ pub(crate) fn record_from_bytes<R: FromContents>(
     bytes: &[u8],
 ) -> Result<R, DecodeError>
     ensures found { IfOk result (λ value. meaning_of descriptor_shape_of R.TYPE_AT bytes.now ≡ Some (R.content value)) }
+    ensures exact { IfOk result (λ value. R.is_exact value ≡ true) }
     ensures fault { IfErr result (IsToldFault (meaning_of descriptor_shape_of R.TYPE_AT bytes.now) (IsFaultOf descriptor_shape_of R.TYPE_AT bytes.now)) }
 {
     meaning_is_sound();

@@ -1,4 +1,4 @@
-ghost use Rattle.std.specs.Prelude.{◌≡◌, ℕ, Some, map, option_map, IfOk};
+ghost use Rattle.std.specs.Prelude.{◌≡◌, ℕ, true, Some, map, option_map, IfOk};
 ghost use Rattle.pbx_content.specs.declared.shape.Cardinality.TheVariants.{Repeated};
 ghost use Rattle.pbx_content.specs.declared.shape.Kind.{Kind};
 ghost use Rattle.pbx_content.specs.declared.shape.Kind.TheVariants as kind;
@@ -7,6 +7,7 @@ ghost use Rattle.pbx_content_codec.specs.View.{content_of, val_of};
 ghost use Rattle.pbx_desc_shapes.specs.DescriptorShape.{descriptor_shape};
 ghost use Rattle.pbx_desc_encoding.specs.Content.{listed};
 ghost use Rattle.pbx_desc_encoding.specs.Sound.{IsOf, AreOf, MayBe};
+ghost use Rattle.pbx_desc.specs.Exact.{are_exact};
 
 use crate::taking::FromContents;
 use pbx_content_codec::{Contents, Held};
@@ -99,7 +100,7 @@ pub(crate) fn record_list<R: FromContents>(
     alloc: Global,
 ) -> Result<List<R>, NoMemory>
     ensures { IfOk result (λ records. AreOf descriptor_shape (kind.Message R.TYPE_AT) (map val_of values)
-        → map (λ r. message (R.content r)) records ≡ map val_of values) }
+        → (map (λ r. message (R.content r)) records ≡ map val_of values) × (are_exact R.is_exact records ≡ true)) }
 {
     let mut records = List::with_capacity(alloc, values.len())?;
     for value in values.into_vec() {

@@ -1,7 +1,7 @@
-ghost use Rattle.pbx_content.specs.Meaning.{meaning_of};
-ghost use Rattle.pbx_content.specs.Faults.{IsFaultOf};
 ghost use Rattle.pbx_desc_shapes.specs.DescriptorShape.{descriptor_shape};
 ghost use Rattle.pbx_desc_encoding.specs.Content.{enum_content, enum_reserved_range_content, enum_value_content};
+ghost use Rattle.pbx_desc.specs.Decoding.{Whole};
+ghost use Rattle.pbx_desc.specs.Exact.{is_exact_enum, is_exact_enum_reserved_range, is_exact_enum_value};
 
 use crate::decoding::{DecodeMessage, record_from_bytes};
 use crate::taking::{
@@ -17,6 +17,8 @@ impl FromContents for EnumDescriptorProto {
     ghost TYPE_AT = { 7 };
 
     ghost content = { enum_content };
+
+    ghost is_exact = { is_exact_enum };
 
     const TYPE_AT: usize = place::ENUM;
 
@@ -41,9 +43,13 @@ impl FromContents for EnumDescriptorProto {
 }
 
 impl DecodeMessage for EnumDescriptorProto {
-    ghost means = { meaning_of descriptor_shape 7 };
+    ghost SHAPE = { descriptor_shape };
 
-    ghost IsFault = { IsFaultOf descriptor_shape 7 };
+    ghost TYPE_AT = { 7 };
+
+    ghost DECODING = { Whole };
+
+    ghost is_exact = { is_exact_enum };
 
     fn decode(alloc: Global, bytes: &[u8]) -> Result<EnumDescriptorProto, DecodeError> {
         record_from_bytes(alloc, bytes)
@@ -54,6 +60,8 @@ impl FromContents for EnumReservedRange {
     ghost TYPE_AT = { 8 };
 
     ghost content = { enum_reserved_range_content };
+
+    ghost is_exact = { is_exact_enum_reserved_range };
 
     const TYPE_AT: usize = place::ENUM_RESERVED_RANGE;
 
@@ -72,9 +80,13 @@ impl FromContents for EnumReservedRange {
 }
 
 impl DecodeMessage for EnumReservedRange {
-    ghost means = { meaning_of descriptor_shape 8 };
+    ghost SHAPE = { descriptor_shape };
 
-    ghost IsFault = { IsFaultOf descriptor_shape 8 };
+    ghost TYPE_AT = { 8 };
+
+    ghost DECODING = { Whole };
+
+    ghost is_exact = { is_exact_enum_reserved_range };
 
     fn decode(alloc: Global, bytes: &[u8]) -> Result<EnumReservedRange, DecodeError> {
         record_from_bytes(alloc, bytes)
@@ -85,6 +97,8 @@ impl FromContents for EnumValueDescriptorProto {
     ghost TYPE_AT = { 9 };
 
     ghost content = { enum_value_content };
+
+    ghost is_exact = { is_exact_enum_value };
 
     const TYPE_AT: usize = place::ENUM_VALUE;
 
@@ -105,9 +119,13 @@ impl FromContents for EnumValueDescriptorProto {
 }
 
 impl DecodeMessage for EnumValueDescriptorProto {
-    ghost means = { meaning_of descriptor_shape 9 };
+    ghost SHAPE = { descriptor_shape };
 
-    ghost IsFault = { IsFaultOf descriptor_shape 9 };
+    ghost TYPE_AT = { 9 };
+
+    ghost DECODING = { Whole };
+
+    ghost is_exact = { is_exact_enum_value };
 
     fn decode(alloc: Global, bytes: &[u8]) -> Result<EnumValueDescriptorProto, DecodeError> {
         record_from_bytes(alloc, bytes)

@@ -1,7 +1,7 @@
-ghost use Rattle.pbx_content.specs.Meaning.{meaning_of};
-ghost use Rattle.pbx_content.specs.Faults.{IsFaultOf};
 ghost use Rattle.pbx_desc_shapes.specs.DescriptorShape.{descriptor_shape};
 ghost use Rattle.pbx_desc_encoding.specs.Content.{field_content, oneof_content};
+ghost use Rattle.pbx_desc.specs.Decoding.{Whole};
+ghost use Rattle.pbx_desc.specs.Exact.{is_exact_field, is_exact_oneof};
 
 use crate::decoding::{DecodeMessage, record_from_bytes};
 use crate::taking::{FromContents, kept_records, take_number, take_options, take_text, take_truth};
@@ -15,6 +15,8 @@ impl FromContents for FieldDescriptorProto {
     ghost TYPE_AT = { 3 };
 
     ghost content = { field_content };
+
+    ghost is_exact = { is_exact_field };
 
     const TYPE_AT: usize = place::FIELD;
 
@@ -51,9 +53,13 @@ impl FromContents for FieldDescriptorProto {
 }
 
 impl DecodeMessage for FieldDescriptorProto {
-    ghost means = { meaning_of descriptor_shape 3 };
+    ghost SHAPE = { descriptor_shape };
 
-    ghost IsFault = { IsFaultOf descriptor_shape 3 };
+    ghost TYPE_AT = { 3 };
+
+    ghost DECODING = { Whole };
+
+    ghost is_exact = { is_exact_field };
 
     fn decode(alloc: Global, bytes: &[u8]) -> Result<FieldDescriptorProto, DecodeError> {
         record_from_bytes(alloc, bytes)
@@ -64,6 +70,8 @@ impl FromContents for OneofDescriptorProto {
     ghost TYPE_AT = { 6 };
 
     ghost content = { oneof_content };
+
+    ghost is_exact = { is_exact_oneof };
 
     const TYPE_AT: usize = place::ONEOF;
 
@@ -82,9 +90,13 @@ impl FromContents for OneofDescriptorProto {
 }
 
 impl DecodeMessage for OneofDescriptorProto {
-    ghost means = { meaning_of descriptor_shape 6 };
+    ghost SHAPE = { descriptor_shape };
 
-    ghost IsFault = { IsFaultOf descriptor_shape 6 };
+    ghost TYPE_AT = { 6 };
+
+    ghost DECODING = { Whole };
+
+    ghost is_exact = { is_exact_oneof };
 
     fn decode(alloc: Global, bytes: &[u8]) -> Result<OneofDescriptorProto, DecodeError> {
         record_from_bytes(alloc, bytes)

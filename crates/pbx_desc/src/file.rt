@@ -1,11 +1,11 @@
 ghost use Rattle.std.specs.Prelude.{OnOk};
-ghost use Rattle.pbx_content.specs.Meaning.{meaning_of};
-ghost use Rattle.pbx_content.specs.Faults.{IsFaultOf};
 ghost use Rattle.pbx_content_codec.specs.View.{content_of};
 ghost use Rattle.pbx_desc_shapes.specs.DescriptorShape.{descriptor_shape as descriptor_shape_of, file_fields};
 ghost use Rattle.pbx_desc_encoding.specs.Content.{file_set_content, file_values, file_content};
-ghost use Rattle.pbx_desc_encoding.specs.Sets.{set_meaning_of, IsSetFault};
 ghost use Rattle.pbx_desc.specs.Taking.{AreTaken};
+ghost use Rattle.pbx_desc.specs.Messages.{file_exact};
+ghost use Rattle.pbx_desc.specs.Decoding.{ByParts, Whole};
+ghost use Rattle.pbx_desc.specs.Exact.{is_exact_file_set, is_exact_file};
 
 use crate::decoding::{DecodeMessage, record_from_bytes};
 use crate::taking::{
@@ -24,6 +24,8 @@ impl FromContents for FileDescriptorSet {
 
     ghost content = { file_set_content };
 
+    ghost is_exact = { is_exact_file_set };
+
     const TYPE_AT: usize = place::FILE_SET;
 
     fn from_contents(mut contents: Contents, alloc: Global) -> Result<FileDescriptorSet, NoMemory> {
@@ -37,9 +39,13 @@ impl FromContents for FileDescriptorSet {
 
 /// File by file, each with 100 levels of its own.
 impl DecodeMessage for FileDescriptorSet {
-    ghost means = { set_meaning_of };
+    ghost SHAPE = { descriptor_shape_of };
 
-    ghost IsFault = { IsSetFault };
+    ghost TYPE_AT = { 0 };
+
+    ghost DECODING = { ByParts };
+
+    ghost is_exact = { is_exact_file_set };
 
     fn decode(alloc: Global, bytes: &[u8]) -> Result<FileDescriptorSet, DecodeError> {
         meaning_is_sound();
@@ -55,6 +61,8 @@ impl FromContents for FileDescriptorProto {
     ghost TYPE_AT = { 1 };
 
     ghost content = { file_content };
+
+    ghost is_exact = { is_exact_file };
 
     const TYPE_AT: usize = place::FILE;
 
@@ -74,7 +82,7 @@ fn fill(
     mut contents: Contents,
     alloc: Global,
 ) -> Result<(), NoMemory>
-    ensures { OnOk result (AreTaken file_fields (file_values file.new) file.new.unknown (content_of contents)) }
+    ensures { OnOk result (AreTaken file_fields (file_values file.new) (file_exact file.new) file.new.unknown (content_of contents)) }
 {
     file.name = take_text(&mut contents, 1);
     file.package = take_text(&mut contents, 2);
@@ -93,9 +101,13 @@ fn fill(
 }
 
 impl DecodeMessage for FileDescriptorProto {
-    ghost means = { meaning_of descriptor_shape_of 1 };
+    ghost SHAPE = { descriptor_shape_of };
 
-    ghost IsFault = { IsFaultOf descriptor_shape_of 1 };
+    ghost TYPE_AT = { 1 };
+
+    ghost DECODING = { Whole };
+
+    ghost is_exact = { is_exact_file };
 
     fn decode(alloc: Global, bytes: &[u8]) -> Result<FileDescriptorProto, DecodeError> {
         record_from_bytes(alloc, bytes)

@@ -1,8 +1,6 @@
-ghost use Rattle.std.specs.Prelude.{option_map};
-ghost use Rattle.pbx_content.specs.Content.{without_kept};
-ghost use Rattle.pbx_content.specs.Meaning.{meaning_of};
-ghost use Rattle.pbx_content.specs.Faults.{IsFaultOf};
+ghost use Rattle.std.specs.Prelude.{true};
 ghost use Rattle.pbx_desc_shapes.specs.TypesShape.{types_shape};
+ghost use Rattle.pbx_desc.specs.Decoding.{WithoutUnknown};
 
 use crate::decoding::DecodeMessage;
 use pbx_desc_shapes::well_known_place as place;
@@ -12,9 +10,13 @@ use std::alloc::Global;
 
 /// Unknown records are dropped.
 impl DecodeMessage for i32 {
-    ghost means = { λ bytes. option_map without_kept (meaning_of types_shape 11 bytes) };
+    ghost SHAPE = { types_shape };
 
-    ghost IsFault = { IsFaultOf types_shape 11 };
+    ghost TYPE_AT = { 11 };
+
+    ghost DECODING = { WithoutUnknown };
+
+    ghost is_exact = { λ _. true };
 
     fn decode(alloc: Global, bytes: &[u8]) -> Result<i32, DecodeError> {
         Ok(i32_in(wrapped_value(alloc, place::INT32_VALUE, bytes)?))
@@ -23,9 +25,13 @@ impl DecodeMessage for i32 {
 
 /// Unknown records are dropped.
 impl DecodeMessage for i64 {
-    ghost means = { λ bytes. option_map without_kept (meaning_of types_shape 9 bytes) };
+    ghost SHAPE = { types_shape };
 
-    ghost IsFault = { IsFaultOf types_shape 9 };
+    ghost TYPE_AT = { 9 };
+
+    ghost DECODING = { WithoutUnknown };
+
+    ghost is_exact = { λ _. true };
 
     fn decode(alloc: Global, bytes: &[u8]) -> Result<i64, DecodeError> {
         Ok(i64_in(wrapped_value(alloc, place::INT64_VALUE, bytes)?))
@@ -34,9 +40,13 @@ impl DecodeMessage for i64 {
 
 /// Unknown records are dropped.
 impl DecodeMessage for u32 {
-    ghost means = { λ bytes. option_map without_kept (meaning_of types_shape 12 bytes) };
+    ghost SHAPE = { types_shape };
 
-    ghost IsFault = { IsFaultOf types_shape 12 };
+    ghost TYPE_AT = { 12 };
+
+    ghost DECODING = { WithoutUnknown };
+
+    ghost is_exact = { λ _. true };
 
     fn decode(alloc: Global, bytes: &[u8]) -> Result<u32, DecodeError> {
         Ok(u32_in(wrapped_value(alloc, place::UINT32_VALUE, bytes)?))
@@ -45,9 +55,13 @@ impl DecodeMessage for u32 {
 
 /// Unknown records are dropped.
 impl DecodeMessage for u64 {
-    ghost means = { λ bytes. option_map without_kept (meaning_of types_shape 10 bytes) };
+    ghost SHAPE = { types_shape };
 
-    ghost IsFault = { IsFaultOf types_shape 10 };
+    ghost TYPE_AT = { 10 };
+
+    ghost DECODING = { WithoutUnknown };
+
+    ghost is_exact = { λ _. true };
 
     fn decode(alloc: Global, bytes: &[u8]) -> Result<u64, DecodeError> {
         Ok(u64_in(wrapped_value(alloc, place::UINT64_VALUE, bytes)?))

@@ -8,6 +8,7 @@ mod enumeration;
 mod field;
 mod file;
 mod integers;
+mod laws;
 mod message;
 mod options;
 mod scalars;
@@ -16,6 +17,7 @@ mod source;
 mod taking;
 
 pub use decoding::DecodeMessage;
+pub use laws::{contents_fix_files, contents_fix_types};
 // Writing stands in a crate below.
 pub use pbx_desc_encoding::{
     DescriptorProto, EnumDescriptorProto, EnumReservedRange, EnumValueDescriptorProto,

@@ -1,8 +1,6 @@
-ghost use Rattle.std.specs.Prelude.{option_map};
-ghost use Rattle.pbx_content.specs.Content.{without_kept};
-ghost use Rattle.pbx_content.specs.Meaning.{meaning_of};
-ghost use Rattle.pbx_content.specs.Faults.{IsFaultOf};
+ghost use Rattle.std.specs.Prelude.{true};
 ghost use Rattle.pbx_desc_shapes.specs.TypesShape.{types_shape as types_shape_of};
+ghost use Rattle.pbx_desc.specs.Decoding.{WithoutUnknown};
 
 use crate::decoding::DecodeMessage;
 use bytes::Bytes;
@@ -13,9 +11,13 @@ use std::alloc::Global;
 
 /// Unknown records are dropped.
 impl DecodeMessage for () {
-    ghost means = { λ bytes. option_map without_kept (meaning_of types_shape_of 2 bytes) };
+    ghost SHAPE = { types_shape_of };
 
-    ghost IsFault = { IsFaultOf types_shape_of 2 };
+    ghost TYPE_AT = { 2 };
+
+    ghost DECODING = { WithoutUnknown };
+
+    ghost is_exact = { λ _. true };
 
     fn decode(alloc: Global, bytes: &[u8]) -> Result<(), DecodeError> {
         type_contents(alloc, place::EMPTY, bytes)?;
@@ -25,9 +27,13 @@ impl DecodeMessage for () {
 
 /// Unknown records are dropped.
 impl DecodeMessage for bool {
-    ghost means = { λ bytes. option_map without_kept (meaning_of types_shape_of 13 bytes) };
+    ghost SHAPE = { types_shape_of };
 
-    ghost IsFault = { IsFaultOf types_shape_of 13 };
+    ghost TYPE_AT = { 13 };
+
+    ghost DECODING = { WithoutUnknown };
+
+    ghost is_exact = { λ _. true };
 
     fn decode(alloc: Global, bytes: &[u8]) -> Result<bool, DecodeError> {
         Ok(truth_in(wrapped_value(alloc, place::BOOL_VALUE, bytes)?))
@@ -36,9 +42,13 @@ impl DecodeMessage for bool {
 
 /// Unknown records are dropped.
 impl DecodeMessage for String {
-    ghost means = { λ bytes. option_map without_kept (meaning_of types_shape_of 14 bytes) };
+    ghost SHAPE = { types_shape_of };
 
-    ghost IsFault = { IsFaultOf types_shape_of 14 };
+    ghost TYPE_AT = { 14 };
+
+    ghost DECODING = { WithoutUnknown };
+
+    ghost is_exact = { λ _. true };
 
     fn decode(alloc: Global, bytes: &[u8]) -> Result<String, DecodeError> {
         Ok(string_in(wrapped_value(alloc, place::STRING_VALUE, bytes)?, alloc)?)
@@ -47,9 +57,13 @@ impl DecodeMessage for String {
 
 /// Unknown records are dropped.
 impl DecodeMessage for Vec<u8> {
-    ghost means = { λ bytes. option_map without_kept (meaning_of types_shape_of 15 bytes) };
+    ghost SHAPE = { types_shape_of };
 
-    ghost IsFault = { IsFaultOf types_shape_of 15 };
+    ghost TYPE_AT = { 15 };
+
+    ghost DECODING = { WithoutUnknown };
+
+    ghost is_exact = { λ _. true };
 
     fn decode(alloc: Global, bytes: &[u8]) -> Result<Vec<u8>, DecodeError> {
         let octets = octets_in(wrapped_value(alloc, place::BYTES_VALUE, bytes)?);
@@ -59,9 +73,13 @@ impl DecodeMessage for Vec<u8> {
 
 /// Unknown records are dropped.
 impl DecodeMessage for Bytes {
-    ghost means = { λ bytes. option_map without_kept (meaning_of types_shape_of 15 bytes) };
+    ghost SHAPE = { types_shape_of };
 
-    ghost IsFault = { IsFaultOf types_shape_of 15 };
+    ghost TYPE_AT = { 15 };
+
+    ghost DECODING = { WithoutUnknown };
+
+    ghost is_exact = { λ _. true };
 
     fn decode(alloc: Global, bytes: &[u8]) -> Result<Bytes, DecodeError> {
         Ok(octets_in(wrapped_value(alloc, place::BYTES_VALUE, bytes)?))

@@ -1,7 +1,7 @@
-ghost use Rattle.pbx_content.specs.Meaning.{meaning_of};
-ghost use Rattle.pbx_content.specs.Faults.{IsFaultOf};
 ghost use Rattle.pbx_desc_shapes.specs.DescriptorShape.{descriptor_shape};
 ghost use Rattle.pbx_desc_encoding.specs.Content.{method_content, service_content};
+ghost use Rattle.pbx_desc.specs.Decoding.{Whole};
+ghost use Rattle.pbx_desc.specs.Exact.{is_exact_service, is_exact_method};
 
 use crate::decoding::{DecodeMessage, record_from_bytes};
 use crate::taking::{
@@ -17,6 +17,8 @@ impl FromContents for ServiceDescriptorProto {
     ghost TYPE_AT = { 10 };
 
     ghost content = { service_content };
+
+    ghost is_exact = { is_exact_service };
 
     const TYPE_AT: usize = place::SERVICE;
 
@@ -37,9 +39,13 @@ impl FromContents for ServiceDescriptorProto {
 }
 
 impl DecodeMessage for ServiceDescriptorProto {
-    ghost means = { meaning_of descriptor_shape 10 };
+    ghost SHAPE = { descriptor_shape };
 
-    ghost IsFault = { IsFaultOf descriptor_shape 10 };
+    ghost TYPE_AT = { 10 };
+
+    ghost DECODING = { Whole };
+
+    ghost is_exact = { is_exact_service };
 
     fn decode(alloc: Global, bytes: &[u8]) -> Result<ServiceDescriptorProto, DecodeError> {
         record_from_bytes(alloc, bytes)
@@ -50,6 +56,8 @@ impl FromContents for MethodDescriptorProto {
     ghost TYPE_AT = { 11 };
 
     ghost content = { method_content };
+
+    ghost is_exact = { is_exact_method };
 
     const TYPE_AT: usize = place::METHOD;
 
@@ -76,9 +84,13 @@ impl FromContents for MethodDescriptorProto {
 }
 
 impl DecodeMessage for MethodDescriptorProto {
-    ghost means = { meaning_of descriptor_shape 11 };
+    ghost SHAPE = { descriptor_shape };
 
-    ghost IsFault = { IsFaultOf descriptor_shape 11 };
+    ghost TYPE_AT = { 11 };
+
+    ghost DECODING = { Whole };
+
+    ghost is_exact = { is_exact_method };
 
     fn decode(alloc: Global, bytes: &[u8]) -> Result<MethodDescriptorProto, DecodeError> {
         record_from_bytes(alloc, bytes)

@@ -1,7 +1,7 @@
-ghost use Rattle.pbx_content.specs.Meaning.{meaning_of};
-ghost use Rattle.pbx_content.specs.Faults.{IsFaultOf};
 ghost use Rattle.pbx_desc_shapes.specs.DescriptorShape.{descriptor_shape};
 ghost use Rattle.pbx_desc_encoding.specs.Content.{location_content, source_code_info_content};
+ghost use Rattle.pbx_desc.specs.Decoding.{Whole};
+ghost use Rattle.pbx_desc.specs.Exact.{is_exact_source_code_info, is_exact_location};
 
 use crate::decoding::{DecodeMessage, record_from_bytes};
 use crate::taking::{
@@ -18,6 +18,8 @@ impl FromContents for SourceCodeInfo {
 
     ghost content = { source_code_info_content };
 
+    ghost is_exact = { is_exact_source_code_info };
+
     const TYPE_AT: usize = place::SOURCE_CODE_INFO;
 
     fn from_contents(mut contents: Contents, alloc: Global) -> Result<SourceCodeInfo, NoMemory> {
@@ -30,9 +32,13 @@ impl FromContents for SourceCodeInfo {
 }
 
 impl DecodeMessage for SourceCodeInfo {
-    ghost means = { meaning_of descriptor_shape 12 };
+    ghost SHAPE = { descriptor_shape };
 
-    ghost IsFault = { IsFaultOf descriptor_shape 12 };
+    ghost TYPE_AT = { 12 };
+
+    ghost DECODING = { Whole };
+
+    ghost is_exact = { is_exact_source_code_info };
 
     fn decode(alloc: Global, bytes: &[u8]) -> Result<SourceCodeInfo, DecodeError> {
         record_from_bytes(alloc, bytes)
@@ -43,6 +49,8 @@ impl FromContents for Location {
     ghost TYPE_AT = { 13 };
 
     ghost content = { location_content };
+
+    ghost is_exact = { is_exact_location };
 
     const TYPE_AT: usize = place::LOCATION;
 
@@ -64,9 +72,13 @@ impl FromContents for Location {
 }
 
 impl DecodeMessage for Location {
-    ghost means = { meaning_of descriptor_shape 13 };
+    ghost SHAPE = { descriptor_shape };
 
-    ghost IsFault = { IsFaultOf descriptor_shape 13 };
+    ghost TYPE_AT = { 13 };
+
+    ghost DECODING = { Whole };
+
+    ghost is_exact = { is_exact_location };
 
     fn decode(alloc: Global, bytes: &[u8]) -> Result<Location, DecodeError> {
         record_from_bytes(alloc, bytes)

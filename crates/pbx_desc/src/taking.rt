@@ -1,4 +1,4 @@
-ghost use Rattle.std.specs.Prelude.{◌≡◌, ℕ, [], map, IfOk};
+ghost use Rattle.std.specs.Prelude.{◌≡◌, ℕ, Bool, true, [], map, IfOk};
 ghost use Rattle.pbx_content.specs.declared.shape.Cardinality.TheVariants.{Singular, Repeated};
 ghost use Rattle.pbx_content.specs.declared.shape.Kind.{Kind};
 ghost use Rattle.pbx_content.specs.declared.shape.Kind.TheVariants as kind;
@@ -8,6 +8,7 @@ ghost use Rattle.pbx_content.specs.Sound.{IsSound};
 ghost use Rattle.pbx_content_codec.specs.View.{content_of, val_of};
 ghost use Rattle.pbx_desc_shapes.specs.DescriptorShape.{descriptor_shape};
 ghost use Rattle.pbx_desc_encoding.specs.Content.{of_text, of_number, of_truth, of_texts, of_numbers, of_record, of_records, of_options};
+ghost use Rattle.pbx_desc.specs.Exact.{are_exact, is_exact_if, is_exact_options};
 ghost use Rattle.pbx_desc.specs.Taking.{Takes, TakesList};
 
 use crate::elements::{
@@ -27,17 +28,20 @@ pub(crate) trait FromContents: Drop + Sized {
     /// What the record holds.
     ghost content: { Self → Content };
 
+    /// Whether nothing stands in it beside that.
+    ghost is_exact: { Self → Bool };
+
     const TYPE_AT: usize;
 
     /// The record of the content, where a message of the type may have it. The only error is want of memory.
     fn from_contents(contents: Contents, alloc: Global) -> Result<Self, NoMemory>
         ensures { IfOk result (λ value.
-            IsSound descriptor_shape TYPE_AT (content_of contents) → content value ≡ content_of contents) };
+            IsSound descriptor_shape TYPE_AT (content_of contents) → (content value ≡ content_of contents) × (is_exact value ≡ true)) };
 }
 
 /// Takes a text out.
 pub(crate) fn take_text(contents: &mut Contents, number: u32) -> Option<Text>
-    ensures { Takes Singular kind.String number (of_text result) (content_of contents.old) (content_of contents.new) }
+    ensures { Takes Singular kind.String number (of_text result) true (content_of contents.old) (content_of contents.new) }
 {
     match contents.take(number) {
         Some(held) => text_of(held),
@@ -47,7 +51,7 @@ pub(crate) fn take_text(contents: &mut Contents, number: u32) -> Option<Text>
 
 /// Takes a number out.
 pub(crate) fn take_number(contents: &mut Contents, number: u32) -> Option<i32>
-    ensures { Takes Singular kind.Int32 number (of_number result) (content_of contents.old) (content_of contents.new) }
+    ensures { Takes Singular kind.Int32 number (of_number result) true (content_of contents.old) (content_of contents.new) }
 {
     match contents.take(number) {
         Some(held) => number_of(held),
@@ -57,7 +61,7 @@ pub(crate) fn take_number(contents: &mut Contents, number: u32) -> Option<i32>
 
 /// Takes a truth value out.
 pub(crate) fn take_truth(contents: &mut Contents, number: u32) -> Option<bool>
-    ensures { Takes Singular kind.Bool number (of_truth result) (content_of contents.old) (content_of contents.new) }
+    ensures { Takes Singular kind.Bool number (of_truth result) true (content_of contents.old) (content_of contents.new) }
 {
     match contents.take(number) {
         Some(held) => truth_of(held),
@@ -72,7 +76,7 @@ pub(crate) fn take_record<R: FromContents>(
     alloc: Global,
 ) -> Result<Option<R>, NoMemory>
     ensures { IfOk result (λ found.
-        Takes Singular (kind.Message R.TYPE_AT) number (of_record R.content found) (content_of contents.old) (content_of contents.new)) }
+        Takes Singular (kind.Message R.TYPE_AT) number (of_record R.content found) (is_exact_if R.is_exact found) (content_of contents.old) (content_of contents.new)) }
 {
     match contents.take(number) {
         Some(held) => match R::from_contents(message_of(held, alloc), alloc) {
@@ -86,7 +90,7 @@ pub(crate) fn take_record<R: FromContents>(
 /// Takes options out, which are of whatever type has no field.
 pub(crate) fn take_options(contents: &mut Contents, number: u32, alloc: Global) -> Option<Options>
     ensures { (type_at : ℕ) → fields_of descriptor_shape type_at ≡ []
-        → Takes Singular (kind.Message type_at) number (of_options result) (content_of contents.old) (content_of contents.new) }
+        → Takes Singular (kind.Message type_at) number (of_options result) (is_exact_if is_exact_options result) (content_of contents.old) (content_of contents.new) }
 {
     match contents.take(number) {
         Some(held) => Some(options_of(message_of(held, alloc))),
@@ -111,7 +115,7 @@ pub(crate) fn take_texts(
     alloc: Global,
 ) -> Result<Texts, NoMemory>
     ensures { IfOk result (λ texts.
-        Takes Repeated kind.String number (of_texts texts) (content_of contents.old) (content_of contents.new)) }
+        Takes Repeated kind.String number (of_texts texts) true (content_of contents.old) (content_of contents.new)) }
 {
     text_list(take_values(contents, number, alloc), alloc)
 }
@@ -123,7 +127,7 @@ pub(crate) fn take_numbers(
     alloc: Global,
 ) -> Result<List<i32>, NoMemory>
     ensures { IfOk result (λ numbers.
-        Takes Repeated kind.Int32 number (of_numbers numbers) (content_of contents.old) (content_of contents.new)) }
+        Takes Repeated kind.Int32 number (of_numbers numbers) true (content_of contents.old) (content_of contents.new)) }
 {
     number_list(take_values(contents, number, alloc), alloc)
 }
@@ -135,7 +139,8 @@ pub(crate) fn take_records<R: FromContents>(
     alloc: Global,
 ) -> Result<List<R>, NoMemory>
     ensures { IfOk result (λ records.
-        Takes Repeated (kind.Message R.TYPE_AT) number (of_records R.content records) (content_of contents.old) (content_of contents.new)) }
+        Takes Repeated (kind.Message R.TYPE_AT) number (of_records R.content records) (are_exact R.is_exact records)
+        (content_of contents.old) (content_of contents.new)) }
 {
     record_list(take_values(contents, number, alloc), alloc)
 }

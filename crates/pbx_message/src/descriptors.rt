@@ -1,6 +1,7 @@
 // The descriptor records.
-ghost use Rattle.std.specs.Prelude.{codes};
-ghost use Rattle.pbx_link_meaning.specs.Descriptors.{message_of_name};
+#![tactic(auto, unfolding(pbx_desc_shapes::specs::DescriptorShape::descriptor_shape))]
+
+ghost use Rattle.std.specs.Prelude.{None};
 
 use crate::reflect::ReflectMessage;
 use pbx_desc_encoding::{
@@ -12,7 +13,7 @@ use pbx_desc_encoding::{
 use pbx_link::{DescriptorPool, MessageDescriptor};
 
 impl ReflectMessage for FileDescriptorSet {
-    ghost reflected = { λ _ pool. message_of_name pool (codes "google.protobuf.FileDescriptorSet") };
+    ghost own = { λ _. None };
 
     fn descriptor(&self, pool: &DescriptorPool) -> Option<MessageDescriptor> {
         pool.get_message_by_name("google.protobuf.FileDescriptorSet")
@@ -20,7 +21,7 @@ impl ReflectMessage for FileDescriptorSet {
 }
 
 impl ReflectMessage for FileDescriptorProto {
-    ghost reflected = { λ _ pool. message_of_name pool (codes "google.protobuf.FileDescriptorProto") };
+    ghost own = { λ _. None };
 
     fn descriptor(&self, pool: &DescriptorPool) -> Option<MessageDescriptor> {
         pool.get_message_by_name("google.protobuf.FileDescriptorProto")
@@ -28,7 +29,7 @@ impl ReflectMessage for FileDescriptorProto {
 }
 
 impl ReflectMessage for DescriptorProto {
-    ghost reflected = { λ _ pool. message_of_name pool (codes "google.protobuf.DescriptorProto") };
+    ghost own = { λ _. None };
 
     fn descriptor(&self, pool: &DescriptorPool) -> Option<MessageDescriptor> {
         pool.get_message_by_name("google.protobuf.DescriptorProto")
@@ -36,7 +37,7 @@ impl ReflectMessage for DescriptorProto {
 }
 
 impl ReflectMessage for ExtensionRange {
-    ghost reflected = { λ _ pool. message_of_name pool (codes "google.protobuf.DescriptorProto.ExtensionRange") };
+    ghost own = { λ _. None };
 
     fn descriptor(&self, pool: &DescriptorPool) -> Option<MessageDescriptor> {
         pool.get_message_by_name("google.protobuf.DescriptorProto.ExtensionRange")
@@ -44,7 +45,7 @@ impl ReflectMessage for ExtensionRange {
 }
 
 impl ReflectMessage for ReservedRange {
-    ghost reflected = { λ _ pool. message_of_name pool (codes "google.protobuf.DescriptorProto.ReservedRange") };
+    ghost own = { λ _. None };
 
     fn descriptor(&self, pool: &DescriptorPool) -> Option<MessageDescriptor> {
         pool.get_message_by_name("google.protobuf.DescriptorProto.ReservedRange")
@@ -52,7 +53,7 @@ impl ReflectMessage for ReservedRange {
 }
 
 impl ReflectMessage for FieldDescriptorProto {
-    ghost reflected = { λ _ pool. message_of_name pool (codes "google.protobuf.FieldDescriptorProto") };
+    ghost own = { λ _. None };
 
     fn descriptor(&self, pool: &DescriptorPool) -> Option<MessageDescriptor> {
         pool.get_message_by_name("google.protobuf.FieldDescriptorProto")
@@ -60,7 +61,7 @@ impl ReflectMessage for FieldDescriptorProto {
 }
 
 impl ReflectMessage for OneofDescriptorProto {
-    ghost reflected = { λ _ pool. message_of_name pool (codes "google.protobuf.OneofDescriptorProto") };
+    ghost own = { λ _. None };
 
     fn descriptor(&self, pool: &DescriptorPool) -> Option<MessageDescriptor> {
         pool.get_message_by_name("google.protobuf.OneofDescriptorProto")
@@ -68,7 +69,7 @@ impl ReflectMessage for OneofDescriptorProto {
 }
 
 impl ReflectMessage for EnumDescriptorProto {
-    ghost reflected = { λ _ pool. message_of_name pool (codes "google.protobuf.EnumDescriptorProto") };
+    ghost own = { λ _. None };
 
     fn descriptor(&self, pool: &DescriptorPool) -> Option<MessageDescriptor> {
         pool.get_message_by_name("google.protobuf.EnumDescriptorProto")
@@ -76,7 +77,7 @@ impl ReflectMessage for EnumDescriptorProto {
 }
 
 impl ReflectMessage for EnumReservedRange {
-    ghost reflected = { λ _ pool. message_of_name pool (codes "google.protobuf.EnumDescriptorProto.EnumReservedRange") };
+    ghost own = { λ _. None };
 
     fn descriptor(&self, pool: &DescriptorPool) -> Option<MessageDescriptor> {
         pool.get_message_by_name("google.protobuf.EnumDescriptorProto.EnumReservedRange")
@@ -84,7 +85,7 @@ impl ReflectMessage for EnumReservedRange {
 }
 
 impl ReflectMessage for EnumValueDescriptorProto {
-    ghost reflected = { λ _ pool. message_of_name pool (codes "google.protobuf.EnumValueDescriptorProto") };
+    ghost own = { λ _. None };
 
     fn descriptor(&self, pool: &DescriptorPool) -> Option<MessageDescriptor> {
         pool.get_message_by_name("google.protobuf.EnumValueDescriptorProto")
@@ -92,7 +93,7 @@ impl ReflectMessage for EnumValueDescriptorProto {
 }
 
 impl ReflectMessage for ServiceDescriptorProto {
-    ghost reflected = { λ _ pool. message_of_name pool (codes "google.protobuf.ServiceDescriptorProto") };
+    ghost own = { λ _. None };
 
     fn descriptor(&self, pool: &DescriptorPool) -> Option<MessageDescriptor> {
         pool.get_message_by_name("google.protobuf.ServiceDescriptorProto")
@@ -100,7 +101,7 @@ impl ReflectMessage for ServiceDescriptorProto {
 }
 
 impl ReflectMessage for MethodDescriptorProto {
-    ghost reflected = { λ _ pool. message_of_name pool (codes "google.protobuf.MethodDescriptorProto") };
+    ghost own = { λ _. None };
 
     fn descriptor(&self, pool: &DescriptorPool) -> Option<MessageDescriptor> {
         pool.get_message_by_name("google.protobuf.MethodDescriptorProto")
@@ -108,7 +109,7 @@ impl ReflectMessage for MethodDescriptorProto {
 }
 
 impl ReflectMessage for SourceCodeInfo {
-    ghost reflected = { λ _ pool. message_of_name pool (codes "google.protobuf.SourceCodeInfo") };
+    ghost own = { λ _. None };
 
     fn descriptor(&self, pool: &DescriptorPool) -> Option<MessageDescriptor> {
         pool.get_message_by_name("google.protobuf.SourceCodeInfo")
@@ -116,7 +117,7 @@ impl ReflectMessage for SourceCodeInfo {
 }
 
 impl ReflectMessage for Location {
-    ghost reflected = { λ _ pool. message_of_name pool (codes "google.protobuf.SourceCodeInfo.Location") };
+    ghost own = { λ _. None };
 
     fn descriptor(&self, pool: &DescriptorPool) -> Option<MessageDescriptor> {
         pool.get_message_by_name("google.protobuf.SourceCodeInfo.Location")

@@ -7,7 +7,7 @@ use pbx_message_dynamic::DynamicMessage;
 
 /// Its own type, whatever the pool.
 impl ReflectMessage for DynamicMessage {
-    ghost reflected = { λ m pool. Some m.of };
+    ghost own = { λ m. Some m.of };
 
     fn descriptor(&self, _pool: &DescriptorPool) -> Option<MessageDescriptor> {
         Some(DynamicMessage::descriptor(self))
@@ -16,7 +16,7 @@ impl ReflectMessage for DynamicMessage {
 
 /// The type of the value in the box.
 impl<M: ReflectMessage> ReflectMessage for Box<M> {
-    ghost reflected = { λ m pool. M.reflected (box_value m) pool };
+    ghost own = { λ m. M.own (box_value m) };
 
     fn descriptor(&self, pool: &DescriptorPool) -> Option<MessageDescriptor> {
         (**self).descriptor(pool)

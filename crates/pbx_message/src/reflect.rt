@@ -1,9 +1,8 @@
-ghost use Rattle.std.specs.Prelude.{◌≡◌, List, Option, Some, IfOk, IfErr};
+ghost use Rattle.std.specs.Prelude.{◌≡◌, Option, Some, IfOk, IfErr};
 ghost use Rattle.pbx_content.specs.Encoding.{encoded};
-ghost use Rattle.pbx_desc_records.specs.declared.file.FileDescriptorProto.{FileDescriptorProto};
 ghost use Rattle.pbx_desc_records.specs.declared.message.DescriptorProto.{DescriptorProto};
 ghost use Rattle.pbx_link_meaning.specs.Descriptors.{Described};
-ghost use Rattle.pbx_message.specs.Reflect.{IsReflected, IsNotReflected};
+ghost use Rattle.pbx_message.specs.Reflect.{reflected, IsOwn, IsReflected, IsNotReflected};
 
 use crate::error::ReflectError;
 use pbx_desc_encoding::Message;
@@ -14,12 +13,15 @@ use std::alloc::Global;
 
 /// A value that has a message type in a pool.
 pub trait ReflectMessage: Message {
-    /// The pool's message of the type's name; for a dynamic message its own type, whatever the pool.
-    ghost reflected: { Self → List FileDescriptorProto → Option (Described DescriptorProto) };
+    /// A type of its own, which it has whatever the pool: dynamic messages have one.
+    ghost own: { Self → Option (Described DescriptorProto) };
 
-    /// The message type, if the pool has it.
+    /// The message type: its own, or else the pool's message of its type's full name, if the pool has it.
     fn descriptor(&self, pool: &DescriptorPool) -> Option<MessageDescriptor>
-        ensures { result ≡ reflected self.now pool.now };
+        ensures found { result ≡ reflected (own self.now) (Self.shape self.now) (Self.type_at self.now) pool.now }
+
+        // A type of its own is that as which it is written.
+        ensures own { IsOwn (own self.now) (Self.shape self.now) (Self.type_at self.now) };
 
     /// The dynamic message that the value's bytes mean as one of that type. `NotFound` comes exactly where there is no such
     /// type, and `Decode` where the bytes mean nothing as one of it.
@@ -28,9 +30,9 @@ pub trait ReflectMessage: Message {
         alloc: Global,
         pool: &DescriptorPool,
     ) -> Result<DynamicMessage, ReflectError>
-        ensures ok { IfOk result (IsReflected (reflected self.now pool.now)
+        ensures ok { IfOk result (IsReflected (reflected (own self.now) (Self.shape self.now) (Self.type_at self.now) pool.now)
             (encoded (Self.shape self.now) (Self.type_at self.now) (Self.content self.now))) }
-        ensures err { IfErr result (IsNotReflected (reflected self.now pool.now)
+        ensures err { IfErr result (IsNotReflected (reflected (own self.now) (Self.shape self.now) (Self.type_at self.now) pool.now)
             (encoded (Self.shape self.now) (Self.type_at self.now) (Self.content self.now))) }
     {
         let Some(desc) = self.descriptor(pool) else {

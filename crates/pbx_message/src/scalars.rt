@@ -1,13 +1,14 @@
 // The scalar types, by the names of their wrappers.
-ghost use Rattle.std.specs.Prelude.{codes};
-ghost use Rattle.pbx_link_meaning.specs.Descriptors.{message_of_name};
+#![tactic(auto, unfolding(pbx_desc_shapes::specs::TypesShape::types_shape))]
+
+ghost use Rattle.std.specs.Prelude.{None};
 
 use crate::reflect::ReflectMessage;
 use bytes::Bytes;
 use pbx_link::{DescriptorPool, MessageDescriptor};
 
 impl ReflectMessage for () {
-    ghost reflected = { λ _ pool. message_of_name pool (codes "google.protobuf.Empty") };
+    ghost own = { λ _. None };
 
     fn descriptor(&self, pool: &DescriptorPool) -> Option<MessageDescriptor> {
         pool.get_message_by_name("google.protobuf.Empty")
@@ -15,7 +16,7 @@ impl ReflectMessage for () {
 }
 
 impl ReflectMessage for bool {
-    ghost reflected = { λ _ pool. message_of_name pool (codes "google.protobuf.BoolValue") };
+    ghost own = { λ _. None };
 
     fn descriptor(&self, pool: &DescriptorPool) -> Option<MessageDescriptor> {
         pool.get_message_by_name("google.protobuf.BoolValue")
@@ -23,7 +24,7 @@ impl ReflectMessage for bool {
 }
 
 impl ReflectMessage for i32 {
-    ghost reflected = { λ _ pool. message_of_name pool (codes "google.protobuf.Int32Value") };
+    ghost own = { λ _. None };
 
     fn descriptor(&self, pool: &DescriptorPool) -> Option<MessageDescriptor> {
         pool.get_message_by_name("google.protobuf.Int32Value")
@@ -31,7 +32,7 @@ impl ReflectMessage for i32 {
 }
 
 impl ReflectMessage for i64 {
-    ghost reflected = { λ _ pool. message_of_name pool (codes "google.protobuf.Int64Value") };
+    ghost own = { λ _. None };
 
     fn descriptor(&self, pool: &DescriptorPool) -> Option<MessageDescriptor> {
         pool.get_message_by_name("google.protobuf.Int64Value")
@@ -39,7 +40,7 @@ impl ReflectMessage for i64 {
 }
 
 impl ReflectMessage for u32 {
-    ghost reflected = { λ _ pool. message_of_name pool (codes "google.protobuf.UInt32Value") };
+    ghost own = { λ _. None };
 
     fn descriptor(&self, pool: &DescriptorPool) -> Option<MessageDescriptor> {
         pool.get_message_by_name("google.protobuf.UInt32Value")
@@ -47,7 +48,7 @@ impl ReflectMessage for u32 {
 }
 
 impl ReflectMessage for u64 {
-    ghost reflected = { λ _ pool. message_of_name pool (codes "google.protobuf.UInt64Value") };
+    ghost own = { λ _. None };
 
     fn descriptor(&self, pool: &DescriptorPool) -> Option<MessageDescriptor> {
         pool.get_message_by_name("google.protobuf.UInt64Value")
@@ -55,7 +56,7 @@ impl ReflectMessage for u64 {
 }
 
 impl ReflectMessage for String {
-    ghost reflected = { λ _ pool. message_of_name pool (codes "google.protobuf.StringValue") };
+    ghost own = { λ _. None };
 
     fn descriptor(&self, pool: &DescriptorPool) -> Option<MessageDescriptor> {
         pool.get_message_by_name("google.protobuf.StringValue")
@@ -63,7 +64,7 @@ impl ReflectMessage for String {
 }
 
 impl ReflectMessage for Vec<u8> {
-    ghost reflected = { λ _ pool. message_of_name pool (codes "google.protobuf.BytesValue") };
+    ghost own = { λ _. None };
 
     fn descriptor(&self, pool: &DescriptorPool) -> Option<MessageDescriptor> {
         pool.get_message_by_name("google.protobuf.BytesValue")
@@ -71,7 +72,7 @@ impl ReflectMessage for Vec<u8> {
 }
 
 impl ReflectMessage for Bytes {
-    ghost reflected = { λ _ pool. message_of_name pool (codes "google.protobuf.BytesValue") };
+    ghost own = { λ _. None };
 
     fn descriptor(&self, pool: &DescriptorPool) -> Option<MessageDescriptor> {
         pool.get_message_by_name("google.protobuf.BytesValue")

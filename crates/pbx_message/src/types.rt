@@ -1,13 +1,14 @@
 // The records of well-known types.
-ghost use Rattle.std.specs.Prelude.{codes};
-ghost use Rattle.pbx_link_meaning.specs.Descriptors.{message_of_name};
+#![tactic(auto, unfolding(pbx_desc_shapes::specs::TypesShape::types_shape))]
+
+ghost use Rattle.std.specs.Prelude.{None};
 
 use crate::reflect::ReflectMessage;
 use pbx_link::{DescriptorPool, MessageDescriptor};
 use pbx_types::{Any, Duration, Empty, FieldMask, ListValue, Struct, Timestamp, Value};
 
 impl ReflectMessage for Any {
-    ghost reflected = { λ _ pool. message_of_name pool (codes "google.protobuf.Any") };
+    ghost own = { λ _. None };
 
     fn descriptor(&self, pool: &DescriptorPool) -> Option<MessageDescriptor> {
         pool.get_message_by_name("google.protobuf.Any")
@@ -15,7 +16,7 @@ impl ReflectMessage for Any {
 }
 
 impl ReflectMessage for Duration {
-    ghost reflected = { λ _ pool. message_of_name pool (codes "google.protobuf.Duration") };
+    ghost own = { λ _. None };
 
     fn descriptor(&self, pool: &DescriptorPool) -> Option<MessageDescriptor> {
         pool.get_message_by_name("google.protobuf.Duration")
@@ -23,7 +24,7 @@ impl ReflectMessage for Duration {
 }
 
 impl ReflectMessage for Empty {
-    ghost reflected = { λ _ pool. message_of_name pool (codes "google.protobuf.Empty") };
+    ghost own = { λ _. None };
 
     fn descriptor(&self, pool: &DescriptorPool) -> Option<MessageDescriptor> {
         pool.get_message_by_name("google.protobuf.Empty")
@@ -31,7 +32,7 @@ impl ReflectMessage for Empty {
 }
 
 impl ReflectMessage for FieldMask {
-    ghost reflected = { λ _ pool. message_of_name pool (codes "google.protobuf.FieldMask") };
+    ghost own = { λ _. None };
 
     fn descriptor(&self, pool: &DescriptorPool) -> Option<MessageDescriptor> {
         pool.get_message_by_name("google.protobuf.FieldMask")
@@ -39,7 +40,7 @@ impl ReflectMessage for FieldMask {
 }
 
 impl ReflectMessage for Struct {
-    ghost reflected = { λ _ pool. message_of_name pool (codes "google.protobuf.Struct") };
+    ghost own = { λ _. None };
 
     fn descriptor(&self, pool: &DescriptorPool) -> Option<MessageDescriptor> {
         pool.get_message_by_name("google.protobuf.Struct")
@@ -47,7 +48,7 @@ impl ReflectMessage for Struct {
 }
 
 impl ReflectMessage for Value {
-    ghost reflected = { λ _ pool. message_of_name pool (codes "google.protobuf.Value") };
+    ghost own = { λ _. None };
 
     fn descriptor(&self, pool: &DescriptorPool) -> Option<MessageDescriptor> {
         pool.get_message_by_name("google.protobuf.Value")
@@ -55,7 +56,7 @@ impl ReflectMessage for Value {
 }
 
 impl ReflectMessage for ListValue {
-    ghost reflected = { λ _ pool. message_of_name pool (codes "google.protobuf.ListValue") };
+    ghost own = { λ _. None };
 
     fn descriptor(&self, pool: &DescriptorPool) -> Option<MessageDescriptor> {
         pool.get_message_by_name("google.protobuf.ListValue")
@@ -63,7 +64,7 @@ impl ReflectMessage for ListValue {
 }
 
 impl ReflectMessage for Timestamp {
-    ghost reflected = { λ _ pool. message_of_name pool (codes "google.protobuf.Timestamp") };
+    ghost own = { λ _. None };
 
     fn descriptor(&self, pool: &DescriptorPool) -> Option<MessageDescriptor> {
         pool.get_message_by_name("google.protobuf.Timestamp")

@@ -1,10 +1,11 @@
-ghost use Rattle.std.specs.Prelude.{◌≡◌, ◌-◌, ◌^◌, min, Some, IfOk, IfErr, OnOk, OnErr};
+ghost use Rattle.std.specs.Prelude.{◌≡◌, ◌-◌, ◌^◌, min, true, Some, IfOk, IfErr, OnOk, OnErr};
 ghost use Rattle.pbx_content.specs.Content.{empty, kept as kept_of, fields as fields_in_content, without, with_fields};
 ghost use Rattle.pbx_content.specs.Encoding.{encoded};
 ghost use Rattle.pbx_content.specs.Faults.{IsFaultOf, IsToldFault};
 ghost use Rattle.pbx_content.specs.Meaning.{meaning_of};
 ghost use Rattle.pbx_content.specs.Onto.{merged_of};
 ghost use Rattle.pbx_content.specs.Sound.{IsSound, depth as depth_of};
+ghost use Rattle.pbx_desc.specs.Decoding.{meaning_by, IsFaultBy};
 ghost use Rattle.pbx_link_meaning.specs.Shapes.{shape_of, place_of};
 ghost use Rattle.pbx_message_dynamic.specs.Message.{shape_in, place_in, text_in, dynamic, with_content};
 ghost use Rattle.pbx_message_dynamic.specs.Targets.{IsNumbered};
@@ -366,8 +367,12 @@ impl DynamicMessage {
 
     /// The value that the message's bytes mean.
     pub fn transcode_to<T: DecodeMessage>(&self, alloc: Global) -> Result<T, DecodeError>
-        ensures found { IfOk result (λ made. T.means (text_in self.now) ≡ Some (T.content made)) }
-        ensures fault { IfErr result (IsToldFault (T.means (text_in self.now)) (T.IsFault (text_in self.now))) }
+        ensures found { IfOk result (λ made. meaning_by T.DECODING T.SHAPE T.TYPE_AT (text_in self.now) ≡ Some (T.content made)) }
+
+        // And nothing beside it.
+        ensures exact { IfOk result (λ made. T.is_exact made ≡ true) }
+        ensures fault { IfErr result (IsToldFault
+            (meaning_by T.DECODING T.SHAPE T.TYPE_AT (text_in self.now)) (IsFaultBy T.DECODING T.SHAPE T.TYPE_AT (text_in self.now))) }
     {
         let bytes = self.encode_to_vec(alloc)?;
         T::decode(alloc, bytes.as_slice())

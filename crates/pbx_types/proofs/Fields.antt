@@ -36,7 +36,7 @@ ascend_with : (m n : ℕ) (v : Option Val) (fs : Fields) → m < n → IsAbove n
 ascend_with m n None fs lt h = fields_lower m n fs (omega arith) h
 ascend_with m n (Some v) fs lt h = (lt, h)
 
-ascend_from : (n : ℕ) (gs : List FieldShape) (vs : List (Option Val)) → AreAbove n gs → IsAbove n (fields_from gs vs)
+pub ascend_from : (n : ℕ) (gs : List FieldShape) (vs : List (Option Val)) → AreAbove n gs → IsAbove n (fields_from gs vs)
 ascend_from n [] vs above = tt
 ascend_from n (g ∷ gs) [] above = tt
 ascend_from n (g ∷ gs) (v ∷ vs) above =

@@ -12,3 +12,5 @@ pub mod Members
 pub mod Pairs
 pub mod Putting
 pub mod Reading
+pub mod One
+pub mod TreeOne

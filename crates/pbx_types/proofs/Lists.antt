@@ -1,6 +1,8 @@
 -- Values that are taken out, and lists of them, one by one.
-use Rattle.std.proofs.Common.{◌≡◌, ℕ, false, List, [], ◌∷◌, ◌++◌, map, Option, Some, None, option_map, sym, ap, ◌∙◌, subst}
+use Rattle.std.proofs.Common.{◌≡◌, ℕ, Bool, true, false, List, [], ◌∷◌, ◌++◌, map, Option, Some, None, option_map, refl, sym, ap, ◌∙◌, subst}
 use Rattle.std.proofs.lemmas.List.{map-append}
+use Rattle.pbx_wire.specs.Text.{all_true}
+use Rattle.pbx_wire.proofs.Written.{all_true-append}
 use Rattle.pbx_content.specs.declared.shape.Cardinality.TheVariants.{Repeated, Map}
 use Rattle.pbx_content.specs.declared.shape.Kind.{Kind}
 use Rattle.pbx_content.specs.declared.shape.Kind.TheVariants as kind
@@ -12,16 +14,24 @@ use Rattle.pbx_content_codec.specs.declared.contents.Held as held
 use Rattle.pbx_content_codec.specs.declared.contents.Pair.{Pair}
 use Rattle.pbx_content_codec.specs.View.{content_of, val_of, pair_of}
 use Rattle.pbx_content_codec.proofs.Tree.{val_of-Many, val_of-Pairs}
+use Rattle.pbx_desc.specs.Exact.{are_exact}
 use Rattle.pbx_desc_shapes.specs.TypesShape.{types_shape}
 use Rattle.pbx_types.specs.Sound.{IsOf, AreOf, some_field}
 use Rattle.pbx_types.specs.Taking.{IsAt, IsList, IsMap, TakesList, TakesPairs}
 
 -- the record of a message that is taken out
-pub message_is : {R : Type 0} (t : ℕ) (f : R → Content) (h : Held) (c : Contents) (r : R) → (IsOf (kind.Message t) (val_of h) → val_of h ≡ message (content_of c))
-    → (IsSound types_shape t (content_of c) → f r ≡ content_of c) → IsOf (kind.Message t) (val_of h) → message (f r) ≡ val_of h
-message_is t f h c r is made own =
+pub message_is : {R : Type 0} (t : ℕ) (f : R → Content) (x : R → Bool) (h : Held) (c : Contents) (r : R) → (IsOf (kind.Message t) (val_of h) → val_of h ≡ message (content_of c))
+    → (IsSound types_shape t (content_of c) → (f r ≡ content_of c) × (x r ≡ true)) → IsOf (kind.Message t) (val_of h) → (message (f r) ≡ val_of h) × (x r ≡ true)
+message_is t f x h c r is made own =
     let e = is own in
-    ap message (made (subst (IsOf (kind.Message t)) e own)) ∙ sym e
+    let both = made (subst (IsOf (kind.Message t)) e own) in
+    (ap message both.0 ∙ sym e, both.1)
+
+-- one exact record more
+pub exact_more : {R : Type 0} (x : R → Bool) (rs : List R) (r : R) → are_exact x rs ≡ true → x r ≡ true → are_exact x (rs ++ r ∷ []) ≡ true
+exact_more x rs r old new =
+    let last : all_true (x r ∷ []) ≡ true = rw new refl in
+    ap all_true (map-append x rs (r ∷ [])) ∙ all_true-append (map x rs) (x r ∷ []) old last
 
 are_split : (k : Kind) (vs : List Val) (v : Val) → AreOf k (vs ++ v ∷ []) → AreOf k vs × IsOf k v
 are_split k [] v h = (tt, h.0)
@@ -36,6 +46,18 @@ pub value_more : {X : Type 0} (k : Kind) (g : X → Val) (hs : List Held) (h : H
 value_more k g hs h xs x before here all =
     let parts = are_split k (map val_of hs) (val_of h) (subst (AreOf k) (map-append val_of hs (h ∷ [])) all) in
     map-append g xs (x ∷ []) ∙ rw (before parts.0, here parts.1) (sym (map-append val_of hs (h ∷ [])))
+
+-- these are the records of the trees, and exact, where those are of the kind
+abbrev pub AreRecords : {R : Type 0} → Kind → (R → Content) → (R → Bool) → List Held → List R → Type 0
+AreRecords k f x hs rs = AreOf k (map val_of hs) → (map (λ r. message (f r)) rs ≡ map val_of hs) × (are_exact x rs ≡ true)
+
+pub record_more : {R : Type 0} (k : Kind) (f : R → Content) (x : R → Bool) (hs : List Held) (h : Held) (rs : List R) (r : R) → AreRecords k f x hs rs → (IsOf k (val_of h) → (message (f r) ≡ val_of h) × (x r ≡ true))
+    → AreRecords k f x (hs ++ h ∷ []) (rs ++ r ∷ [])
+record_more k f x hs h rs r before here all =
+    let parts = are_split k (map val_of hs) (val_of h) (subst (AreOf k) (map-append val_of hs (h ∷ [])) all) in
+    let old = before parts.0 in
+    let new = here parts.1 in
+    (map-append (λ r. message (f r)) rs (r ∷ []) ∙ rw (old.0, new.0) (sym (map-append val_of hs (h ∷ []))), exact_more x rs r old.1 new.1)
 
 some_same : (v w : Val) → Some v ≡ Some w → v ≡ w
 some_same v w e = cc

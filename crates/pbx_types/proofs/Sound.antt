@@ -1,6 +1,6 @@
 -- A sound content is made of the values of its fields and its kept records.
 use Rattle.std.proofs.Common.{◌≡◌, ℕ, ◌<◌, ◌≤◌, Bool, true, false, if◌then◌else◌, List, [], ◌∷◌, map, Option, Some, None, refl, sym, ap, ◌∙◌, subst, arith, inl, inr}
-use Rattle.std.specs.Prelude.{◌==◌, ◌⊎◌}
+use Rattle.std.specs.Prelude.{◌==◌, ◌⊎◌, ◌||◌, not}
 use Rattle.std.proofs.lemmas.Bool.Decides.{nat_tests}
 use Rattle.std.proofs.lemmas.Bool.{cases_lt}
 use Rattle.pbx_wire.specs.Text.{all_true, is_numbered, are_numbered}
@@ -16,6 +16,8 @@ use Rattle.pbx_content.proofs.WrittenFields.{get-above}
 use Rattle.pbx_desc_shapes.specs.TypesShape.{types_shape}
 use Rattle.pbx_desc_shapes.proofs.WellKnownProper.{types_shape_proper}
 use Rattle.pbx_types.specs.FieldContent.{writable, fields_from, record_content}
+use Rattle.pbx_desc.specs.Exact.{are_writable}
+use Rattle.pbx_types.specs.Exact.{is_shown}
 use Rattle.pbx_types.specs.Taking.{IsAt}
 
 -- ---- values by number
@@ -92,6 +94,19 @@ kept_again gs (r ∷ rs) u n =
     let ns = both (is_numbered r) (are_numbered rs) n in
     rw (ns.0, us.0, kept_again gs rs us.1 ns.1) refl
 
+written_all : (gs : List FieldShape) (rs : List Rec) → all_true (map (is_kept gs) rs) ≡ true → are_numbered rs ≡ true → are_writable gs rs ≡ true
+written_all gs [] u n = refl
+written_all gs (r ∷ rs) u n =
+    let us = both (is_kept gs r) (all_true (map (is_kept gs) rs)) u in
+    let ns = both (is_numbered r) (are_numbered rs) n in
+    rw (ns.0, us.0) (written_all gs rs us.1 ns.1)
+
+-- the kept records of a sound content may all be written
+pub written : (t : ℕ) (gs : List FieldShape) (rs : List Rec) (c : Content) → fields_of types_shape t ≡ gs → rs ≡ kept c → IsSound types_shape t c → are_writable gs rs ≡ true
+written t gs rs (content fs ks) e same sound =
+    let unread = subst (λ (hs : List FieldShape). AreKept hs ks) e sound.3 in
+    ap (are_writable gs) same ∙ written_all gs ks unread.unread unread.numbered
+
 -- ---- sound values
 
 -- the value of a field is a sound one
@@ -133,6 +148,22 @@ shown_again g (Some (octets b)) h = shown_is g (octets b) h.1
 shown_again g (Some (message c)) h = shown_is g (message c) (inr refl)
 shown_again g (Some (many vs)) h = shown_is g (many vs) (inr h.1)
 shown_again g (Some (keyed ps)) h = shown_is g (keyed ps) (inr h.0)
+
+told_if : (presence default : Bool) → (presence ≡ true) ⊎ (default ≡ false) → presence || not default ≡ true
+told_if true default h = refl
+told_if false default (inl e) = absurd cc
+told_if false default (inr e) = rw e refl
+
+-- a sound value is no default
+pub value_shown : (g : FieldShape) (v : Option Val) → IsAt g v → is_shown g v ≡ true
+value_shown g None h = refl
+value_shown g (Some (number z)) h = told_if g.presence (is_default types_shape g.kind (number z)) h.1
+value_shown g (Some (truth b)) h = told_if g.presence (is_default types_shape g.kind (truth b)) h.1
+value_shown g (Some (text t)) h = told_if g.presence (is_default types_shape g.kind (text t)) h.1
+value_shown g (Some (octets b)) h = told_if g.presence (is_default types_shape g.kind (octets b)) h.1
+value_shown g (Some (message c)) h = told_if g.presence false (inr refl)
+value_shown g (Some (many vs)) h = refl
+value_shown g (Some (keyed ps)) h = refl
 
 -- ---- the whole content
 

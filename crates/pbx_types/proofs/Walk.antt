@@ -15,7 +15,8 @@ use Rattle.pbx_desc_shapes.specs.TypesShape.{types_shape}
 use Rattle.pbx_types.specs.FieldContent.{record_content}
 use Rattle.pbx_types.specs.Sound.{IsOf, MayBe, AreOf, some_field}
 use Rattle.pbx_types.specs.Taking.{IsAt, Takes, TakesList, TakesPairs}
-use Rattle.pbx_types.proofs.Sound.{shown_again, whole}
+use Rattle.pbx_types.specs.Exact.{is_shown, is_exact_with}
+use Rattle.pbx_types.proofs.Sound.{shown_again, value_shown, written, sound_at, whole}
 
 -- ---- what is left
 
@@ -80,20 +81,38 @@ pub record IsPlain (g : FieldShape) (n : ℕ) (k : Kind) : Type 0 where
   pub kind_is : g.kind ≡ k
   pub simple : is_simple k ≡ true
 
--- what was taken out is the value that is shown, where that was still there
-pub taken_is : {k : Kind} {n : ℕ} {v : Option Val} {mid new : Content} (g : FieldShape) (c : Content) → IsPlain g n k → Takes k n v mid new → get n (fields mid) ≡ get n (fields c)
-    → IsAt g (get g.number (fields c)) → shown types_shape g.presence g.kind v ≡ get g.number (fields c)
-taken_is {k} {n} {v} {mid} {new} g c plain takes there at =
+-- what was taken out is the value, where that was still there
+pub value_is : {k : Kind} {n : ℕ} {v : Option Val} {mid new : Content} (g : FieldShape) (c : Content) → IsPlain g n k → Takes k n v mid new → get n (fields mid) ≡ get n (fields c)
+    → IsAt g (get g.number (fields c)) → v ≡ get g.number (fields c)
+value_is {k} {n} {v} {mid} {new} g c plain takes there at =
     let same : get g.number (fields c) ≡ get n (fields c) = ap (λ m. get m (fields c)) plain.number_is in
     let may : MayBe k (get n (fields c)) = rw (← plain.kind_is, ← plain.number_is) (may_be g (get g.number (fields c)) plain.single (rw plain.kind_is plain.simple) at) in
-    let is : v ≡ get g.number (fields c) = takes.value (subst (MayBe k) (sym there) may) ∙ there ∙ sym same in
-    ap (shown types_shape g.presence g.kind) is ∙ shown_again g (get g.number (fields c)) at
+    takes.value (subst (MayBe k) (sym there) may) ∙ there ∙ sym same
+
+-- and so it is shown
+pub taken_is : {k : Kind} {n : ℕ} {v : Option Val} {mid new : Content} (g : FieldShape) (c : Content) → IsPlain g n k → Takes k n v mid new → get n (fields mid) ≡ get n (fields c)
+    → IsAt g (get g.number (fields c)) → shown types_shape g.presence g.kind v ≡ get g.number (fields c)
+taken_is g c plain takes there at = ap (shown types_shape g.presence g.kind) (value_is g c plain takes there at) ∙ shown_again g (get g.number (fields c)) at
+
+-- a message that was taken out is one of its type, where it was still there
+pub message_may : {t : ℕ} {n : ℕ} (g : FieldShape) (mid c : Content) → IsPlain g n (kind.Message t) → get n (fields mid) ≡ get n (fields c) → IsAt g (get g.number (fields c)) → MayBe (kind.Message t) (get n (fields mid))
+message_may {t} {n} g mid c plain there at =
+    subst (MayBe (kind.Message t)) (sym there)
+    (rw (← plain.kind_is, ← plain.number_is) (may_be g (get g.number (fields c)) plain.single (rw plain.kind_is plain.simple) at))
+
+-- the record of two fields holds the content, and nothing beside it
+abbrev pub IsWhole : List FieldShape → List (Option Val) → List Rec → Content → Type 0
+IsWhole gs vs rs c = (record_content gs vs rs ≡ c) × (is_exact_with gs vs rs ≡ true)
 
 pub two_whole : {k l : Kind} {u v : Option Val} {c mid last : Content} {rs : List Rec} (t : ℕ) (g h : FieldShape) → fields_of types_shape t ≡ g ∷ h ∷ [] → IsPlain g 1 k → IsPlain h 2 l
-    → Takes k 1 u c mid → Takes l 2 v mid last → rs ≡ kept last → IsSound types_shape t c → record_content (g ∷ h ∷ []) (u ∷ v ∷ []) rs ≡ c
+    → Takes k 1 u c mid → Takes l 2 v mid last → rs ≡ kept last → IsSound types_shape t c → IsWhole (g ∷ h ∷ []) (u ∷ v ∷ []) rs c
 two_whole {k} {l} {u} {v} {c} {mid} {last} {rs} t g h type first second takes more same sound =
-    whole t (g ∷ h ∷ []) (u ∷ v ∷ []) rs c type (taken_is g c first takes refl, (taken_is h c second more (get_left 2 1 c mid takes.rest refl), tt))
-    (same ∙ kept_left 2 mid last more.rest ∙ kept_left 1 c mid takes.rest) sound
+    let behind = get_left 2 1 c mid takes.rest refl in
+    let kept_same = same ∙ kept_left 2 mid last more.rest ∙ kept_left 1 c mid takes.rest in
+    let each = sound_at t (g ∷ h ∷ []) c type sound in
+    let one : is_shown g u ≡ true = ap (is_shown g) (value_is g c first takes refl each.0) ∙ value_shown g (get g.number (fields c)) each.0 in
+    let two : is_shown h v ≡ true = ap (is_shown h) (value_is h c second more behind each.1.0) ∙ value_shown h (get h.number (fields c)) each.1.0 in
+    (whole t (g ∷ h ∷ []) (u ∷ v ∷ []) rs c type (taken_is g c first takes refl, (taken_is h c second more behind, tt)) kept_same sound, rw (one, two) (written t (g ∷ h ∷ []) rs c type kept_same sound))
 
 -- ---- lists and maps
 
@@ -119,6 +138,20 @@ element_is k (keyed ps) s h = absurd h
 elements_are : (k : Kind) (vs : List Val) → is_simple k ≡ true → AreElements types_shape k (vals_of vs) → AreOf k vs
 elements_are k [] s h = tt
 elements_are k (v ∷ vs) s h = (element_is k v s h.0, elements_are k vs s h.1)
+
+-- a list that is taken out of a sound content has values of the kind
+pub list_are : {k : Kind} {vs : List Val} {c last : Content} (t : ℕ) (g : FieldShape) → fields_of types_shape t ≡ g ∷ [] → g.cardinality ≡ Repeated → g.presence ≡ false → g.kind ≡ k → is_simple k ≡ true
+    → TakesList k g.number vs c last → IsSound types_shape t c → AreOf k vs
+list_are {k} {vs} {c} {last} t g type several without kind_is simple takes sound =
+    let at = (sound_at t (g ∷ []) c type sound).0 in
+    elements_are k vs simple (takes.value (rw (several, without, kind_is) at (some_at g (get g.number (fields c)) at))).each
+
+-- and a map has pairs of the kinds
+pub map_are : {key k : Kind} {ps : List (Key × Val)} {c last : Content} (t : ℕ) (g : FieldShape) → fields_of types_shape t ≡ g ∷ [] → g.cardinality ≡ Map key → g.presence ≡ false → g.kind ≡ k
+    → TakesPairs key k g.number ps c last → IsSound types_shape t c → ArePairs types_shape key k (pairs_of ps)
+map_are {key} {k} {ps} {c} {last} t g type pairs without kind_is takes sound =
+    let at = (sound_at t (g ∷ []) c type sound).0 in
+    (takes.value (rw (pairs, without, kind_is) at (some_at g (get g.number (fields c)) at))).each
 
 -- the values of the one field, a list, are these
 pub list_whole : {X : Type 0} {k : Kind} {vs : List Val} {c last : Content} {rs : List Rec} (t : ℕ) (g : FieldShape) (f : X → Val) (xs : List X) → fields_of types_shape t ≡ g ∷ []

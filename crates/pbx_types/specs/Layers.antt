@@ -1,5 +1,5 @@
 -- The records that hold one another, one layer at a time.
-use Rattle.std.specs.Prelude.{◌≡◌, ℕ, List, true, map, Option, option_map}
+use Rattle.std.specs.Prelude.{◌≡◌, ℕ, List, Bool, true, map, Option, option_map}
 use Rattle.std.specs.Str.{is_utf8}
 use Rattle.pbx_content.specs.Content.{Content, fields, no_fields, with_fields, Key, Val, text_key, message}
 use Rattle.pbx_content.specs.Sound.{has_one_member}
@@ -12,11 +12,16 @@ use Rattle.pbx_types.specs.declared.tree.ListValue.{ListValue, out-ListValue}
 use Rattle.pbx_types.specs.declared.tree.ListValue.TheOpen.{ListValue-F, Struct-F, Value-F}
 use Rattle.pbx_types.specs.declared.tree.Struct.{Struct, out-Struct}
 use Rattle.pbx_types.specs.declared.tree.Value.{Value, out-Value}
+use Rattle.pbx_types.specs.Exact.{is_exact_value}
 use Rattle.pbx_types.specs.Content.{struct_content, list_content, value_content, value_members, last_member}
 
 -- a value under its name
 abbrev pub content_under : List ℕ × Value → List ℕ × Content
 content_under f = (f.0, value_content f.1)
+
+-- whether the value under a name is exact
+abbrev pub exact_under : List ℕ × Value → Bool
+exact_under f = is_exact_value f.1
 
 -- a ListValue with the contents of its values in their places
 abbrev pub opened_list : ListValue → ListValue-F Content Content Content

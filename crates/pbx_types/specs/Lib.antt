@@ -6,4 +6,5 @@ pub mod Building
 pub mod Taking
 pub mod PlainContent
 pub mod Content
+pub mod Exact
 pub mod Layers

@@ -1,8 +1,8 @@
 ghost use Rattle.std.specs.Prelude.{◌≡◌, None, [], IfOk};
-ghost use Rattle.pbx_content.specs.Meaning.{meaning_of};
-ghost use Rattle.pbx_content.specs.Faults.{IsFaultOf};
 ghost use Rattle.pbx_desc_shapes.specs.TypesShape.{types_shape};
 ghost use Rattle.pbx_types.specs.PlainContent.{any_content, empty_content};
+ghost use Rattle.pbx_desc.specs.Decoding.{Whole};
+ghost use Rattle.pbx_types.specs.Exact.{is_exact_any, is_exact_empty};
 
 use crate::copying::{copied_octets, copied_text};
 use crate::{
@@ -84,6 +84,8 @@ impl FromContents for Any {
 
     ghost content = { any_content };
 
+    ghost is_exact = { is_exact_any };
+
     const TYPE_AT: usize = place::ANY;
 
     fn from_contents(mut contents: Contents, _alloc: Global) -> Result<Any, NoMemory> {
@@ -98,9 +100,13 @@ impl FromContents for Any {
 }
 
 impl DecodeMessage for Any {
-    ghost means = { meaning_of types_shape 0 };
+    ghost SHAPE = { types_shape };
 
-    ghost IsFault = { IsFaultOf types_shape 0 };
+    ghost TYPE_AT = { 0 };
+
+    ghost DECODING = { Whole };
+
+    ghost is_exact = { is_exact_any };
 
     fn decode(alloc: Global, bytes: &[u8]) -> Result<Any, DecodeError> {
         record_from_bytes(alloc, bytes)
@@ -163,6 +169,8 @@ impl FromContents for Empty {
 
     ghost content = { empty_content };
 
+    ghost is_exact = { is_exact_empty };
+
     const TYPE_AT: usize = place::EMPTY;
 
     fn from_contents(contents: Contents, _alloc: Global) -> Result<Empty, NoMemory> {
@@ -173,9 +181,13 @@ impl FromContents for Empty {
 }
 
 impl DecodeMessage for Empty {
-    ghost means = { meaning_of types_shape 2 };
+    ghost SHAPE = { types_shape };
 
-    ghost IsFault = { IsFaultOf types_shape 2 };
+    ghost TYPE_AT = { 2 };
+
+    ghost DECODING = { Whole };
+
+    ghost is_exact = { is_exact_empty };
 
     fn decode(alloc: Global, bytes: &[u8]) -> Result<Empty, DecodeError> {
         record_from_bytes(alloc, bytes)

@@ -1,15 +1,16 @@
-ghost use Rattle.std.specs.Prelude.{◌≡◌, Some, map, option_map, IfOk};
+ghost use Rattle.std.specs.Prelude.{◌≡◌, Some, true, map, option_map, IfOk};
 ghost use Rattle.pbx_content.specs.declared.shape.Kind.TheVariants as kind;
-ghost use Rattle.pbx_content.specs.Content.{message, pairs_of};
-ghost use Rattle.pbx_content.specs.Meaning.{meaning_of};
-ghost use Rattle.pbx_content.specs.Faults.{IsFaultOf};
+ghost use Rattle.pbx_content.specs.Content.{message, pairs_of, get, fields as fields_in};
 ghost use Rattle.pbx_content.specs.Sound.{IsSound, ArePairs, IsKeyOf};
 ghost use Rattle.pbx_content_codec.specs.View.{content_of, val_of, pair_of};
 ghost use Rattle.pbx_desc_shapes.specs.TypesShape.{types_shape};
-ghost use Rattle.pbx_types.specs.Sound.{AreOf};
+ghost use Rattle.pbx_types.specs.Sound.{AreOf, MayBe};
 ghost use Rattle.pbx_types.specs.Taking.{Takes};
 ghost use Rattle.pbx_types.specs.Content.{struct_content, list_content, value_content};
-ghost use Rattle.pbx_types.specs.Layers.{value_message, value_pair, held_pair};
+ghost use Rattle.pbx_types.specs.Layers.{exact_under, value_message, value_pair, held_pair};
+ghost use Rattle.pbx_desc.specs.Decoding.{Whole};
+ghost use Rattle.pbx_desc.specs.Exact.{are_exact, is_exact_if};
+ghost use Rattle.pbx_types.specs.Exact.{is_exact_struct, is_exact_value, is_exact_list};
 
 use crate::tree::{ListValue, Struct, Value};
 use crate::{
@@ -31,6 +32,8 @@ impl FromContents for Struct {
 
     ghost content = { struct_content };
 
+    ghost is_exact = { is_exact_struct };
+
     const TYPE_AT: usize = place::STRUCT;
 
     fn from_contents(contents: Contents, alloc: Global) -> Result<Struct, NoMemory> {
@@ -39,9 +42,13 @@ impl FromContents for Struct {
 }
 
 impl DecodeMessage for Struct {
-    ghost means = { meaning_of types_shape 4 };
+    ghost SHAPE = { types_shape };
 
-    ghost IsFault = { IsFaultOf types_shape 4 };
+    ghost TYPE_AT = { 4 };
+
+    ghost DECODING = { Whole };
+
+    ghost is_exact = { is_exact_struct };
 
     fn decode(alloc: Global, bytes: &[u8]) -> Result<Struct, DecodeError> {
         record_from_bytes(alloc, bytes)
@@ -54,6 +61,8 @@ impl FromContents for Value {
 
     ghost content = { value_content };
 
+    ghost is_exact = { is_exact_value };
+
     const TYPE_AT: usize = place::VALUE;
 
     fn from_contents(contents: Contents, alloc: Global) -> Result<Value, NoMemory> {
@@ -62,9 +71,13 @@ impl FromContents for Value {
 }
 
 impl DecodeMessage for Value {
-    ghost means = { meaning_of types_shape 6 };
+    ghost SHAPE = { types_shape };
 
-    ghost IsFault = { IsFaultOf types_shape 6 };
+    ghost TYPE_AT = { 6 };
+
+    ghost DECODING = { Whole };
+
+    ghost is_exact = { is_exact_value };
 
     fn decode(alloc: Global, bytes: &[u8]) -> Result<Value, DecodeError> {
         record_from_bytes(alloc, bytes)
@@ -77,6 +90,8 @@ impl FromContents for ListValue {
 
     ghost content = { list_content };
 
+    ghost is_exact = { is_exact_list };
+
     const TYPE_AT: usize = place::LIST_VALUE;
 
     fn from_contents(contents: Contents, alloc: Global) -> Result<ListValue, NoMemory> {
@@ -85,9 +100,13 @@ impl FromContents for ListValue {
 }
 
 impl DecodeMessage for ListValue {
-    ghost means = { meaning_of types_shape 7 };
+    ghost SHAPE = { types_shape };
 
-    ghost IsFault = { IsFaultOf types_shape 7 };
+    ghost TYPE_AT = { 7 };
+
+    ghost DECODING = { Whole };
+
+    ghost is_exact = { is_exact_list };
 
     fn decode(alloc: Global, bytes: &[u8]) -> Result<ListValue, DecodeError> {
         record_from_bytes(alloc, bytes)
@@ -97,7 +116,8 @@ impl DecodeMessage for ListValue {
 /// The value of the content, where so many more may stand in one another.
 #[cycle(tree)]
 fn value_from(mut contents: Contents, alloc: Global, room: u32) -> Result<Value, NoMemory>
-    ensures { IfOk result (λ value. IsSound types_shape 6 (content_of contents) → value_content value ≡ content_of contents) }
+    ensures { IfOk result (λ value. IsSound types_shape 6 (content_of contents)
+        → (value_content value ≡ content_of contents) × (is_exact_value value ≡ true)) }
 {
     if room == 0 {
         return Err(NoMemory);
@@ -125,7 +145,8 @@ fn take_struct(
     room: u32,
 ) -> Result<Option<Struct>, NoMemory>
     ensures { IfOk result (λ found.
-        Takes (kind.Message 4) 5 (option_map message (option_map struct_content found)) (content_of contents.old) (content_of contents.new)) }
+        Takes (kind.Message 4) 5 (option_map message (option_map struct_content found)) (content_of contents.old) (content_of contents.new)
+        × (MayBe (kind.Message 4) (get 5 (fields_in (content_of contents.old))) → is_exact_if is_exact_struct found ≡ true)) }
 {
     match contents.take(5) {
         Some(held) => match struct_from(message_of(held, alloc), alloc, room) {
@@ -144,7 +165,8 @@ fn take_list(
     room: u32,
 ) -> Result<Option<ListValue>, NoMemory>
     ensures { IfOk result (λ found.
-        Takes (kind.Message 7) 6 (option_map message (option_map list_content found)) (content_of contents.old) (content_of contents.new)) }
+        Takes (kind.Message 7) 6 (option_map message (option_map list_content found)) (content_of contents.old) (content_of contents.new)
+        × (MayBe (kind.Message 7) (get 6 (fields_in (content_of contents.old))) → is_exact_if is_exact_list found ≡ true)) }
 {
     match contents.take(6) {
         Some(held) => match list_from(message_of(held, alloc), alloc, room) {
@@ -157,7 +179,8 @@ fn take_list(
 
 #[cycle(tree)]
 fn struct_from(mut contents: Contents, alloc: Global, room: u32) -> Result<Struct, NoMemory>
-    ensures { IfOk result (λ value. IsSound types_shape 4 (content_of contents) → struct_content value ≡ content_of contents) }
+    ensures { IfOk result (λ value. IsSound types_shape 4 (content_of contents)
+        → (struct_content value ≡ content_of contents) × (is_exact_struct value ≡ true)) }
 {
     let pairs = take_pairs(&mut contents, 1, alloc);
     let fields = fields_from(pairs, alloc, room)?;
@@ -171,7 +194,7 @@ fn struct_from(mut contents: Contents, alloc: Global, room: u32) -> Result<Struc
 #[cycle(tree)]
 fn fields_from(pairs: List<Pair>, alloc: Global, room: u32) -> Result<TextMap<Value>, NoMemory>
     ensures { IfOk result (λ fields. ArePairs types_shape kind.String (kind.Message 6) (pairs_of (map pair_of pairs))
-        → map value_pair fields ≡ map pair_of pairs) }
+        → (map value_pair fields ≡ map pair_of pairs) × (are_exact exact_under fields ≡ true)) }
 {
     let mut fields = TextMap::new(alloc);
     for pair in pairs.into_vec() {
@@ -184,7 +207,8 @@ fn fields_from(pairs: List<Pair>, alloc: Global, room: u32) -> Result<TextMap<Va
 
 #[cycle(tree)]
 fn list_from(mut contents: Contents, alloc: Global, room: u32) -> Result<ListValue, NoMemory>
-    ensures { IfOk result (λ value. IsSound types_shape 7 (content_of contents) → list_content value ≡ content_of contents) }
+    ensures { IfOk result (λ value. IsSound types_shape 7 (content_of contents)
+        → (list_content value ≡ content_of contents) × (is_exact_list value ≡ true)) }
 {
     let helds = take_values(&mut contents, 1, alloc);
     let values = values_from(helds, alloc, room)?;
@@ -197,7 +221,8 @@ fn list_from(mut contents: Contents, alloc: Global, room: u32) -> Result<ListVal
 /// The values that the elements are.
 #[cycle(tree)]
 fn values_from(helds: List<Held>, alloc: Global, room: u32) -> Result<List<Value>, NoMemory>
-    ensures { IfOk result (λ values. AreOf (kind.Message 6) (map val_of helds) → map value_message values ≡ map val_of helds) }
+    ensures { IfOk result (λ values. AreOf (kind.Message 6) (map val_of helds)
+        → (map value_message values ≡ map val_of helds) × (are_exact is_exact_value values ≡ true)) }
 {
     let mut values = List::with_capacity(alloc, helds.len())?;
     for held in helds.into_vec() {

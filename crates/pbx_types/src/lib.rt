@@ -8,6 +8,7 @@ mod copying;
 mod decoding;
 mod elements;
 mod encoding;
+mod laws;
 mod mask;
 mod record_decoding;
 mod record_encoding;
@@ -22,6 +23,7 @@ pub(crate) use contents::{
     text_values,
 };
 pub(crate) use elements::{message_of, text_list};
+pub use laws::contents_fix_records;
 pub use mask::FieldMask;
 pub use pbx_desc::DecodeMessage;
 pub use pbx_desc_encoding::Message;

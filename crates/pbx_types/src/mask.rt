@@ -1,8 +1,8 @@
 ghost use Rattle.std.specs.Prelude.{◌≡◌, [], IfOk};
-ghost use Rattle.pbx_content.specs.Meaning.{meaning_of};
-ghost use Rattle.pbx_content.specs.Faults.{IsFaultOf};
 ghost use Rattle.pbx_desc_shapes.specs.TypesShape.{types_shape};
 ghost use Rattle.pbx_types.specs.PlainContent.{mask_content};
+ghost use Rattle.pbx_desc.specs.Decoding.{Whole};
+ghost use Rattle.pbx_types.specs.Exact.{is_exact_mask};
 
 use crate::copying::copied_texts;
 use crate::{
@@ -78,6 +78,8 @@ impl FromContents for FieldMask {
 
     ghost content = { mask_content };
 
+    ghost is_exact = { is_exact_mask };
+
     const TYPE_AT: usize = place::FIELD_MASK;
 
     fn from_contents(mut contents: Contents, alloc: Global) -> Result<FieldMask, NoMemory> {
@@ -90,9 +92,13 @@ impl FromContents for FieldMask {
 }
 
 impl DecodeMessage for FieldMask {
-    ghost means = { meaning_of types_shape 3 };
+    ghost SHAPE = { types_shape };
 
-    ghost IsFault = { IsFaultOf types_shape 3 };
+    ghost TYPE_AT = { 3 };
+
+    ghost DECODING = { Whole };
+
+    ghost is_exact = { is_exact_mask };
 
     fn decode(alloc: Global, bytes: &[u8]) -> Result<FieldMask, DecodeError> {
         record_from_bytes(alloc, bytes)

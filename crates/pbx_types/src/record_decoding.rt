@@ -1,4 +1,4 @@
-ghost use Rattle.std.specs.Prelude.{◌≡◌, Some, IfOk, IfErr};
+ghost use Rattle.std.specs.Prelude.{◌≡◌, true, Some, IfOk, IfErr};
 ghost use Rattle.pbx_content.specs.Meaning.{meaning_of};
 ghost use Rattle.pbx_content.specs.Faults.{IsFaultOf, IsToldFault};
 ghost use Rattle.pbx_desc_shapes.specs.TypesShape.{types_shape as types_shape_of};
@@ -16,6 +16,7 @@ pub(crate) fn record_from_bytes<R: FromContents>(
     bytes: &[u8],
 ) -> Result<R, DecodeError>
     ensures found { IfOk result (λ value. meaning_of types_shape_of R.TYPE_AT bytes.now ≡ Some (R.content value)) }
+    ensures exact { IfOk result (λ value. R.is_exact value ≡ true) }
     ensures fault { IfErr result (IsToldFault (meaning_of types_shape_of R.TYPE_AT bytes.now) (IsFaultOf types_shape_of R.TYPE_AT bytes.now)) }
 {
     meaning_is_sound();

@@ -1,4 +1,4 @@
-ghost use Rattle.std.specs.Prelude.{◌≡◌, ℕ, map, option_map, IfOk};
+ghost use Rattle.std.specs.Prelude.{◌≡◌, ℕ, Bool, true, map, option_map, IfOk};
 ghost use Rattle.pbx_content.specs.declared.shape.Kind.{Kind};
 ghost use Rattle.pbx_content.specs.declared.shape.Kind.TheVariants as kind;
 ghost use Rattle.pbx_content.specs.Content.{Content, kept, number as number_val, truth, text, octets};
@@ -21,11 +21,15 @@ pub(crate) trait FromContents: Drop + Sized {
     /// What the record holds.
     ghost content: { Self → Content };
 
+    /// Whether nothing stands in it beside that.
+    ghost is_exact: { Self → Bool };
+
     const TYPE_AT: usize;
 
     /// The record of the content, where a message of the type may have it. The only error is want of memory.
     fn from_contents(contents: Contents, alloc: Global) -> Result<Self, NoMemory>
-        ensures { IfOk result (λ value. IsSound types_shape TYPE_AT (content_of contents) → content value ≡ content_of contents) };
+        ensures { IfOk result (λ value.
+            IsSound types_shape TYPE_AT (content_of contents) → (content value ≡ content_of contents) × (is_exact value ≡ true)) };
 }
 
 /// Takes a text out.

@@ -1,8 +1,8 @@
 ghost use Rattle.std.specs.Prelude.{◌≡◌, None, [], IfOk};
-ghost use Rattle.pbx_content.specs.Meaning.{meaning_of};
-ghost use Rattle.pbx_content.specs.Faults.{IsFaultOf};
 ghost use Rattle.pbx_desc_shapes.specs.TypesShape.{types_shape};
 ghost use Rattle.pbx_types.specs.PlainContent.{duration_content, timestamp_content};
+ghost use Rattle.pbx_desc.specs.Decoding.{Whole};
+ghost use Rattle.pbx_types.specs.Exact.{is_exact_duration, is_exact_timestamp};
 
 use crate::{
     FromContents, HasContents, kept_contents, kept_records, put_int32, put_int64, record_bytes,
@@ -82,6 +82,8 @@ impl FromContents for Duration {
 
     ghost content = { duration_content };
 
+    ghost is_exact = { is_exact_duration };
+
     const TYPE_AT: usize = place::DURATION;
 
     fn from_contents(mut contents: Contents, _alloc: Global) -> Result<Duration, NoMemory> {
@@ -96,9 +98,13 @@ impl FromContents for Duration {
 }
 
 impl DecodeMessage for Duration {
-    ghost means = { meaning_of types_shape 1 };
+    ghost SHAPE = { types_shape };
 
-    ghost IsFault = { IsFaultOf types_shape 1 };
+    ghost TYPE_AT = { 1 };
+
+    ghost DECODING = { Whole };
+
+    ghost is_exact = { is_exact_duration };
 
     fn decode(alloc: Global, bytes: &[u8]) -> Result<Duration, DecodeError> {
         record_from_bytes(alloc, bytes)
@@ -172,6 +178,8 @@ impl FromContents for Timestamp {
 
     ghost content = { timestamp_content };
 
+    ghost is_exact = { is_exact_timestamp };
+
     const TYPE_AT: usize = place::TIMESTAMP;
 
     fn from_contents(mut contents: Contents, _alloc: Global) -> Result<Timestamp, NoMemory> {
@@ -186,9 +194,13 @@ impl FromContents for Timestamp {
 }
 
 impl DecodeMessage for Timestamp {
-    ghost means = { meaning_of types_shape 8 };
+    ghost SHAPE = { types_shape };
 
-    ghost IsFault = { IsFaultOf types_shape 8 };
+    ghost TYPE_AT = { 8 };
+
+    ghost DECODING = { Whole };
+
+    ghost is_exact = { is_exact_timestamp };
 
     fn decode(alloc: Global, bytes: &[u8]) -> Result<Timestamp, DecodeError> {
         record_from_bytes(alloc, bytes)

@@ -1,7 +1,8 @@
 use Rattle.std.proofs.Common.{◌+◌, ◌*◌}
 use Rattle.pbx_content.specs.declared.shape.Kind.TheVariants as kind
-use Rattle.pbx_types.proofs.Lists.{AreValues}
-use Rattle.pbx_types.specs.Layers.{value_message}
+use Rattle.pbx_types.proofs.Lists.{AreRecords}
+use Rattle.pbx_types.specs.Content.{value_content}
+use Rattle.pbx_types.specs.Exact.{is_exact_value}
 use Rattle.pbx_types.proofs.Reading.{AreFields}
 use Rattle.pbx_types.proofs.decoding.+tree.Given as goal
 
@@ -30,4 +31,4 @@ abbrev pub invariant-fields_from-loop-pair : goal.invariant-fields_from-loop-pai
 invariant-fields_from-loop-pair l = AreFields l.yielded l.fields
 
 abbrev pub invariant-values_from-loop-held : goal.invariant-values_from-loop-held
-invariant-values_from-loop-held l = AreValues (kind.Message 6) value_message l.yielded l.values
+invariant-values_from-loop-held l = AreRecords (kind.Message 6) value_content is_exact_value l.yielded l.values
