@@ -42,8 +42,8 @@ AreShownAlike g v w = shown types_shape g.presence g.kind v ≡ shown types_shap
 two_same : (g h : FieldShape) (u v x y : Option Val) → AreAbove 0 (g ∷ h ∷ []) → fields_from (g ∷ h ∷ []) (u ∷ v ∷ []) ≡ fields_from (g ∷ h ∷ []) (x ∷ y ∷ []) → AreShownAlike g u x × AreShownAlike h v y
 two_same g h u v x y a e =
     let one =
-        first_same g.number (shown types_shape g.presence g.kind u) (shown types_shape g.presence g.kind x) (fields_from (h ∷ []) (v ∷ [])) (fields_from (h ∷ []) (y ∷ []))
-        (ascend_from g.number (h ∷ []) (v ∷ []) a.2) (ascend_from g.number (h ∷ []) (y ∷ []) a.2) e
+    first_same g.number (shown types_shape g.presence g.kind u) (shown types_shape g.presence g.kind x) (fields_from (h ∷ []) (v ∷ [])) (fields_from (h ∷ []) (y ∷ []))
+    (ascend_from g.number (h ∷ []) (v ∷ []) a.2) (ascend_from g.number (h ∷ []) (y ∷ []) a.2) e
     in
     let two = first_same h.number (shown types_shape h.presence h.kind v) (shown types_shape h.presence h.kind y) no_fields no_fields tt tt one.1 in
     (one.0, two.0)

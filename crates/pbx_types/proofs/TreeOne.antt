@@ -75,7 +75,7 @@ all_alike n (g ∷ gs) [] ws a e = tt
 all_alike n (g ∷ gs) (v ∷ vs) [] a e = tt
 all_alike n (g ∷ gs) (v ∷ vs) (w ∷ ws) a e =
     let same =
-        first_same g.number (shown types_shape g.presence g.kind v) (shown types_shape g.presence g.kind w) (fields_from gs vs) (fields_from gs ws) (ascend_from g.number gs vs a.2) (ascend_from g.number gs ws a.2) e
+    first_same g.number (shown types_shape g.presence g.kind v) (shown types_shape g.presence g.kind w) (fields_from gs vs) (fields_from gs ws) (ascend_from g.number gs vs a.2) (ascend_from g.number gs ws a.2) e
     in
     (same.0, all_alike g.number gs vs ws a.2 same.1)
 
@@ -241,7 +241,7 @@ value_told o x =
     let s = o.struct_value in
     let l = o.list_value in
     let told : is_exact_value_step (record { null_value = z; string_value = t; bool_value = b; struct_value = option_map is_exact_struct s; list_value = option_map is_exact_list l; unknown = o.unknown }) ≡ true =
-        sym (ap is_exact_value_step (told_is z t b s l o.unknown)) ∙ sym (fold-roll-Value Bool Bool Bool is_exact_list_step is_exact_struct_step is_exact_value_step o) ∙ x
+    sym (ap is_exact_value_step (told_is z t b s l o.unknown)) ∙ sym (fold-roll-Value Bool Bool Bool is_exact_list_step is_exact_struct_step is_exact_value_step o) ∙ x
     in
     let first = both (has_at_most_one (is_some z ∷ is_some t ∷ is_some b ∷ is_some (option_map is_exact_struct s) ∷ is_some (option_map is_exact_list l) ∷ [])) _ told in
     let second = both (is_exact_if (λ (b : Bool). b) (option_map is_exact_struct s)) _ first.1 in
@@ -265,10 +265,10 @@ rolled_value o p inner x y e =
     let ms = members o.null_value o.string_value o.bool_value o.struct_value o.list_value in
     let ns = members p.null_value p.string_value p.bool_value p.struct_value p.list_value in
     let made : value_content (roll-Value o) ≡ record_content value_fields ms o.unknown =
-        value_rolled o.null_value o.string_value o.bool_value o.struct_value o.list_value o.unknown ∙ ap (λ (vs : List (Option Val)). record_content value_fields vs o.unknown) (last_again ms a.one)
+    value_rolled o.null_value o.string_value o.bool_value o.struct_value o.list_value o.unknown ∙ ap (λ (vs : List (Option Val)). record_content value_fields vs o.unknown) (last_again ms a.one)
     in
     let other : value_content (roll-Value p) ≡ record_content value_fields ns p.unknown =
-        value_rolled p.null_value p.string_value p.bool_value p.struct_value p.list_value p.unknown ∙ ap (λ (vs : List (Option Val)). record_content value_fields vs p.unknown) (last_again ns b.one)
+    value_rolled p.null_value p.string_value p.bool_value p.struct_value p.list_value p.unknown ∙ ap (λ (vs : List (Option Val)). record_content value_fields vs p.unknown) (last_again ns b.one)
     in
     let same : record_content value_fields ms o.unknown ≡ record_content value_fields ns p.unknown = sym made ∙ e ∙ other in
     let alike = all_alike 0 value_fields ms ns (subst (AreAbove 0) value_type (fields_above types_shape 6 types_shape_proper)) (ap fields same) in

@@ -42,17 +42,18 @@ value_from-returns t c = λ sound.
     let l = c.in_ok-list_value.list_value in
     let rs = c.kept_records.result in
     let read =
-        members_read _ _ _ _ _ refl
-        (record { number_is = refl; single = refl; kind_is = refl; simple = refl })
-        (record { number_is = refl; single = refl; kind_is = refl; simple = refl })
-        (record { number_is = refl; single = refl; kind_is = refl; simple = refl })
-        (record { number_is = refl; single = refl; kind_is = refl; simple = refl })
-        (record { number_is = refl; single = refl; kind_is = refl; simple = refl })
-        refl refl refl refl refl
-        c.in_ok-struct_value.ensures.0 c.in_ok-list_value.ensures.0 c.take_int32-null_value.ensures c.take_text-string_value.ensures c.take_truth-bool_value.ensures c.kept_records.ensures sound
-    in
-    (value_rolled z text b s l rs ∙ read.value.made,
-    value_exact z text b s l rs read.value.one (c.in_ok-struct_value.ensures.1 read.struct_may) (c.in_ok-list_value.ensures.1 read.list_may) read.value.written)
+    members_read _ _ _ _ _ refl
+    (record { number_is = refl; single = refl; kind_is = refl; simple = refl })
+    (record { number_is = refl; single = refl; kind_is = refl; simple = refl })
+    (record { number_is = refl; single = refl; kind_is = refl; simple = refl })
+    (record { number_is = refl; single = refl; kind_is = refl; simple = refl })
+    (record { number_is = refl; single = refl; kind_is = refl; simple = refl })
+    refl refl refl refl refl
+    c.in_ok-struct_value.ensures.0 c.in_ok-list_value.ensures.0 c.take_int32-null_value.ensures c.take_text-string_value.ensures c.take_truth-bool_value.ensures c.kept_records.ensures sound
+    in (
+      value_rolled z text b s l rs ∙ read.value.made,
+      value_exact z text b s l rs read.value.one (c.in_ok-struct_value.ensures.1 read.struct_may) (c.in_ok-list_value.ensures.1 read.list_may) read.value.written,
+    )
 
 pub values_from-loop-held-preserved : goal.values_from-loop-held-preserved
 values_from-loop-held-preserved t c =

@@ -10,6 +10,7 @@ use Rattle.pbx_types.proofs.mask.FieldMaskFromContents.from_contents.Goals as go
 
 pub returns : goal.returns
 returns c sound =
-    let taken = c.take_values.ensures kind.String in
-    (list_whole 3 _ text c.in_ok-paths.paths mask_type refl refl refl refl taken c.in_ok-paths.ensures c.kept_records.ensures sound,
-    written 3 mask_fields c.kept_records.result (content_of c.args.contents) mask_type (c.kept_records.ensures ∙ kept_left 1 (content_of c.args.contents) (content_of c.take_values.new.contents) taken.rest) sound)
+    let taken = c.take_values.ensures kind.String in (
+      list_whole 3 _ text c.in_ok-paths.paths mask_type refl refl refl refl taken c.in_ok-paths.ensures c.kept_records.ensures sound,
+      written 3 mask_fields c.kept_records.result (content_of c.args.contents) mask_type (c.kept_records.ensures ∙ kept_left 1 (content_of c.args.contents) (content_of c.take_values.new.contents) taken.rest) sound,
+    )
