@@ -1,10 +1,10 @@
 -- Values under names before and after a change.
 use Rattle.std.proofs.Common.{◌≡◌, ◌∙◌, ℕ, ◌+◌, ◌<◌, Bool, true, false, cond, List, [], ◌∷◌, ◌++◌, ◌||◌, length, take, get_or, Bor, refl, ap, sym, subst}
-use Rattle.std.specs.Prelude.{Option, Some, None, Result, Ok, Err, OnErr, OnOk, is_some, is_err, option_map}
+use Rattle.std.specs.Prelude.{Option, Some, None, Result, Ok, Err, OnErr, OnOk, is_some, is_err}
 use Rattle.std.specs.Str.{bytes_eq}
 use Rattle.std.specs.Cmp.Lexicographic.{bytes_decides, nat_list_eq_equiv}
 use Rattle.std.specs.List.{list_any}
-use Rattle.std.specs.Option.{option_or}
+use Rattle.std.specs.Option.{option_or, option_to_list, IsSome}
 use Rattle.std.proofs.lemmas.List.{take_more}
 use Rattle.std.proofs.lemmas.List.Folds.{list_any-append}
 use Rattle.pbx_link_names.specs.Names.{first_under, without, without_items}
@@ -102,21 +102,44 @@ item_more {V} q items i x before now after lt is so_far here =
     ap (first_under q) (take_more items i x lt ∙ ap (λ (y : List ℕ × V). take i items ++ y ∷ []) (sym is)) ∙ lookup_push q (take i items) x in
     here ∙ ap (λ (o : Option V). option_or o last) so_far ∙ or_twice before (first_under q (take i items)) last ∙ ap (option_or before) (sym all)
 
--- other names keep what is under them, whether the value was put or refused
-pub elsewhere : {U E V : Type 0} (r : Result U E) (f g : List ℕ → Option V) (n q : List ℕ) (v : V) → OnOk r ((p : List ℕ) → g p ≡ cond (bytes_eq n p) (Some v) (f p)) → OnErr r ((p : List ℕ) → g p ≡ f p)
-    → bytes_eq n q ≡ false → g q ≡ f q
-elsewhere {U} {E} {V} (Ok u) f g n q v ok err other = ok q ∙ ap (λ (b : Bool). cond b (Some v) (f q)) other
-elsewhere (Err e) f g n q v ok err other = err q
+-- with a new name noted, other names keep what is under them
+pub noted : {V : Type 0} (f g : List ℕ → Option V) (names : List (Bor (List ℕ))) (n : Bor (List ℕ)) (q : List ℕ) (v : V) → None ≡ f n.now
+    → g q ≡ cond (bytes_eq n.now q) (Some v) (f q) → without q (names ++ n ∷ []) (g q) ≡ without q names (f q)
+noted {V} f g names n q v absent put =
+    undone f g names n q (ap (λ (o : Option V). is_some o) (sym absent)) (λ other. put ∙ ap (λ (b : Bool). cond b (Some v) (f q)) other)
+
+-- what was under the name, put back
+pub put_back : {V : Type 0} (f g h : List ℕ → Option V) (n q : List ℕ) (v w : V) → Some w ≡ f n → g q ≡ cond (bytes_eq n q) (Some v) (f q) → h q ≡ cond (bytes_eq n q) (Some w) (g q) → h q ≡ f q
+put_back {V} f g h n q v w was first then = by_test (bytes_eq n q) refl
+  where
+    by_test : (b : Bool) → bytes_eq n q ≡ b → h q ≡ f q
+    by_test true e = then ∙ ap (λ (b : Bool). cond b (Some w) (g q)) e ∙ was ∙ ap f ((bytes_decides n q).0 e)
+    by_test false e = then ∙ ap (λ (b : Bool). cond b (Some w) (g q)) e ∙ first ∙ ap (λ (b : Bool). cond b (Some v) (f q)) e
+
+pub not_none : {V P : Type 0} (o : Option V) → None ≡ o → is_some o ≡ true → P
+not_none None e h = cc
+not_none (Some v) e h = cc
+
+last_out : {X : Type 0} (xs ys : List X) (n m : X) → xs ++ n ∷ [] ≡ ys ++ m ∷ [] → ys ≡ xs
+last_out [] [] n m e = refl
+last_out [] (y ∷ []) n m e = absurd (cc)
+last_out [] (y ∷ z ∷ ys) n m e = absurd (cc)
+last_out (x ∷ []) [] n m e = absurd (cc)
+last_out (x ∷ z ∷ xs) [] n m e = absurd (cc)
+last_out {X} (x ∷ xs) (y ∷ ys) n m e =
+    let first : y ≡ x = cc in
+    let rest : xs ++ n ∷ [] ≡ ys ++ m ∷ [] = cc in
+    ap (λ (z : X). z ∷ ys) first ∙ ap (λ (zs : List X). x ∷ zs) (last_out xs ys n m rest)
+
+-- with the last item taken out again, the others are left
+pub popped : {X : Type 0} (xs ys : List X) (n : X) (r : Option X) → xs ++ n ∷ [] ≡ ys ++ option_to_list r → IsSome r → ys ≡ xs
+popped xs ys n None e some = absurd (cc)
+popped xs ys n (Some m) e some = last_out xs ys n m e
 
 -- what holds of a result that is no error
 pub on_ok_at : {U E : Type 0} {P : Type 0} (r : Result U E) → is_err r ≡ false → OnOk r P → P
 on_ok_at (Ok u) e h = h
 on_ok_at (Err d) e h = cc
-
--- nothing was found, so nothing is there
-pub none_there : {V : Type 0} (found : Option (Bor V)) (there : Option V) (b : Bool) → option_map (λ v. v.now) found ≡ there → b ≡ is_some found → b ≡ false → is_some there ≡ false
-none_there {V} None there b e is absent = ap (λ (o : Option V). is_some o) (sym e)
-none_there (Some v) there b e is absent = cc
 
 -- what is left under a name, where what is under the name of one item more is taken out
 pub forgotten_more : {V : Type 0} (q : List ℕ) (items : List (List ℕ × V)) (i : ℕ) (x : List ℕ × V) (before now after : Option V) → i < length items → x ≡ get_or items i x

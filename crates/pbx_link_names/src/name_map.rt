@@ -1,5 +1,5 @@
 // Values under names.
-ghost use Rattle.std.specs.Prelude.{◌≡◌, None, ℕ, List as ListOf, cond, option_map, OnOk, OnErr};
+ghost use Rattle.std.specs.Prelude.{◌≡◌, None, ℕ, List as ListOf, true, cond, is_some, option_map, IfOk, OnOk, OnErr};
 ghost use Rattle.std.specs.Option.{option_or};
 ghost use Rattle.std.specs.Str.{bytes_eq};
 ghost use Rattle.pbx_link_names.specs.Names.{under, first_under, without, without_items};
@@ -31,14 +31,24 @@ impl<V: Copy> NameMap<V> {
         self.values.get(name)
     }
 
-    /// Puts the value under the name. A refused call changes nothing.
-    fn add(&mut self, alloc: Global, name: &str, value: V) -> Result<(), NoMemory>
-        ensures ok { OnOk result ((q : ListOf ℕ) → under q self.new ≡ cond (bytes_eq name.now q) (Some value) (under q self.old)) }
+    /// Puts the value in place of that under the name, which is there.
+    fn put_back(&mut self, name: &str, value: V)
+        requires { is_some (under name.now self.old) ≡ true }
+        ensures { (q : ListOf ℕ) → under q self.new ≡ cond (bytes_eq name.now q) (Some value) (under q self.old) }
+    {
+        if let Some(place) = self.values.get_mut(name) {
+            *place = value;
+        }
+    }
+
+    /// Puts the value under the name and gives what was there before. A refused call changes nothing.
+    fn put(&mut self, alloc: Global, name: &str, value: V) -> Result<Option<V>, NoMemory>
+        ensures old { IfOk result (λ old. old ≡ under name.now self.old) }
+        ensures put { OnOk result ((q : ListOf ℕ) → under q self.new ≡ cond (bytes_eq name.now q) (Some value) (under q self.old)) }
         ensures err { OnErr result ((q : ListOf ℕ) → under q self.new ≡ under q self.old) }
     {
         let key = String::from_str(alloc, name)?;
-        self.values.insert(key, value)?;
-        Ok(())
+        Ok(self.values.insert(key, value)?)
     }
 
     /// Takes what is under these names out.
@@ -62,11 +72,19 @@ impl<V: Copy> NameMap<V> {
         ensures added { OnOk result ((q : ListOf ℕ) → under q self.new ≡ option_or (under q self.old) (cond (bytes_eq name.now q) (Some value) None)) }
         ensures undone { (q : ListOf ℕ) → without q added.new.items (under q self.new) ≡ without q added.old.items (under q self.old) }
     {
-        if self.get(name.as_str()).is_some() {
-            return Ok(());
-        }
         added.push(name)?;
-        self.add(alloc, name.as_str(), value)
+        match self.put(alloc, name.as_str(), value) {
+            Ok(None) => Ok(()),
+            Ok(Some(old)) => {
+                self.put_back(name.as_str(), old);
+                added.pop();
+                Ok(())
+            }
+            Err(error) => {
+                added.pop();
+                Err(error)
+            }
+        }
     }
 
     /// Puts the value of each item under its name, where nothing is under the name yet: of what is there and of several items of
