@@ -11,5 +11,5 @@ invariant_of-result c =
     let proper = rw (c.as_ref.ensures ∙ c.in_ok-schema.ensures.is) at c.shape-proper.ensures.proper in
     let found = rw (shape, place) at c.in_ok-tree.ensures.found in
     let is =
-        c.meaning_is_sound.ensures.whole (shape_of d.pool) 100 (place_of d) c.args.bytes.now (content_of c.in_ok-tree.tree) proper found in
+    c.meaning_is_sound.ensures.whole (shape_of d.pool) 100 (place_of d) c.args.bytes.now (content_of c.in_ok-tree.tree) proper found in
     (is.0, tt, omega (arith, is.1), omega arith)
