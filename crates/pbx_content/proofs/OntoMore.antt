@@ -15,7 +15,8 @@ use Rattle.pbx_content.specs.Content.{Content, content, empty, kept, fields, get
 use Rattle.pbx_content.specs.Records.{bytes_of, those_of, each, flat, after_last, records_in}
 use Rattle.pbx_content.specs.Shape.{fields_of, is_float, is_kept, is_rival}
 use Rattle.pbx_content.specs.Meaning.{spread, shown, pair_in, entry_in, value, with_field, records_of}
-use Rattle.pbx_content.specs.Onto.{elements, pairs_held, message_held, still, InnerOnto, from_empty, joined_onto, singular_onto, onto_by_cardinality, value_onto}
+use Rattle.pbx_content.specs.Onto.{elements, pairs_held, message_held, still, InnerOnto}
+use Rattle.pbx_content.specs.Onto.{from_empty, joined_onto, singular_onto, onto_by_cardinality, value_onto}
 use Rattle.pbx_content.specs.Onto.{value_onto_among, values_onto, layer_onto, meaning_onto}
 use Rattle.pbx_content.proofs.More.{IsUnder, map_under, bind_under, each_under, records_under, all_under, InnerUnder, spread_under, entry_under, value_under}
 

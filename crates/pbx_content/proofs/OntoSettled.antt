@@ -115,7 +115,8 @@ with_settled shape t k v (pair l w ps) = at (key_before k l) (key_before l k) (w
     at : (a b : Bool) → settled_pairs shape t (with_pair k v ps) ≡ with_pair k (settled_val shape t v) (settled_pairs shape t ps)
         → settled_pairs shape t (if a then pair k v (pair l w ps) else (if b then pair l w (with_pair k v ps) else pair l w ps))
         ≡ (if a then pair k (settled_val shape t v) (settled_pairs shape t (pair l w ps))
-        else (if b then pair l (settled_val shape t w) (with_pair k (settled_val shape t v) (settled_pairs shape t ps)) else settled_pairs shape t (pair l w ps)))
+        else (if b then pair l (settled_val shape t w) (with_pair k (settled_val shape t v) (settled_pairs shape t ps))
+        else settled_pairs shape t (pair l w ps)))
     at true b ih = refl
     at false true ih = ap (λ (qs : Pairs). pair l (settled_val shape t w) qs) ih
     at false false ih = refl

@@ -33,11 +33,12 @@ added_levels n v (field m w fs) = at (nat_lt n m) (added_levels n v fs)
 
 others_levels : (f : FieldShape) (gs : List FieldShape) (fs : Fields) → fields_depth (cleared_others f gs fs) ≤ fields_depth fs
 others_levels f [] fs = omega arith
-others_levels f (g ∷ gs) fs = at (is_other f g)
+others_levels f (g ∷ gs) fs = at (is_other f g) (others_levels f gs)
   where
-    at : (b : Bool) → fields_depth (cleared_others f gs (if b then without g.number fs else fs)) ≤ fields_depth fs
-    at true = let rest = others_levels f gs (without g.number fs) in omega (arith, rest, without_levels g.number fs)
-    at false = others_levels f gs fs
+    at : (b : Bool) → ((hs : Fields) → fields_depth (cleared_others f gs hs) ≤ fields_depth hs)
+        → fields_depth (cleared_others f gs (if b then without g.number fs else fs)) ≤ fields_depth fs
+    at true ih = omega (arith, ih (without g.number fs), without_levels g.number fs)
+    at false ih = ih fs
 
 kept_levels : (shape : Shape) (f : FieldShape) (v : Val) (fs : Fields)
     → fields_depth (with_option f.number (value_kept shape f v) fs) ≤ max (fields_depth fs) (val_depth v)

@@ -17,7 +17,8 @@ invariant_of-self c =
     subst (λ (x : Content). IsSound (shape_of d.pool) (place_of d) x × AreMembersIf (type_fields d) (fields x) c.self.inside.members
     × (depth x ≤ c.self.inside.levels) × (c.self.inside.levels ≤ 1024)) (sym c.clear.ensures) (
       c.clearing_is_sound.ensures (shape_of d.pool) (place_of d) c.args.number old c.self.invariant.0,
-      cleared_known (type_fields d) c.args.number old c.self.inside.members (sound_ascends (shape_of d.pool) (place_of d) old c.self.invariant.0) c.self.invariant.1,
+      cleared_known (type_fields d) c.args.number old c.self.inside.members
+          (sound_ascends (shape_of d.pool) (place_of d) old c.self.invariant.0) c.self.invariant.1,
       omega (arith, cleared_levels c.args.number old, c.self.invariant.2),
       c.self.invariant.3,
     )
