@@ -16,3 +16,4 @@ pub mod Sets
 pub mod GivenMaps
 pub mod Gets
 pub mod Unread
+pub mod Deepest

@@ -13,7 +13,7 @@ pub enum SetFieldError {
     /// The value is not of the field's kind.
     #[error("the value is not of the field's kind")]
     InvalidType,
-    /// Memory ran out.
+    /// Memory ran out. The stack is memory too: the message would nest more than 1,024 levels.
     #[error("out of memory")]
     NoMemory,
 }

@@ -58,12 +58,10 @@ fn message_value(value_type: &ValueType, tree: &Contents, alloc: Global) -> Resu
     ensures { IfOk result (IsGiven value_type.now.holder.pool value_type.now.kind (message (content_of tree.now))) }
 {
     match &value_type.message {
-        Some(desc) => Ok(Value::Message(DynamicMessage {
-            desc: desc.copy(),
-            tree: tree.copy(alloc)?,
-            members: None,
-            alloc,
-        })),
+        Some(desc) => match DynamicMessage::with_tree(alloc, desc.copy(), tree.copy(alloc)?) {
+            Ok(message) => Ok(Value::Message(message)),
+            Err(refused) => Err(refused),
+        },
         None => Err(NoMemory),
     }
 }

@@ -9,6 +9,7 @@ mod error;
 mod giving;
 mod holding;
 mod key_map;
+mod levels;
 mod members;
 mod message;
 mod own;

@@ -1,10 +1,11 @@
-ghost use Rattle.std.specs.Prelude.{◌≡◌, ◌-◌, ◌^◌, min, true, Some, IfOk, IfErr, OnOk, OnErr};
+ghost use Rattle.std.specs.Prelude.{◌≡◌, ◌≤◌, true, Some, IfOk, IfErr, OnOk, OnErr};
 ghost use Rattle.pbx_content.specs.Content.{empty, kept as kept_of, fields as fields_in_content, without, with_fields};
 ghost use Rattle.pbx_content.specs.Encoding.{encoded};
 ghost use Rattle.pbx_content.specs.Faults.{IsFaultOf, IsToldFault};
 ghost use Rattle.pbx_content.specs.Meaning.{meaning_of};
 ghost use Rattle.pbx_content.specs.Onto.{merged_of};
 ghost use Rattle.pbx_content.specs.Sound.{IsSound, depth as depth_of};
+ghost use Rattle.pbx_content_codec.specs.View.{content_of};
 ghost use Rattle.pbx_desc.specs.Decoding.{meaning_by, IsFaultBy};
 ghost use Rattle.pbx_link_meaning.specs.Shapes.{shape_of, place_of};
 ghost use Rattle.pbx_message_dynamic.specs.Message.{shape_in, place_in, text_in, dynamic, with_content};
@@ -12,6 +13,7 @@ ghost use Rattle.pbx_message_dynamic.specs.Targets.{IsNumbered};
 ghost use Rattle.pbx_message_dynamic.specs.Fields.{IsOwnField, IsOwnExtension, IsNamed, IsGot, HasValue, IsFieldSet, IsNotSet, IsCleared};
 
 use crate::error::SetFieldError;
+use crate::levels::{DECODED_LEVELS, MOST_LEVELS, value_levels};
 use crate::own::{extension_number, field_number, kept_number, named_number};
 use crate::reading::numbered_value;
 use crate::setting::set_numbered;
@@ -31,19 +33,22 @@ use std::alloc::Global;
 use std::marker::Model;
 
 /// A message of a type that is known only when the program runs. Contracts see its type and what it holds, which is
-/// always a content that a message of the type may have.
+/// always a content that a message of the type may have, of at most 1,024 levels.
 #[derive(Drop)]
 pub struct DynamicMessage {
     pub(crate) desc: MessageDescriptor,
     pub(crate) tree: Contents,
+    /// The levels of the tree, or a greater number: a field that is cleared leaves it as it is.
+    pub(crate) levels: u32,
     /// Under the index of a oneof its member that may have a value, once a member of a oneof was set.
     pub(crate) members: Option<NumberMap<u32>>,
     pub(crate) alloc: Global,
 }
 
 impl Model for DynamicMessage {
+    ghost use Rattle.std.specs.Prelude.{◌≤◌};
     ghost use Rattle.pbx_content.specs.Content.{fields};
-    ghost use Rattle.pbx_content.specs.Sound.{IsSound};
+    ghost use Rattle.pbx_content.specs.Sound.{IsSound, depth};
     ghost use Rattle.pbx_content_codec.specs.View.{content_of};
     ghost use Rattle.pbx_link_meaning.specs.Shapes.{shape_of, place_of};
     ghost use Rattle.pbx_message_dynamic.specs.Members.{AreMembersIf};
@@ -56,7 +61,8 @@ impl Model for DynamicMessage {
     ghost view = { λ m. record { of = m.desc; content = content_of m.tree } };
 
     ghost invariant = { λ m. IsSound (shape_of m.desc.pool) (place_of m.desc) (content_of m.tree)
-        × AreMembersIf (type_fields m.desc) (fields (content_of m.tree)) m.members };
+        × AreMembersIf (type_fields m.desc) (fields (content_of m.tree)) m.members
+        × (depth (content_of m.tree) ≤ m.levels) × (m.levels ≤ 1024) };
 }
 
 impl DynamicMessage {
@@ -68,9 +74,33 @@ impl DynamicMessage {
         DynamicMessage {
             desc,
             tree: Contents::new(alloc),
+            levels: 0,
             members: None,
             alloc,
         }
+    }
+
+    /// The message of the type that holds the tree, which is one that it may hold. The only error is want of memory: the tree has more
+    /// than 1,024 levels.
+    pub(crate) fn with_tree(
+        alloc: Global,
+        desc: MessageDescriptor,
+        tree: Contents,
+    ) -> Result<DynamicMessage, NoMemory>
+        requires { IsSound (shape_of desc.pool) (place_of desc) (content_of tree) }
+        ensures { IfOk result (λ m. m ≡ dynamic desc (content_of tree)) }
+    {
+        let levels = depth(&tree);
+        if levels > MOST_LEVELS {
+            return Err(NoMemory);
+        }
+        Ok(DynamicMessage {
+            desc,
+            tree,
+            levels,
+            members: None,
+            alloc,
+        })
     }
 
     /// The message that the bytes mean.
@@ -91,6 +121,7 @@ impl DynamicMessage {
         Ok(DynamicMessage {
             desc,
             tree,
+            levels: DECODED_LEVELS,
             members: None,
             alloc,
         })
@@ -111,6 +142,7 @@ impl DynamicMessage {
         match merge(self.alloc, schema.as_ref(), place, &self.tree, bytes) {
             Ok(tree) => {
                 self.tree = tree;
+                self.levels = self.levels.max(DECODED_LEVELS);
                 self.members = None;
                 Ok(())
             }
@@ -141,11 +173,13 @@ impl DynamicMessage {
     /// Gives the field of the number the value, and takes away those of the other members of its oneof.
     fn set_number(&mut self, number: u32, value: Value) -> Result<(), SetFieldError>
         ensures set { OnOk result (IsFieldSet self.old (IsNumbered self.old.of number) value self.new) }
+        ensures shallow { OnOk result (depth_of self.new.content ≤ 1024) }
         ensures refused { IfErr result (IsNotSet self.old (IsNumbered self.old.of number) value) }
         ensures unchanged { OnErr result (self.new ≡ self.old) }
     {
+        let levels = value_levels(&value);
         match self.desc.schema() {
-            Ok(schema) => set_numbered(
+            Ok(schema) => match set_numbered(
                 &self.desc,
                 &mut self.tree,
                 &mut self.members,
@@ -153,7 +187,14 @@ impl DynamicMessage {
                 schema.as_ref(),
                 number,
                 value,
-            ),
+                levels,
+            ) {
+                Ok(levels) => {
+                    self.levels = self.levels.max(levels);
+                    Ok(())
+                }
+                Err(fault) => Err(fault),
+            },
             Err(_refused) => {
                 drop(value);
                 Err(SetFieldError::NoMemory)
@@ -170,7 +211,7 @@ impl DynamicMessage {
     }
 
     /// The field's value, or its default where it has none; None for a field of another message or of a float kind. It is
-    /// a copy. The only error is want of memory, and a message that nests more than 1,024 levels wants too much.
+    /// a copy. The only error is want of memory.
     pub fn get_field(
         &self,
         alloc: Global,
@@ -196,8 +237,12 @@ impl DynamicMessage {
 
     /// Gives the field the value, and takes away those of the other members of its oneof. A refused call changes
     /// nothing.
+    ///
+    /// Where the message would nest more than 1,024 levels below the top, that is `NoMemory`: a message is walked, copied and let go
+    /// by recursion, and the stack is memory too. A message in a field is one level, an entry of a map one more.
     pub fn set_field(&mut self, field: &FieldDescriptor, value: Value) -> Result<(), SetFieldError>
         ensures set { OnOk result (IsFieldSet self.old (IsOwnField self.old.of field.now) value self.new) }
+        ensures shallow { OnOk result (depth_of self.new.content ≤ 1024) }
         ensures refused { IfErr result (IsNotSet self.old (IsOwnField self.old.of field.now) value) }
         ensures unchanged { OnErr result (self.new ≡ self.old) }
     {
@@ -246,6 +291,7 @@ impl DynamicMessage {
     /// As `set_field` of the field of that name.
     pub fn set_field_by_name(&mut self, name: &str, value: Value) -> Result<(), SetFieldError>
         ensures set { OnOk result (IsFieldSet self.old (IsNamed self.old.of name.now) value self.new) }
+        ensures shallow { OnOk result (depth_of self.new.content ≤ 1024) }
         ensures refused { IfErr result (IsNotSet self.old (IsNamed self.old.of name.now) value) }
         ensures unchanged { OnErr result (self.new ≡ self.old) }
     {
@@ -302,6 +348,7 @@ impl DynamicMessage {
         value: Value,
     ) -> Result<(), SetFieldError>
         ensures set { OnOk result (IsFieldSet self.old (IsOwnExtension self.old.of field.now) value self.new) }
+        ensures shallow { OnOk result (depth_of self.new.content ≤ 1024) }
         ensures refused { IfErr result (IsNotSet self.old (IsOwnExtension self.old.of field.now) value) }
         ensures unchanged { OnErr result (self.new ≡ self.old) }
     {
@@ -340,9 +387,10 @@ impl DynamicMessage {
         self.desc.copy()
     }
 
-    /// The levels below the top, or 4,294,967,295 where there are more.
+    /// The levels below the top.
     pub fn depth(&self) -> u32
-        ensures { result ≡ min (depth_of self.now.content) (2 ^ 32 - 1) }
+        ensures is { result ≡ depth_of self.now.content }
+        ensures shallow { depth_of self.now.content ≤ 1024 }
     {
         depth(&self.tree)
     }

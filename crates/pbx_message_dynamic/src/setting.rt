@@ -1,5 +1,5 @@
 // Fields that are set, by their numbers.
-ghost use Rattle.std.specs.Prelude.{◌≡◌, IfOk, IfErr, OnOk, OnErr};
+ghost use Rattle.std.specs.Prelude.{◌≡◌, Some, IfOk, IfErr, OnOk, OnErr};
 ghost use Rattle.pbx_content.specs.Content.{fields as fields_in_content};
 ghost use Rattle.pbx_content.specs.Sound.{IsSound};
 ghost use Rattle.pbx_content_codec.specs.View.{content_of};
@@ -43,8 +43,8 @@ fn held_for(
     field_held(&value_type, field.cardinality, value, alloc)
 }
 
-/// Gives the field of the number the value, and takes away those of the other members of its oneof. A refused call
-/// changes nothing.
+/// Gives the field of the number the value, and takes away those of the other members of its oneof. The value has these levels, which
+/// are handed back; where it has too many, there are none, and it is refused. A refused call changes nothing.
 pub(crate) fn set_numbered(
     desc: &MessageDescriptor,
     tree: &mut Contents,
@@ -53,7 +53,8 @@ pub(crate) fn set_numbered(
     schema: &Schema,
     number: u32,
     value: Value,
-) -> Result<(), SetFieldError>
+    levels: Option<u32>,
+) -> Result<u32, SetFieldError>
     requires shape { schema.now ≡ shape_of desc.now.pool }
     requires sound { IsSound (shape_of desc.now.pool) (place_of desc.now) (content_of tree.old) }
     requires known { AreMembersIf (type_fields desc.now) (fields_in_content (content_of tree.old)) members.old }
@@ -62,16 +63,23 @@ pub(crate) fn set_numbered(
     ensures unchanged { OnErr result (content_of tree.new ≡ content_of tree.old) }
     ensures sound { IsSound (shape_of desc.now.pool) (place_of desc.now) (content_of tree.new) }
     ensures known { AreMembersIf (type_fields desc.now) (fields_in_content (content_of tree.new)) members.new }
+    ensures levels { IfOk result (λ given. levels ≡ Some given) }
 {
     setting_is_sound();
     let _proper = schema.shape();
     let place = desc.place(schema);
     match schema.field_of(place, number) {
         Some(field) => match held_for(desc, schema, field, value, alloc) {
-            Ok(held) => match put_value(tree, members, alloc, schema, place, field, held) {
-                Ok(()) => Ok(()),
-                Err(_refused) => Err(SetFieldError::NoMemory),
-            },
+            Ok(held) => {
+                let Some(levels) = levels else {
+                    drop(held);
+                    return Err(SetFieldError::NoMemory);
+                };
+                match put_value(tree, members, alloc, schema, place, field, held) {
+                    Ok(()) => Ok(levels),
+                    Err(_refused) => Err(SetFieldError::NoMemory),
+                }
+            }
             Err(fault) => Err(fault),
         },
         None => {

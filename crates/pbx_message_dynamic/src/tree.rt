@@ -28,7 +28,7 @@ fn no_memory(alloc: Global) -> JsonError
 
 impl DynamicMessage {
     /// The message of the type that the tree stands for. An error tells the first place of the tree that breaks a rule,
-    /// and which. Where messages nest more than 1,024 levels below the top, want of memory may be the answer.
+    /// and which. Where the message would nest more than 1,024 levels, want of memory is the answer.
     pub fn from_tree(
         alloc: Global,
         desc: MessageDescriptor,
@@ -51,18 +51,17 @@ impl DynamicMessage {
         let _proper = schema.as_ref().shape();
         let place = desc.place(schema.as_ref());
         match read_content(alloc, schema.as_ref(), place, tree, options) {
-            Ok(content) => Ok(DynamicMessage {
-                desc,
-                tree: content,
-                members: None,
-                alloc,
-            }),
+            Ok(content) => match DynamicMessage::with_tree(alloc, desc, content) {
+                Ok(message) => Ok(message),
+                Err(_refused) => Err(no_memory(alloc)),
+            },
             Err(error) => Err(error),
         }
     }
 
     /// The canonical tree of the message under the options. An error tells a place of the tree where a rule of writing is
-    /// broken, and which. Where messages nest more than 1,024 levels below the top, want of memory may be the answer.
+    /// broken, and which. Where payloads of `google.protobuf.Any` nest inside one another, many hundreds of levels together, want of
+    /// memory may be the answer.
     pub fn to_tree(&self, alloc: Global, options: &SerializeOptions) -> Result<Value, JsonError>
         ensures written { IfOk result (λ tree. IsWritten self.now.of options.now self.now.content (view tree)) }
         ensures fault { IfErr result (IsWriteFault self.now.of options.now self.now.content) }
@@ -77,7 +76,7 @@ impl DynamicMessage {
 
     /// Whether at most 100 levels stand below the top, and each payload of a `google.protobuf.Any` in the message decodes as its
     /// type within 100 levels of its own, payloads inside payloads too; a payload's type is a message of this one's pool. The only
-    /// error is want of memory, which may be the answer where messages and payloads nest more than 1,024 levels.
+    /// error is want of memory, which may be the answer where payloads nest inside one another, many hundreds of levels together.
     pub fn fits_levels(&self, alloc: Global) -> Result<bool, NoMemory>
         ensures { IfOk result (λ yes. yes ≡ fits (shape_in self.now) (place_in self.now) self.now.content) }
     {

@@ -62,7 +62,7 @@ fn rewritten(alloc: Global, message: &DynamicMessage) -> &'static str {
 }
 
 /// Whether the message nests few levels, and what comes of writing it.
-fn fits_and_written(alloc: Global, message: &DynamicMessage) -> Result<String, Stop> {
+pub(crate) fn fits_and_written(alloc: Global, message: &DynamicMessage) -> Result<String, Stop> {
     let word = if fits_levels(alloc, message)? {
         "fits"
     } else {

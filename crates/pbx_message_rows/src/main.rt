@@ -4,7 +4,9 @@
 //! name of a type of its pool and the bytes of a message of the type. `read` asks for that message alone; `merge` for what it is with the bytes of
 //! the next field behind it; `clear` without the field that the next field names; `set` with that field set to the value of a field of another
 //! message, of which the type, the bytes and the field stand behind it; `get` for the value of a field. A field is named by its name, by `TYPE#NAME`
-//! as the field of that name of a type, or by `[NAME]` as the extension of that full name.
+//! as the field of that name of a type, or by `[NAME]` as the extension of that full name. `nest` names a field of the message's own type and its form,
+//! `one`, `many` or `map`, and a number: the message is put into a new one, that into another, and so many times; with one more number the field is
+//! cleared then, and what is left is put into others so many times. It asks how deep the message nests then, how long its bytes are, and as `json levels`.
 //!
 //! `json` and a word ask of the set and a type of its pool, which stand in the first two fields:
 //!
@@ -32,6 +34,7 @@ mod json;
 mod json_deep;
 mod json_faults;
 mod messages;
+mod nesting;
 mod recode;
 mod records;
 mod reflected;

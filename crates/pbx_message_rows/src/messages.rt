@@ -1,6 +1,7 @@
 //! Dynamic messages: the message that bytes mean as one of a type, and what becomes of it.
 
 use crate::fields::{self, clear_field, field_said, set_field};
+use crate::nesting::nest;
 use crate::pool_of;
 use crate::records::{from_file, to_file};
 use crate::said::add_message;
@@ -111,6 +112,9 @@ fn of_message(
 /// What is told of the row of a message of a type of the pool.
 fn in_pool(alloc: Global, pool: &DescriptorPool, row: &Row) -> Result<String, Stop> {
     let mut message = message_of(alloc, pool, row.text(1), row.text(2))?;
+    if row.asked() == "nest" {
+        return nest(alloc, row, message);
+    }
     let told = of_message(alloc, pool, row, &mut message);
     drop(message);
     told
