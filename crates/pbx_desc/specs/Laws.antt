@@ -13,8 +13,8 @@ FixedByContent {R} content_of is_exact = (a b : R) → is_exact a ≡ true → i
 -- two exact records that hold what the same bytes mean, read so as a message of the type at the place, are the same
 abbrev pub FixedByBytes : {R : Type 0} → Decoding → ℕ → (R → Content) → (R → Bool) → Type 0
 FixedByBytes {R} how t content_of is_exact =
-    (bytes : List ℕ) (a b : R) → is_exact a ≡ true → is_exact b ≡ true → meaning_by how descriptor_shape t bytes ≡ Some (content_of a) → meaning_by how descriptor_shape t bytes ≡ Some (content_of b)
-    → a ≡ b
+    (bytes : List ℕ) (a b : R) → is_exact a ≡ true → is_exact b ≡ true
+    → meaning_by how descriptor_shape t bytes ≡ Some (content_of a) → meaning_by how descriptor_shape t bytes ≡ Some (content_of b) → a ≡ b
 
 -- so the bytes of a file fix its record
 abbrev pub FileFixedByBytes : Type 0

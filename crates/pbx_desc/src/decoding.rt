@@ -24,7 +24,7 @@ pub trait DecodeMessage: Message + Sized {
     /// How bytes are read.
     ghost DECODING: { Decoding };
 
-    /// Whether nothing stands in a value beside its content. No two such values have the same one.
+    /// Whether nothing stands in a value beside its content. No two such records have the same one (`contents_fix_files`).
     ghost is_exact: { Self → Bool };
 
     /// The value that holds what the bytes mean.

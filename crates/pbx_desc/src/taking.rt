@@ -76,7 +76,8 @@ pub(crate) fn take_record<R: FromContents>(
     alloc: Global,
 ) -> Result<Option<R>, NoMemory>
     ensures { IfOk result (λ found.
-        Takes Singular (kind.Message R.TYPE_AT) number (of_record R.content found) (is_exact_if R.is_exact found) (content_of contents.old) (content_of contents.new)) }
+        Takes Singular (kind.Message R.TYPE_AT) number (of_record R.content found) (is_exact_if R.is_exact found)
+        (content_of contents.old) (content_of contents.new)) }
 {
     match contents.take(number) {
         Some(held) => match R::from_contents(message_of(held, alloc), alloc) {
@@ -90,7 +91,8 @@ pub(crate) fn take_record<R: FromContents>(
 /// Takes options out, which are of whatever type has no field.
 pub(crate) fn take_options(contents: &mut Contents, number: u32, alloc: Global) -> Option<Options>
     ensures { (type_at : ℕ) → fields_of descriptor_shape type_at ≡ []
-        → Takes Singular (kind.Message type_at) number (of_options result) (is_exact_if is_exact_options result) (content_of contents.old) (content_of contents.new) }
+        → Takes Singular (kind.Message type_at) number (of_options result) (is_exact_if is_exact_options result)
+        (content_of contents.old) (content_of contents.new) }
 {
     match contents.take(number) {
         Some(held) => Some(options_of(message_of(held, alloc))),
