@@ -59,8 +59,8 @@ fn message_value(value_type: &ValueType, tree: &Contents, alloc: Global) -> Resu
 {
     match &value_type.message {
         Some(desc) => match DynamicMessage::with_tree(alloc, desc.copy(), tree.copy(alloc)?) {
-            Ok(message) => Ok(Value::Message(message)),
-            Err(refused) => Err(refused),
+            Some(message) => Ok(Value::Message(message)),
+            None => Err(NoMemory),
         },
         None => Err(NoMemory),
     }

@@ -1,4 +1,4 @@
-ghost use Rattle.std.specs.Prelude.{◌≡◌, ◌≤◌, true, Some, IfOk, IfErr, OnOk, OnErr};
+ghost use Rattle.std.specs.Prelude.{◌≡◌, ◌≤◌, true, Some, IfSome, IfOk, IfErr, OnOk, OnErr};
 ghost use Rattle.pbx_content.specs.Content.{empty, kept as kept_of, fields as fields_in_content, without, with_fields};
 ghost use Rattle.pbx_content.specs.Encoding.{encoded};
 ghost use Rattle.pbx_content.specs.Faults.{IsFaultOf, IsToldFault};
@@ -80,21 +80,20 @@ impl DynamicMessage {
         }
     }
 
-    /// The message of the type that holds the tree, which is one that it may hold. The only error is want of memory: the tree has more
-    /// than 1,024 levels.
+    /// The message of the type that holds the tree, which is one that it may hold; None where the tree has more than 1,024 levels.
     pub(crate) fn with_tree(
         alloc: Global,
         desc: MessageDescriptor,
         tree: Contents,
-    ) -> Result<DynamicMessage, NoMemory>
+    ) -> Option<DynamicMessage>
         requires { IsSound (shape_of desc.pool) (place_of desc) (content_of tree) }
-        ensures { IfOk result (λ m. m ≡ dynamic desc (content_of tree)) }
+        ensures { IfSome result (λ m. m ≡ dynamic desc (content_of tree)) }
     {
         let levels = depth(&tree);
         if levels > MOST_LEVELS {
-            return Err(NoMemory);
+            return None;
         }
-        Ok(DynamicMessage {
+        Some(DynamicMessage {
             desc,
             tree,
             levels,

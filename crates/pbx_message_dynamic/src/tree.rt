@@ -52,8 +52,8 @@ impl DynamicMessage {
         let place = desc.place(schema.as_ref());
         match read_content(alloc, schema.as_ref(), place, tree, options) {
             Ok(content) => match DynamicMessage::with_tree(alloc, desc, content) {
-                Ok(message) => Ok(message),
-                Err(_refused) => Err(no_memory(alloc)),
+                Some(message) => Ok(message),
+                None => Err(no_memory(alloc)),
             },
             Err(error) => Err(error),
         }
