@@ -418,6 +418,7 @@ impl DynamicMessage {
 
         // And nothing beside it.
         ensures exact { IfOk result (λ made. T.is_exact made ≡ true) }
+        ensures typed { IfOk result (λ made. (T.shape made ≡ T.SHAPE) × (T.type_at made ≡ T.TYPE_AT)) }
         ensures fault { IfErr result (IsToldFault
             (meaning_by T.DECODING T.SHAPE T.TYPE_AT (text_in self.now)) (IsFaultBy T.DECODING T.SHAPE T.TYPE_AT (text_in self.now))) }
     {

@@ -58,7 +58,8 @@ pub(crate) fn set_numbered(
     requires shape { schema.now ≡ shape_of desc.now.pool }
     requires sound { IsSound (shape_of desc.now.pool) (place_of desc.now) (content_of tree.old) }
     requires known { AreMembersIf (type_fields desc.now) (fields_in_content (content_of tree.old)) members.old }
-    ensures set { OnOk result (IsFieldSet (dynamic desc.now (content_of tree.old)) (IsNumbered desc.now number) value (dynamic desc.now (content_of tree.new))) }
+    ensures set { OnOk result
+        (IsFieldSet (dynamic desc.now (content_of tree.old)) (IsNumbered desc.now number) value (dynamic desc.now (content_of tree.new))) }
     ensures refused { IfErr result (IsNotSet (dynamic desc.now (content_of tree.old)) (IsNumbered desc.now number) value) }
     ensures unchanged { OnErr result (content_of tree.new ≡ content_of tree.old) }
     ensures sound { IsSound (shape_of desc.now.pool) (place_of desc.now) (content_of tree.new) }

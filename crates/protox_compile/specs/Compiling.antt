@@ -1,5 +1,5 @@
 -- What compiling paths at once comes to.
-use Rattle.std.specs.Prelude.{◌≡◌, ◌⊎◌, [], ℕ, List, length, true}
+use Rattle.std.specs.Prelude.{◌≡◌, ◌⊎◌, [], ℕ, List, true}
 use Rattle.pbx_desc_records.specs.declared.file.FileDescriptorSet.{FileDescriptorSet}
 use Rattle.pbx_link_laws.specs.ContentLaws.{AreLinked}
 use Rattle.protox_file_error.specs.declared.error.ErrorKind.{ErrorKind}
@@ -8,10 +8,9 @@ use Rattle.protox_file_sources.specs.Library.{Library}
 use Rattle.protox_file_sources.specs.Told.{ByLookups}
 use Rattle.protox_compile_walk.specs.Walk.{Done, records}
 use Rattle.protox_compile_walk.specs.Compiled.{IsOrdered}
-use Rattle.protox_compile_walk.specs.Opens.{OpensTimes, GrowsWithin}
+use Rattle.protox_compile_walk.specs.Opens.{OpensTimes, StopsAmong}
 use Rattle.protox_compile_walk.specs.Opening.{Accepted, closure}
 use Rattle.protox_compile_walk.specs.Closures.{StopsAt}
-use Rattle.protox_compile_walk.specs.Refusals.{HasOpeningsCause}
 use Rattle.protox_compile.specs.State.{most_files}
 use Rattle.protox_compile.specs.Sets.{listed}
 
@@ -42,4 +41,4 @@ pub record AreCompiled (count : ℕ) (done : List Done) : Type 0 where
 -- why there is no such set over every resolver, whose faults have this cause: a path is refused, those before it being opened
 abbrev pub HasCompilingCause : List (List ℕ) → (ErrorKind → Type 0) → ErrorKind → Type 0
 HasCompilingCause paths fault error =
-    (error ≡ NoMemory) ⊎ ((done : List Done) × GrowsWithin (length paths) [] done × HasOpeningsCause most_files paths done fault error)
+    (error ≡ NoMemory) ⊎ ((done : List Done) × StopsAmong most_files paths [] done fault error)

@@ -7,8 +7,8 @@ ghost use Rattle.pbx_link_rules.specs.Pool.{ArePooled};
 ghost use Rattle.protox_file_sources.specs.Told.{ByLookups};
 ghost use Rattle.protox_compile_walk.specs.Walk.{is_done, records};
 ghost use Rattle.protox_compile_walk.specs.Opening.{opening, closure, root_of, report_of, Accepted};
-ghost use Rattle.protox_compile_walk.specs.Refusals.{RefusesOpening, HasOpeningCause, HasOpeningsCause, Grows};
-ghost use Rattle.protox_compile_walk.specs.Opens.{Opens, OpensTimes, GrowsWithin, is_settled};
+ghost use Rattle.protox_compile_walk.specs.Refusals.{RefusesOpening, HasOpeningCause, Grows};
+ghost use Rattle.protox_compile_walk.specs.Opens.{Opens, OpensTimes, StopsAmong, is_settled};
 ghost use Rattle.protox_compile_walk.specs.Closures.{StopsAt};
 ghost use Rattle.protox_compile_walk.specs.Compiled.{IsOrdered, metadata_of};
 ghost use Rattle.protox_compile.specs.State.{KeepsSettings, fresh, most_files};
@@ -152,8 +152,7 @@ impl<R: FileResolver> Compiler<R> {
             (λ lookups. StopsAt lookups (R.library self.old.resolver).resolves self.old.limit paths.now self.old.done self.new.done error)) }
         // Over every resolver, each opened path adds files as imports and then marks one of all, and a refused one adds files as imports.
         ensures opens { OnOk result (OpensTimes (length paths.now) self.old.done self.new.done) }
-        ensures grows { OnErr result (GrowsWithin (length paths.now) self.old.done self.new.done) }
-        ensures cause { IfErr result (HasOpeningsCause self.old.limit paths.now self.new.done
+        ensures stops { IfErr result (StopsAmong self.old.limit paths.now self.old.done self.new.done
             (FaultCause (R.library self.old.resolver) (R.count self.old.resolver) (R.count self.new.resolver))) }
         ensures keeps { KeepsSettings R.library R.count self.old self.new }
     {

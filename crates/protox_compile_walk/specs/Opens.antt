@@ -1,12 +1,12 @@
 -- What opening paths does to the finished files, over every resolver.
-use Rattle.std.specs.Prelude.{◌≡◌, ◌<◌, ℕ, zero, suc, List, Bool, true, false, Option, Some, None}
+use Rattle.std.specs.Prelude.{◌≡◌, ◌++◌, ◌∷◌, ℕ, zero, suc, List, length, Bool, true, false, Option, Some, None}
 use Rattle.protox_io.specs.FileNames.{name_of, path_equal}
 use Rattle.protox_file_error.specs.declared.error.ErrorKind.{ErrorKind}
 use Rattle.protox_file_error.specs.declared.error.ErrorKind.TheVariants.{FileShadowed, NoMemory}
 use Rattle.protox_compile_walk.specs.Walk.{Done, is_done}
 use Rattle.protox_compile_walk.specs.declared.root.Opened.{Opened}
 use Rattle.protox_compile_walk.specs.Opening.{mark, asked_path, report_in}
-use Rattle.protox_compile_walk.specs.Refusals.{Grows}
+use Rattle.protox_compile_walk.specs.Refusals.{Grows, HasOpeningCause}
 
 -- the name that a path asks for, and whether the path was resolved
 abbrev pub IsRoot : Option (List ℕ × Option (List ℕ)) → List ℕ → Option (List ℕ × Bool) → Type 0
@@ -40,10 +40,14 @@ abbrev pub OpensTimes : ℕ → List Done → List Done → Type 0
 OpensTimes zero old new = new ≡ old
 OpensTimes (suc n) old new = (middle : List Done) × OpensTimes n old middle × (report : Opened) × Opens middle new report
 
--- fewer than so many paths were opened one after another, and then more files stand behind as imports
-pub record GrowsWithin (most : ℕ) (old new : List Done) : Type 0 where
-  pub count : ℕ
-  pub fewer : count < most
+-- The paths before this one were opened one after another, and then it was refused with the error, of which so much is known: more files stand behind as
+-- imports.
+pub record StopsAmong (limit : ℕ) (paths : List (List ℕ)) (old new : List Done) (fault : ErrorKind → Type 0) (error : ErrorKind) : Type 0 where
+  pub before : List (List ℕ)
+  pub path : List ℕ
+  pub after : List (List ℕ)
+  pub split : paths ≡ before ++ path ∷ after
   pub middle : List Done
-  pub opens : OpensTimes count old middle
+  pub opens : OpensTimes (length before) old middle
   pub grows : Grows middle new
+  pub cause : HasOpeningCause limit path new fault error

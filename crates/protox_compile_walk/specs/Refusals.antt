@@ -1,5 +1,5 @@
 -- What an error says of a walk and of an opening.
-use Rattle.std.specs.Prelude.{◌≡◌, ◌++◌, ◌⊎◌, ℕ, List, Bool, true, false, not, if◌then◌else◌, Option, Some, None, Contains}
+use Rattle.std.specs.Prelude.{◌≡◌, ◌++◌, ◌⊎◌, ℕ, List, Bool, true, false, not, if◌then◌else◌, Option, Some, None}
 use Rattle.std.specs.List.{list_all}
 use Rattle.std.specs.Str.{bytes_eq}
 use Rattle.pbx_desc_records.specs.declared.file.FileDescriptorProto.{FileDescriptorProto}
@@ -258,7 +258,3 @@ HasOpeningCause limit path later fault (FileLimit most) = most ≡ limit
 HasOpeningCause limit path later fault NoMemory = Unit {0}
 HasOpeningCause limit path later fault (ImportEscapes file index place name) = escapes name ≡ true
 HasOpeningCause limit path later fault kind = ⊥
-
--- the same, of one of several paths
-abbrev pub HasOpeningsCause : ℕ → List (List ℕ) → List Done → (ErrorKind → Type 0) → ErrorKind → Type 0
-HasOpeningsCause limit paths later fault error = (path : List ℕ) × Contains paths path × HasOpeningCause limit path later fault error

@@ -169,13 +169,7 @@ module _ (run : Run) (a : Args) (key : List Component) where
         | inr other ↦ on (s.others key other)
         | inl at ↦ elim s.own [
           | inl same ↦ on (subst (λ (k : List Component). IsSameAt k s.middle run.disk.new) (sym at) same)
-          | inr spoiled ↦ inr (inr (
-            s.next.bytes,
-            to_be ws text s.next judged
-                (subst (λ (xs : List Write). Contains xs s.next) (sym s.split) (Contains-append_right s.done (s.next ∷ s.left) s.next (here s.next s.left))) at,
-            refused,
-            subst (λ (k : List Component). IsTrue (run.disk.new.spoiled k)) (sym at) spoiled,
-          ))
+          | inr spoiled ↦ inr (inr ((ws, text, judged, (s, at)), refused, subst (λ (k : List Component). IsTrue (run.disk.new.spoiled k)) (sym at) spoiled))
         ]
       ]
 

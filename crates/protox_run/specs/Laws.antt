@@ -5,7 +5,7 @@ use Rattle.protox_io.specs.Paths.{Component, disk_key}
 use Rattle.protox_words.specs.Words.{Args, WordFault, args_of}
 use Rattle.protox_run.specs.Class.{Write, Ready, Refusing, Judges}
 use Rattle.protox_run.specs.Run.{Run, Runs, AllTell, Raised}
-use Rattle.protox_run.specs.Stops.{ForArgs}
+use Rattle.protox_run.specs.Stops.{ForArgs, ForReady, StoppedAt}
 use Rattle.protox_run.specs.declared.stop.Refusal.{Refusal}
 
 -- Where writes and a text come of the input, it is refused for no reason.
@@ -46,10 +46,11 @@ abbrev pub IsWrittenAt : Run → Args → List Component → Type 0
 IsWrittenAt run args key =
     (bytes : List ℕ) × IsToBeWritten args run.disk.old run.input.old.left key bytes × Stands key bytes run.disk.new
 
--- the key is open, since its own write was refused
+-- the key is open, since its own write was refused: the writes before it were done
 abbrev pub IsOpenAt : Run → Args → List Component → Type 0
 IsOpenAt run args key =
-    (bytes : List ℕ) × IsToBeWritten args run.disk.old run.input.old.left key bytes
+    ForReady args run.disk.old run.input.old.left
+    (λ writes text. (s : StoppedAt writes run.disk.old run.disk.new) × (key ≡ disk_key s.next.path))
     × (Raised run.disk ⊎ (run.status ≡ 4)) × IsTrue (run.disk.new.spoiled key)
 
 -- the key is as it was, it is written, or it is open

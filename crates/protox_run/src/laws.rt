@@ -11,8 +11,8 @@ pub fn done_is_determined()
     opens_once();
 }
 
-/// What a run that failed or lacked memory leaves on a disk that tells: each key but those of the paths of the set and of the
-/// wire bytes is as it was, and each of these two is as it was, holds bytes that the input comes to, or is open since its own
+/// What a run that failed or lacked memory leaves, where disk, input and out tell: each key but those of the paths of the set and
+/// of the wire bytes is as it was, and each of these two is as it was, holds bytes that the input comes to, or is open since its own
 /// write was refused.
 pub fn stopped_run_leaves()
     ensures others { OthersStay }

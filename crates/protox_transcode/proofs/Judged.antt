@@ -99,7 +99,7 @@ walk_caused most path later fault kinds.NoMemory w h = tt
 
 pub compiling_caused : (paths : List (List ℕ)) (fault : ErrorKind → Type 0) (error : ErrorKind) → IsWhole error → HasCompilingCause paths fault error → IsCaused fault (of_error error)
 compiling_caused paths fault error w (inl memory) = let P : ErrorKind → Type 0 = λ e. IsCaused fault (of_error e) in subst P (sym memory) tt
-compiling_caused paths fault error w (inr h) = walk_caused most_files h.2.0 h.0 fault error w h.2.2
+compiling_caused paths fault error w (inr h) = walk_caused most_files h.1.path h.0 fault error w h.1.cause
 
 -- an error that is told of the pool has no cause outside
 pub pool_caused : (fault : ErrorKind → Type 0) (name : List ℕ) (tree : Data) (files : List FileDescriptorProto) (error : TopError) → IsRefused name tree files error → IsCaused fault error

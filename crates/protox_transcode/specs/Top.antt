@@ -28,8 +28,7 @@ use Rattle.protox_file_error.specs.declared.error.ErrorKind.TheVariants as kinds
 use Rattle.protox_compile_walk.specs.Walk.{Done, records}
 use Rattle.protox_compile_walk.specs.Opening.{Accepted, closure}
 use Rattle.protox_compile_walk.specs.Closures.{StopsAt}
-use Rattle.protox_compile_walk.specs.Opens.{GrowsWithin}
-use Rattle.protox_compile_walk.specs.Refusals.{HasOpeningsCause}
+use Rattle.protox_compile_walk.specs.Opens.{StopsAmong}
 use Rattle.protox_compile.specs.Compiling.{AreCompiled}
 use Rattle.protox_compile.specs.Sets.{IsSet, AreDecodable, IsUndecodable}
 use Rattle.protox_compile.specs.State.{most_files}
@@ -44,7 +43,8 @@ Transcodes shape t tree o wire written =
     (c : Content) × Stands shape t false tree c × (fits shape t c ≡ true) × Decodes shape t wire c × (wire ≡ encoded shape t c)
     × (canonical shape t c o ≡ Some written) × Stands shape t false written c
 
--- each key has one meaning in the JSON of each message of the files, whichever names fields are written under, and each message of a well-known name has its shape
+-- each key has one meaning in the JSON of each message of the files, whichever names fields are written under, and each message of a well-known name has
+-- its shape
 abbrev pub HaveClearNames : List FileDescriptorProto → Type 0
 HaveClearNames files = name_fault ByAnyName (shape_of files) ≡ None
 
@@ -54,7 +54,8 @@ ForType name files P = (d : Described DescriptorProto) × (message_of_name files
 
 -- Of these linked files each can be read again from their set, each key of their messages' JSON has one meaning, and each message of a well-known
 -- name has its shape; and the tree is transcoded as a message of the type of that name, under the options.
-pub record IsTranscoded (name : List ℕ) (tree : Data) (o : SerializeOptions) (files : List FileDescriptorProto) (set wire : List ℕ) (written : Data) : Type 0 where
+pub record IsTranscoded (name : List ℕ) (tree : Data) (o : SerializeOptions) (files : List FileDescriptorProto)
+    (set wire : List ℕ) (written : Data) : Type 0 where
   pub decodable : AreDecodable files
   pub set_is : IsSet files set
   pub clear : HaveClearNames files
@@ -124,9 +125,9 @@ IsCaused fault (Json error) = ¬ (error.kind ≡ json.NoMemory)
 IsCaused fault TooDeep = Unit {0}
 IsCaused fault NoMemory = Unit {0}
 
--- why the walk stopped, over every resolver: one of the paths was refused, fewer of them being opened before, and what is known of that; or want of memory
+-- why the walk stopped, over every resolver: a path was refused, those before it being opened, and what is known of that; or want of memory
 abbrev pub IsStopped : List (List ℕ) → (ErrorKind → Type 0) → TopError → Type 0
-IsStopped paths fault (File error) = (later : List Done) × GrowsWithin (length paths) [] later × HasOpeningsCause most_files paths later fault error
+IsStopped paths fault (File error) = (later : List Done) × StopsAmong most_files paths [] later fault error
 IsStopped paths fault NoMemory = Unit {0}
 IsStopped paths fault error = ⊥
 

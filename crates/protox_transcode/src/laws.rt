@@ -13,8 +13,8 @@ pub fn transcoded_is_determined()
     opens_once();
 }
 
-/// Of any paths and any resolver that tells its files: two refusals of the paths, the type's name and the tree are of one
-/// class and equal, but for the place that `Check` names beside its rule, the place and the words of `Parse`, and the kind of
+/// Of any paths and any resolver that tells its files: two refusals of the paths, the type's name and the tree, want of memory and
+/// faults aside, are of one class and equal, but for the place that `Check` names beside its rule, the place and the words of `Parse`, and the kind of
 /// `Json`.
 pub fn refused_is_determined()
     ensures { RefusedOnce }

@@ -261,9 +261,9 @@ pub fn transcode_files<R: FileResolver>(
 /// reader of the set would take it; neither is a message that nests so deep, or has a payload that does. The resolver is
 /// handed back.
 ///
-/// The names of the paths are as those of `Compiler::open_file`; a path whose name an earlier one has is told. The tree is read last: refused are, in this order, a
-/// file, a key with two meanings in the JSON of any message of the files, a message of a well-known name without its
-/// shape, the type's name, a tree that stands for no message of the type, and a message that nests too deep, itself or in
+/// The names of the paths are as those of `Compiler::open_file`; a path whose name an earlier one has is told. The tree is read
+/// last: refused are, in this order, a file, a key with two meanings in the JSON of any message of the files, a message of a
+/// well-known name without its shape, the type's name, a tree that stands for no message of the type, and a message that nests too deep, itself or in
 /// a payload.
 pub fn compile_and_transcode<R: FileResolver>(
     alloc: Global,

@@ -5,6 +5,7 @@ use Rattle.protox_file_sources.specs.Told.{ByLookups}
 use Rattle.protox_compile_walk.specs.Walk.{Done}
 use Rattle.protox_compile_walk.specs.Opening.{Accepted, Ended}
 use Rattle.protox_compile_walk.specs.Closures.{StopsAt}
+use Rattle.protox_compile_walk.specs.Opens.{StopsAmong}
 use Rattle.protox_compile_walk.proofs.Closures.{accepts_next, opens_next, stops_next}
 use Rattle.protox_compile_walk.proofs.Right.{nothing, right_nothing}
 use Rattle.protox_compile_walk.proofs.Openings.{cause_later, fault_since}
@@ -13,6 +14,7 @@ use Rattle.protox_compile.specs.Repeats.{repeats, repeats_behind}
 use Rattle.protox_compile.specs.Compiling.{StopsCompiling, HasCompilingCause}
 use Rattle.protox_compile.proofs.Kept.{settings_same, settings_join, err_is}
 use Rattle.protox_compile.proofs.Repeats.{noted_next}
+use Rattle.protox_compile.proofs.Compiled.{stops_among}
 use Rattle.protox_compile.proofs.compiling.open_each.Goals as goal
 
 pub loop-index-init : goal.loop-index-init
@@ -61,21 +63,13 @@ pub returns-in_err-report-clause-cause : goal.returns-in_err-report-clause-cause
 returns-in_err-report-clause-cause g c =
     let limit : c.loop-index.compiler.limit ≡ most_files = ap (λ s. s.limit) c.loop-index.invariant.keeps.settings ∙ ap (λ s. s.limit) c.requires.empty in
     let known = c.in_err-report.ensures.cause in
+    let since = fault_since (g.R.FileResolver.library c.args.compiler.now.resolver) _ _ _ _ c.loop-index.invariant.keeps.files.keeps c.loop-index.invariant.keeps.files.later in
     let q = err_from_is_err_and c.from_residual.result c.from_residual.ensures.1 in
+    let stops : StopsAmong most_files c.as_slice-paths.result.now [] c.open_file.new.self.done
+    (FaultCause (g.R.FileResolver.library c.args.compiler.now.resolver) (g.R.FileResolver.count c.args.compiler.now.resolver) (g.R.FileResolver.count c.open_file.new.self.resolver)) c.in_err-report.field-0.0
+    = stops_among most_files c.as_slice-paths.result.now c.loop-index.index c.index-paths-index.result (search rules) c.index-paths-index.is
+    [] c.loop-index.compiler.done c.open_file.new.self.done _ c.in_err-report.field-0.0 c.loop-index.invariant.opens c.in_err-report.ensures.grows
+    (cause_later most_files c.index-paths-index.result _ _ _ c.in_err-report.field-0.0 since (rw (limit, c.as_str.ensures) at known)) in
     err_is (HasCompilingCause c.args.files.now (FaultCause (g.R.FileResolver.library c.args.compiler.now.resolver) (g.R.FileResolver.count c.args.compiler.now.resolver) (g.R.FileResolver.count c.open_file.new.self.resolver)))
     c.from_residual.result q.0 c.in_err-report.field-0.0 q.1 q.2
-    (inr (
-      c.open_file.new.self.done,
-      record {
-        count = c.loop-index.index;
-        fewer = (search rules);
-        middle = c.loop-index.compiler.done;
-        opens = c.loop-index.invariant.opens;
-        grows = c.in_err-report.ensures.grows;
-      },
-      (
-        c.as_str.result.now,
-        (c.loop-index.index, (search rules), (search rules)),
-        cause_later most_files c.as_str.result.now _ _ _ c.in_err-report.field-0.0 (fault_since (g.R.FileResolver.library c.args.compiler.now.resolver) _ _ _ _ c.loop-index.invariant.keeps.files.keeps c.loop-index.invariant.keeps.files.later) (rw limit at known),
-      ),
-    ))
+    (rw (← c.as_slice-paths.ensures) (inr (c.open_file.new.self.done, stops)))

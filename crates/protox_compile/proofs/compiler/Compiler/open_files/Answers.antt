@@ -1,10 +1,13 @@
 use Rattle.std.proofs.Common.{◌≡◌, IsTrue, refl, ap, rules}
 use Rattle.protox_file_sources.specs.Told.{ByLookups}
+use Rattle.protox_file_sources.specs.Causes.{FaultCause}
 use Rattle.protox_compile_walk.specs.Closures.{StopsAt}
+use Rattle.protox_compile_walk.specs.Opens.{StopsAmong}
 use Rattle.protox_compile_walk.proofs.Closures.{accepts_next, stops_next, opens_next}
 use Rattle.protox_compile_walk.proofs.Right.{nothing, right_nothing}
 use Rattle.protox_compile_walk.proofs.Openings.{cause_later, fault_since}
 use Rattle.protox_compile.proofs.Kept.{settings_same, settings_join}
+use Rattle.protox_compile.proofs.Compiled.{stops_among}
 use Rattle.protox_compile.proofs.compiler.Compiler.open_files.Goals as goal
 
 pub returns-in-Err-clause-err : goal.returns-in-Err-clause-err
@@ -17,23 +20,17 @@ returns-in-Err-clause-err g c tells =
     (rw (c.loop-path.invariant.keeps.files.keeps, limit, c.as_str.ensures) at (c.in-Err.ensures.err told)) c.in-Err.ensures.grows in
     rw (← c.as_slice-path-items.ensures) stops
 
-pub returns-in-Err-clause-grows : goal.returns-in-Err-clause-grows
-returns-in-Err-clause-grows g c = record {
-  count = c.loop-path.path-index;
-  fewer = (search rules);
-  middle = c.loop-path.self.done;
-  opens = c.loop-path.invariant.opens;
-  grows = c.in-Err.ensures.grows;
-}
-
-pub returns-in-Err-clause-cause : goal.returns-in-Err-clause-cause
-returns-in-Err-clause-cause g c =
+pub returns-in-Err-clause-stops : goal.returns-in-Err-clause-stops
+returns-in-Err-clause-stops g c =
     let limit : c.loop-path.self.limit ≡ c.args.self.now.limit = ap (λ s. s.limit) c.loop-path.invariant.keeps.settings in
-    let known = c.in-Err.ensures.cause in (
-      c.as_str.result.now,
-      (c.loop-path.path-index, (search rules), (search rules)),
-      cause_later c.args.self.now.limit c.as_str.result.now _ _ _ c.in-Err.error (fault_since (g.R.FileResolver.library c.args.self.now.resolver) _ _ _ _ c.loop-path.invariant.keeps.files.keeps c.loop-path.invariant.keeps.files.later) (rw limit at known),
-    )
+    let known = c.in-Err.ensures.cause in
+    let since = fault_since (g.R.FileResolver.library c.args.self.now.resolver) _ _ _ _ c.loop-path.invariant.keeps.files.keeps c.loop-path.invariant.keeps.files.later in
+    let stops : StopsAmong c.args.self.now.limit c.as_slice-path-items.result.now c.args.self.now.done c.open_file.new.self.done
+    (FaultCause (g.R.FileResolver.library c.args.self.now.resolver) (g.R.FileResolver.count c.args.self.now.resolver) (g.R.FileResolver.count c.open_file.new.self.resolver)) c.in-Err.error
+    = stops_among c.args.self.now.limit c.as_slice-path-items.result.now c.loop-path.path-index c.path-item.result (search rules) c.path-item.is
+    c.args.self.now.done c.loop-path.self.done c.open_file.new.self.done _ c.in-Err.error c.loop-path.invariant.opens c.in-Err.ensures.grows
+    (cause_later c.args.self.now.limit c.path-item.result _ _ _ c.in-Err.error since (rw (limit, c.as_str.ensures) at known)) in
+    rw (← c.as_slice-path-items.ensures) stops
 
 pub returns-in-Err-clause-keeps : goal.returns-in-Err-clause-keeps
 returns-in-Err-clause-keeps g c = settings_join g.R.FileResolver.library g.R.FileResolver.count c.args.self.now c.loop-path.self c.open_file.new.self c.loop-path.invariant.keeps c.in-Err.ensures.keeps
