@@ -8,7 +8,7 @@ pub fn meaning_shrinks()
 {}
 
 /// Levels that are not needed change nothing of what bytes mean.
-#[tactic(auto, using(crate::proofs::More::more_levels))]
+#[tactic(auto, using(pbx_content::proofs::More::more_levels))]
 pub fn more_levels()
     ensures { MoreLevels }
 {}
