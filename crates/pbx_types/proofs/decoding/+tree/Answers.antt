@@ -72,7 +72,7 @@ pub fields_from-loop-pair-preserved-in_ok-add : goal.fields_from-loop-pair-prese
 fields_from-loop-pair-preserved-in_ok-add t c =
     let held = c.in-Some-under_name.held in
     field_more c.loop-pair.yielded c.in-Some.pair c.loop-pair.fields c.add.new.self c.in-Some-under_name.name held c.in_ok-value_from.field-0 c.loop-pair.invariant c.in-Some-under_name.ensures
-    (message_is 6 value_content is_exact_value held c.message_of.result c.in_ok-value_from.field-0 (c.message_of.ensures 6) c.in_ok-value_from.ensures) c.in_ok-add.ensures
+    (message_is 6 value_content is_exact_value held c.message_of.result c.in_ok-value_from.field-0 (c.message_of.ensures 6) c.in_ok-value_from.ensures) c.in_ok-add.ensures.ok
 
 pub fields_from-loop-pair-preserved : goal.fields_from-loop-pair-preserved
 fields_from-loop-pair-preserved t c =
