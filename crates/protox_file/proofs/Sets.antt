@@ -1,5 +1,5 @@
 -- The files of the bytes of a set, record by record.
-use Rattle.std.proofs.Common.{◌≡◌, ◌∙◌, ℕ, ◌<◌, false, List, [], ◌∷◌, ◌++◌, length, map, Option, Some, None, option_map, refl, sym, ap}
+use Rattle.std.proofs.Common.{◌≡◌, ◌∙◌, ℕ, ◌<◌, true, false, List, [], ◌∷◌, ◌++◌, length, map, Option, Some, None, option_map, refl, sym, ap}
 use Rattle.std.proofs.Common.{subst, inl, inr, arith, append-nil, append_assoc, length-append}
 use Rattle.std.specs.Prelude.{option_and_then, codes}
 use Rattle.std.specs.List.{filter}
@@ -25,6 +25,7 @@ use Rattle.pbx_desc_shapes.proofs.DescriptorsProper.{descriptor_shape_proper}
 use Rattle.pbx_desc_encoding.specs.Content.{listed, of_records, file_content, file_value}
 use Rattle.pbx_desc_encoding.specs.Sets.{set_meaning_of}
 use Rattle.pbx_desc_encoding.proofs.Types.{file_set_type}
+use Rattle.pbx_desc.specs.Taking.{AreTaken}
 use Rattle.pbx_desc.proofs.Walk.{whole}
 use Rattle.pbx_link.specs.Bytes.{DecodesFiles}
 use Rattle.protox_file_sources.specs.Told.{Entry}
@@ -136,8 +137,10 @@ decodes_files bytes es h =
     let means = set_means bytes h.records h.payloads es h.spelled h.found h.files in
     let sound = parts_sound descriptor_shape 0 bytes (set_of es kept) descriptor_shape_proper means in
     let own = ap listed (values_are es) ∙ got_first (listed (map value_of es)) in
-    let made = whole 0 set_fields (of_records file_content (records_of es) ∷ []) kept (set_of es kept) file_set_type refl ((λ may. own), tt) refl sound in
-    (record { file = records_of es; unknown = kept }, means ∙ ap (λ (c : Content). Some c) (sym made), refl)
+    let all : AreTaken set_fields (of_records file_content (records_of es) ∷ []) (true ∷ []) kept (set_of es kept) =
+    record { values = ((λ may. own), tt); exact = ((λ may. refl), tt); unread = refl } in
+    let made = whole 0 set_fields (of_records file_content (records_of es) ∷ []) (true ∷ []) kept (set_of es kept) file_set_type refl all sound in
+    (record { file = records_of es; unknown = kept }, means ∙ ap (λ (c : Content). Some c) (sym made.0), refl)
 
 -- ---- record by record
 

@@ -26,15 +26,15 @@ returns-in-Some-clause-read c =
     let place : c.place-place.result ≡ place_of d = c.place-place.ensures.place (c.as_ref-2.ensures ∙ c.in-Ok.ensures.is) in
     rw c.in-Some.ensures (rw (shape, place) at c.in-Ok-read_content.ensures.stands)
 
-pub returns-in-Err-clause-fault : goal.returns-in-Err-clause-fault
-returns-in-Err-clause-fault c =
+pub returns-clause-fault : goal.returns-clause-fault
+returns-clause-fault c =
     let d = c.args.desc in
     let shape : c.as_ref-3.result.now ≡ shape_of d.pool = c.as_ref-3.ensures ∙ c.in-Ok.ensures.is in
     let place : c.place-place.result ≡ place_of d = c.place-place.ensures.place (c.as_ref-2.ensures ∙ c.in-Ok.ensures.is) in
     rw (shape, place) at c.in-Err.ensures.fault
 
-pub returns-in-Err-clause-refused : goal.returns-in-Err-clause-refused
-returns-in-Err-clause-refused c =
+pub returns-clause-refused : goal.returns-clause-refused
+returns-clause-refused c =
     let d = c.args.desc in
     let shape : c.as_ref-3.result.now ≡ shape_of d.pool = c.as_ref-3.ensures ∙ c.in-Ok.ensures.is in
     let place : c.place-place.result ≡ place_of d = c.place-place.ensures.place (c.as_ref-2.ensures ∙ c.in-Ok.ensures.is) in
