@@ -17,6 +17,7 @@ use Rattle.pbx_link_meaning.specs.Descriptors.{message_of_name}
 use Rattle.pbx_link_meaning.specs.Shapes.{shape_of}
 use Rattle.pbx_link_rules.specs.Breaches.{BreaksFirst, breaches}
 use Rattle.pbx_parse.specs.declared.error.ParseError.TheVariants as parse
+use Rattle.protox_file_sources.specs.Causes.{FaultCause}
 use Rattle.protox_file_sources.specs.Told.{Told, Lookup, AreLookups, ByLookups}
 use Rattle.protox_file_error.specs.Errors.{IsWhole}
 use Rattle.protox_file_error.specs.declared.error.ErrorKind.{ErrorKind}
@@ -378,9 +379,21 @@ as_file fault error e is r c =
     (none, whole_of fault e none (let P : TopError → Type 0 = λ x. IsCaused fault x in subst P is c))
 
 pub refused_once : ClosesOnce → FirstFaultIsOnePlace → RefusedOnce
-refused_once once place told resolves paths name tree fault other_fault error other r c h q d k =
+refused_once once place library paths name tree before later other_before other_later error other r c h q d k =
     at (unfold_either told resolves paths name tree error r h) (unfold_either told resolves paths name tree other q k)
   where
+    told : List ℕ → Told
+    told = library.files
+
+    resolves : List ℕ → Option (List ℕ)
+    resolves = library.resolves
+
+    fault : ErrorKind → Type 0
+    fault = FaultCause library before later
+
+    other_fault : ErrorKind → Type 0
+    other_fault = FaultCause library other_before other_later
+
     at : Either told resolves paths name tree error → Either told resolves paths name tree other → fixed_part error ≡ fixed_part other
     at (inl (e, is, x)) (inl (f, also, y)) =
         let a = as_file fault error e is r c in

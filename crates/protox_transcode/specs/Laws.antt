@@ -7,6 +7,9 @@ use Rattle.pbx_link_definitions.specs.declared.error.DescriptorError.TheVariants
 use Rattle.pbx_parse.specs.declared.error.ParseError.TheVariants.{Syntax}
 use Rattle.protox_file_error.specs.declared.error.ErrorKind.{ErrorKind}
 use Rattle.protox_file_error.specs.declared.error.ErrorKind.TheVariants.{Parse, Check}
+use Rattle.protox_io.specs.Count.{Count}
+use Rattle.protox_file_sources.specs.Causes.{FaultCause}
+use Rattle.protox_file_sources.specs.Library.{Library}
 use Rattle.protox_file_sources.specs.Told.{Told}
 use Rattle.protox_transcode.specs.Top.{ForFiles, IsCaused, IsTranscoded, Refuses, is_refusal}
 use Rattle.protox_transcode.specs.declared.error.TopError.{TopError}
@@ -41,11 +44,10 @@ fixed_part (File error) = File (fixed_error error)
 fixed_part (Json error) = Json (record error { kind = WrongKind })
 fixed_part error = error
 
--- Whatever is told of names and paths, an input is refused in one way: two errors, as calls may give them, are the same but for what may differ.
-abbrev pub RefusedOnce : Type 1
+-- Whatever a library tells, an input is refused in one way: the errors of two calls, whatever they count of faults, are the same but for what may differ.
+abbrev pub RefusedOnce : Type 0
 RefusedOnce =
-    (told : List ℕ → Told) (resolves : List ℕ → Option (List ℕ)) (paths : List (List ℕ)) (name : List ℕ) (tree : Data)
-    (fault other_fault : ErrorKind → Type 0) (error other : TopError)
-    → is_refusal error ≡ true → IsCaused fault error → Refuses told resolves paths name tree error
-    → is_refusal other ≡ true → IsCaused other_fault other → Refuses told resolves paths name tree other
+    (library : Library) (paths : List (List ℕ)) (name : List ℕ) (tree : Data) (before later other_before other_later : Count) (error other : TopError)
+    → is_refusal error ≡ true → IsCaused (FaultCause library before later) error → Refuses library.files library.resolves paths name tree error
+    → is_refusal other ≡ true → IsCaused (FaultCause library other_before other_later) other → Refuses library.files library.resolves paths name tree other
     → fixed_part error ≡ fixed_part other
