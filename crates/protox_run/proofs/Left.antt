@@ -1,6 +1,7 @@
 -- What a run of status 3 or 4 leaves at each key.
 use Rattle.std.proofs.Common.{◌≡◌, ◌∙◌, ◌≤◌, ◌++◌, ◌∷◌, ◌⊎◌, [], inl, inr, ℕ, zero, suc, List, Contains, Bool, true, false, IsTrue, Option, Some, None, Result, Ok, Err, ap, sym, subst, refl, arith}
 use Rattle.std.proofs.lemmas.List.Elements.{Contains-append_left, Contains-append_right}
+use Rattle.pbx_desc_records.specs.declared.file.FileDescriptorProto.{FileDescriptorProto}
 use Rattle.protox_io.specs.Disk.{Volume, Stands, SameBut, IsOpen}
 use Rattle.protox_io.specs.Paths.{Component, key_eq, disk_key}
 use Rattle.protox_io.proofs.Keys.{key_decides}
@@ -33,7 +34,7 @@ own_wire a (Some path) bytes e = (inr e, tt)
 own_by : (a : Args) (ws vs : List Write) → ws ≡ vs → AreOwn a vs → AreOwn a ws
 own_by a ws vs e h = subst (AreOwn a) (sym e) h
 
-own_written : (a : Args) (path : Option (List ℕ)) (files : _) (ws : List Write) → a.output ≡ path → WritesSet path files ws → AreOwn a ws
+own_written : (a : Args) (path : Option (List ℕ)) (files : List FileDescriptorProto) (ws : List Write) → a.output ≡ path → WritesSet path files ws → AreOwn a ws
 own_written a None files ws e h = own_by a ws [] h tt
 own_written a (Some path) files ws e h = own_by a ws _ h.1.2 (inl e, tt)
 

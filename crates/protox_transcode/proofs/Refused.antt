@@ -2,6 +2,7 @@
 use Rattle.std.proofs.Common.{◌≡◌, ◌∙◌, ◌++◌, ◌∷◌, ◌==◌, ◌<◌, ◌≤◌, ◌⊎◌, [], inl, inr, ℕ, List, true, false, Bool, if◌then◌else◌, Contains, find, Option, Some, None, ap, sym, subst, refl, arith}
 use Rattle.std.proofs.lemmas.Bool.{cases_lt}
 use Rattle.serde_json.specs.Data.{Data}
+use Rattle.pbx_content.specs.declared.shape.Shape.{Shape}
 use Rattle.pbx_desc_records.specs.declared.file.FileDescriptorProto.{FileDescriptorProto}
 use Rattle.pbx_json_meaning.specs.Clash.{ByAnyName, name_fault}
 use Rattle.pbx_json_meaning.specs.Laws.{FirstFaultIsOnePlace}
@@ -277,7 +278,7 @@ module _ (place : FirstFaultIsOnePlace) (name : List ℕ) (tree : Data) (files :
   unread : {P : Type 0} (e : JsonError) → ForType name files (λ shape t. IsUnread shape t tree e) → ForType name files (λ shape t. IsTooDeep shape t tree) → P
   unread e h k = let both = both_of_type name files (λ shape t. IsUnread shape t tree e) (λ shape t. IsTooDeep shape t tree) h k in absurd (both.1.2 both.2.0 both.2.1)
 
-  untyped : {P : Type 0} (Q : _) → message_of_name files name ≡ None → ForType name files Q → P
+  untyped : {P : Type 0} (Q : Shape → ℕ → Type 0) → message_of_name files name ≡ None → ForType name files Q → P
   untyped Q none h = absurd (nothing_there h.0 (sym none ∙ h.1))
 
   among_once : (error other : TopError) → is_refusal error ≡ true → is_refusal other ≡ true → IsRefused name tree files error → IsRefused name tree files other → fixed_part error ≡ fixed_part other
