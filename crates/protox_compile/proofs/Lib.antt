@@ -2,4 +2,4 @@ pub mod Listed
 pub mod Standard
 pub mod Kept
 pub mod Repeats
-pub mod Compiled
+pub mod Among

@@ -104,7 +104,7 @@ pub fn open_all<R: FileResolver>(
 }
 
 /// The set of the files at the paths and all that they import. The resolver is handed back.
-#[tactic(auto, using(crate::proofs::Compiled::are_compiled))]
+#[tactic(auto, using(crate::proofs::Among::are_compiled))]
 fn compile_with<R: FileResolver>(
     alloc: Global,
     resolver: R,

@@ -14,7 +14,7 @@ use Rattle.protox_compile.specs.Repeats.{repeats, repeats_behind}
 use Rattle.protox_compile.specs.Compiling.{StopsCompiling, HasCompilingCause}
 use Rattle.protox_compile.proofs.Kept.{settings_same, settings_join, err_is}
 use Rattle.protox_compile.proofs.Repeats.{noted_next}
-use Rattle.protox_compile.proofs.Compiled.{stops_among}
+use Rattle.protox_compile.proofs.Among.{stops_among}
 use Rattle.protox_compile.proofs.compiling.open_each.Goals as goal
 
 pub loop-index-init : goal.loop-index-init

@@ -2,7 +2,7 @@ use Rattle.serde_json.specs.View.{view}
 use Rattle.std.proofs.Common.{◌∙◌, length, sym, subst}
 use Rattle.protox_file_sources.specs.Causes.{FaultCause}
 use Rattle.protox_compile.proofs.Kept.{files_as}
-use Rattle.protox_compile.proofs.Compiled.{are_compiled}
+use Rattle.protox_compile.proofs.Among.{are_compiled}
 use Rattle.protox_transcode.specs.Input.{data_of}
 use Rattle.protox_transcode.specs.Top.{IsCaused, IsJudged, Refuses}
 use Rattle.protox_transcode.specs.declared.error.TopError.{TopError}

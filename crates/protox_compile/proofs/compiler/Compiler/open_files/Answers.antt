@@ -7,7 +7,7 @@ use Rattle.protox_compile_walk.proofs.Closures.{accepts_next, stops_next, opens_
 use Rattle.protox_compile_walk.proofs.Right.{nothing, right_nothing}
 use Rattle.protox_compile_walk.proofs.Openings.{cause_later, fault_since}
 use Rattle.protox_compile.proofs.Kept.{settings_same, settings_join}
-use Rattle.protox_compile.proofs.Compiled.{stops_among}
+use Rattle.protox_compile.proofs.Among.{stops_among}
 use Rattle.protox_compile.proofs.compiler.Compiler.open_files.Goals as goal
 
 pub returns-in-Err-clause-err : goal.returns-in-Err-clause-err
