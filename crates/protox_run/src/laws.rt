@@ -1,4 +1,4 @@
-ghost use Rattle.protox_run.specs.Laws.{DoneAlone, DoneOnce, OthersStay, WrittenOrOpen};
+ghost use Rattle.protox_run.specs.Laws.{DoneAlone, DoneOnce};
 
 use protox_compile::opens_once;
 
@@ -10,11 +10,3 @@ pub fn done_is_determined()
 {
     opens_once();
 }
-
-/// What a run that failed or lacked memory leaves, where disk, input and out tell: each key but those of the paths of the set and
-/// of the wire bytes is as it was, and each of these two is as it was, holds bytes that the input comes to, or is open since its own
-/// write was refused.
-pub fn stopped_run_leaves()
-    ensures others { OthersStay }
-    ensures own { WrittenOrOpen }
-{}

@@ -2,4 +2,3 @@ pub mod Judged
 pub mod SetOf
 pub mod Transcoding
 pub mod Determined
-pub mod Refused
