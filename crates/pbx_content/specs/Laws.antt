@@ -99,8 +99,9 @@ OntoIsFollowing =
     → IsProper shape → meaning shape levels (fields_of shape t) rs ≡ Some c
     → meaning_onto shape levels (fields_of shape t) c ss ≡ meaning shape levels (fields_of shape t) (rs ++ ss)
 
--- Merging bytes into any content that a message may have is reading its canonical records and theirs behind them: the content itself may nest deeper than
--- is read, and so do all together, with as many levels as it takes and at least the 100 that the bytes have.
+-- Merging bytes into any content that a message may have, and whose payloads are as short as memory has them, is reading its canonical records and theirs
+-- behind them: the content itself may nest deeper than is read, and so do all together, with as many levels as it takes and at least the 100 that the
+-- bytes have.
 abbrev pub MergedIsFollowing : Type 0
 MergedIsFollowing =
     (shape : Shape) (levels t : ℕ) (old new : Content) (bytes : List ℕ)

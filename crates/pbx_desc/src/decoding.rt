@@ -24,7 +24,8 @@ pub trait DecodeMessage: Message + Sized {
     /// How bytes are read.
     ghost DECODING: { Decoding };
 
-    /// Whether nothing stands in a value beside its content. No two such records have the same one (`contents_fix_files`).
+    /// Whether nothing stands in a value beside its content. No two such records have the same one: `contents_fix_files`, `contents_fix_types`,
+    /// and `contents_fix_records` of the well-known types.
     ghost is_exact: { Self → Bool };
 
     /// The value that holds what the bytes mean.

@@ -29,7 +29,8 @@ the_items T items = items
 pub the_items_listed : (T : Type 0) (items : List T) → parts.listed _ (former.children (the_former former.this) T items) ≡ the_items T items
 the_items_listed = parts.list-listed
 
--- Recursion into the items ends: a list measures as much as its largest item. And the empty list needs no item, so even a type that holds a list in each case has a value.
+-- Recursion into the items ends: a list measures as much as its largest item. And the empty list needs no item, so even a type that holds a list in each
+-- case has a value.
 abbrev pub the_weighed : {inner : former.Former {0}} → depth.Weighed inner → depth.Weighed (the_former inner)
 the_weighed = depth.w_list
 
