@@ -7,3 +7,4 @@ pub mod Places
 pub mod Ranges
 pub mod Errors
 pub mod Found
+pub mod Spans

@@ -1,11 +1,17 @@
--- Ranges of numbers that a message leaves to extensions or reserves (`descriptor.proto`: DescriptorProto.ExtensionRange and ReservedRange,
--- whose ends are exclusive).
-use Rattle.std.specs.Prelude.{◌&&◌, ℤ, int_le, int_lt, List, map, ◌++◌, Bool, false, Option, Some, None}
+-- The numbers that fields may have, and the ranges of numbers that a message leaves to extensions or reserves (`descriptor.proto`:
+-- DescriptorProto.ExtensionRange and ReservedRange, whose ends are exclusive).
+use Rattle.std.specs.Prelude.{◌&&◌, not, nat_lt, nat_le, ℤ, pos, negsuc, int_le, int_lt, List, map, ◌++◌, Bool, false, Option, Some, None}
 use Rattle.std.specs.List.{list_any}
 use Rattle.pbx_desc_records.specs.declared.message.DescriptorProto.{DescriptorProto, out-DescriptorProto}
 use Rattle.pbx_desc_records.specs.declared.message.ExtensionRange.{ExtensionRange}
 use Rattle.pbx_desc_records.specs.declared.message.ReservedRange.{ReservedRange}
 use Rattle.pbx_link_definitions.specs.Says.{signed_or_zero}
+
+-- a field may have the number (language guide: "Assigning Field Numbers"): 1 to 536,870,911 without 19,000 to 19,999
+abbrev pub is_field_number : Option ℤ → Bool
+is_field_number None = false
+is_field_number (Some (pos n)) = nat_lt 0 n && nat_lt n 536870912 && not (nat_le 19000 n && nat_le n 19999)
+is_field_number (Some (negsuc n)) = false
 
 -- A range of numbers: its start, which is 0 where it is absent, and its end, if it has one. The end is no part of the range.
 pub record Range : Type 0 where

@@ -12,8 +12,8 @@ use Rattle.pbx_desc_records.specs.declared.message.ReservedRange.{ReservedRange}
 use Rattle.pbx_link_definitions.specs.Names.{text_or_empty, among}
 use Rattle.pbx_link_definitions.specs.Says.{signed_or_zero, is_number, is_proto3, is_set, is_optional, are_equal}
 use Rattle.pbx_link_definitions.specs.Definitions.{Place, Part, at, fields_in, oneofs_in, messages, fields, extensions}
-use Rattle.pbx_link_definitions.specs.Ranges.{Range, extension_ranges, reserved_ranges, all_ranges, in_ranges}
-use Rattle.pbx_link_rules_field.specs.Rules.{all_fields, is_field_number, is_bad_number, like_numbered, has_reserved_name, bad_numbers_in, bad_field_numbers}
+use Rattle.pbx_link_definitions.specs.Ranges.{Range, extension_ranges, reserved_ranges, all_ranges, in_ranges, is_field_number}
+use Rattle.pbx_link_rules_field.specs.Rules.{all_fields, is_bad_number, like_numbered, has_reserved_name, bad_numbers_in, bad_field_numbers}
 use Rattle.pbx_link_rules_field.specs.Rules.{has_bad_type, bad_types, members, is_below, has_oneof, is_alone, bad_member, is_bad_extension, bad_oneofs_in}
 use Rattle.pbx_link_rules_field.specs.Rules.{bad_oneofs, is_bad_label, bad_labels}
 use Rattle.pbx_link_record.specs.Settled.{settled_field, settled_oneof, settled_extension_range, settled_reserved_range, settled_message, settled_file}

@@ -9,7 +9,7 @@ use Rattle.pbx_link_definitions.specs.Names.{text_or_empty}
 use Rattle.pbx_link_definitions.specs.Says.{is_proto3, is_repeated, own_fields}
 use Rattle.pbx_link_definitions.specs.Definitions.{Part, at, fields_in, messages, fields, extensions, methods}
 use Rattle.pbx_link_definitions.specs.Places.{repeated}
-use Rattle.pbx_link_rules_field.specs.Rules.{is_field_number}
+use Rattle.pbx_link_definitions.specs.Ranges.{is_field_number}
 use Rattle.pbx_link_scope.specs.declared.types.Bound.{Bound}
 use Rattle.pbx_link_scope.specs.Scope.{bound_if, is_message}
 use Rattle.pbx_link_rules_scope.specs.Rules.{places_by, is_bad_type_name, is_bad_message_name, has_bad_type_name, has_bad_extendee, has_no_extendee, has_no_input}

@@ -2,7 +2,7 @@
 use Rattle.std.proofs.Common.{◌≡◌, ◌∙◌, ℕ, ℤ, pos, negsuc, ◌==◌, not, Bool, true, false, Option, Some, None, refl, ap, arith}
 use Rattle.std.proofs.lemmas.Bool.Decides.{nat_tests}
 use Rattle.pbx_link_definitions.specs.Says.{is_number, are_equal, number_or_zero}
-use Rattle.pbx_link_rules_field.specs.Rules.{is_field_number}
+use Rattle.pbx_link_definitions.specs.Ranges.{is_field_number}
 use Rattle.pbx_link_meaning.proofs.Lists.{equal_is}
 
 flipped : (m n : ℕ) → (m == n) ≡ (n == m)

@@ -9,10 +9,10 @@ use Rattle.pbx_desc_records.specs.declared.message.DescriptorProto.TheOpen.{Desc
 use Rattle.pbx_desc_records.specs.declared.message.ExtensionRange.{ExtensionRange}
 use Rattle.pbx_link_definitions.specs.Definitions.{Part, at, fields_in, messages}
 use Rattle.pbx_link_definitions.specs.Places.{repeated}
-use Rattle.pbx_link_definitions.specs.Ranges.{Range, extension_ranges, reserved_ranges, all_ranges, in_ranges, has_number}
+use Rattle.pbx_link_definitions.specs.Ranges.{Range, extension_ranges, reserved_ranges, all_ranges, in_ranges, has_number, is_field_number}
 use Rattle.pbx_link_definitions.specs.Says.{is_number, signed_or_zero}
 use Rattle.pbx_link_scope.specs.Scope.{visible}
-use Rattle.pbx_link_rules_field.specs.Rules.{is_field_number, is_bad_number, like_numbered, unfit_numbers, repeated_numbers, reserved_names}
+use Rattle.pbx_link_rules_field.specs.Rules.{is_bad_number, like_numbered, unfit_numbers, repeated_numbers, reserved_names}
 use Rattle.pbx_link_rules_field.specs.Rules.{bad_numbers_in, bad_field_numbers}
 use Rattle.pbx_link_rules_scope.specs.ExtensionNumbers.{bad_extension_numbers}
 use Rattle.pbx_link_record.specs.Settled.{settled_extension_range}

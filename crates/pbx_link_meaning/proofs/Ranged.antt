@@ -9,11 +9,10 @@ use Rattle.pbx_desc_records.specs.declared.field.FieldDescriptorProto.{FieldDesc
 use Rattle.pbx_desc_records.specs.declared.message.DescriptorProto.{DescriptorProto}
 use Rattle.pbx_link_definitions.specs.Definitions.{Part, extensions, messages, enums, message_name}
 use Rattle.pbx_link_definitions.specs.Names.{is_named, dotted, qualified}
-use Rattle.pbx_link_definitions.specs.Ranges.{Range, extension_ranges, in_ranges}
+use Rattle.pbx_link_definitions.specs.Ranges.{Range, extension_ranges, in_ranges, is_field_number}
 use Rattle.pbx_link_scope.specs.declared.types.Bound.{Bound}
 use Rattle.pbx_link_scope.specs.declared.types.Bound.TheVariants.{Message as to_message, Enum as to_enum}
 use Rattle.pbx_link_scope.specs.Scope.{types, visible, bound_if, is_message}
-use Rattle.pbx_link_rules_field.specs.Rules.{is_field_number}
 use Rattle.pbx_link_rules_scope.specs.Rules.{has_no_extendee}
 use Rattle.pbx_link_rules_scope.specs.ExtensionNumbers.{is_outside, is_unfit}
 use Rattle.pbx_link_record.specs.Laws.{linked_part}

@@ -10,10 +10,10 @@ use Rattle.pbx_content.specs.declared.shape.MessageShape.{MessageShape}
 use Rattle.pbx_desc_records.specs.declared.field.FieldDescriptorProto.{FieldDescriptorProto}
 use Rattle.pbx_desc_records.specs.declared.message.DescriptorProto.{DescriptorProto}
 use Rattle.pbx_link_definitions.specs.Definitions.{Part, at, fields_in, messages, fields, extensions}
-use Rattle.pbx_link_definitions.specs.Ranges.{all_ranges, in_ranges}
+use Rattle.pbx_link_definitions.specs.Ranges.{all_ranges, in_ranges, is_field_number}
 use Rattle.pbx_link_definitions.specs.Says.{number_or_zero}
 use Rattle.pbx_link_scope.specs.Scope.{visible}
-use Rattle.pbx_link_rules_field.specs.Rules.{is_field_number, is_bad_number, unfit_numbers, repeated_numbers, reserved_names, bad_numbers_in, bad_field_numbers}
+use Rattle.pbx_link_rules_field.specs.Rules.{is_bad_number, unfit_numbers, repeated_numbers, reserved_names, bad_numbers_in, bad_field_numbers}
 use Rattle.pbx_link_rules_scope.specs.Rules.{places_by}
 use Rattle.pbx_link_rules_scope.specs.ExtensionNumbers.{is_unfit, has_taken_number, extended_again, bad_extension_numbers}
 use Rattle.pbx_link_record.specs.Linked.{linked_record}

@@ -3,7 +3,7 @@ use Rattle.std.proofs.Common.{◌≡◌, ℕ, pos, List, [], ◌∷◌, ◌++◌
 use Rattle.std.specs.Prelude.{Contains, position}
 use Rattle.pbx_link_definitions.specs.Definitions.{Place, Part, parts}
 use Rattle.pbx_link_definitions.specs.Places.{places_where}
-use Rattle.pbx_link_rules_record.proofs.Indexes.{position_is}
+use Rattle.pbx_link_definitions.proofs.Indexes.{position_is_index}
 use Rattle.pbx_link_rules_record.proofs.ItemPlaces.{where_of_parts, none_of_parts}
 
 module _ {X : Type 0} (test : X → Bool) (n : ℕ) (xs : List X) where
@@ -12,8 +12,8 @@ module _ {X : Type 0} (test : X → Bool) (n : ℕ) (xs : List X) where
 
   pub item_here : (i : ℕ) (x : X) (there : Place) → Some i ≡ position test xs → there ≡ [] ++ pos n ∷ pos i ∷ [] → Contains places there
   item_here i x there found e =
-      let is = position_is test xs (Some i) found in
+      let is = position_is_index test xs (Some i) found in
       subst (λ (p : Place). Contains places p) (sym e) (where_of_parts [] [] n xs test i x is.0 is.1)
 
   pub item_none : None ≡ position test xs → places ≡ []
-  item_none found = none_of_parts [] [] n xs test (position_is test xs None found)
+  item_none found = none_of_parts [] [] n xs test (position_is_index test xs None found)

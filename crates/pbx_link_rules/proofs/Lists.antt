@@ -6,7 +6,7 @@ use Rattle.std.proofs.lemmas.Bool.{false≢true}
 use Rattle.std.proofs.lemmas.List.{reverse-append}
 use Rattle.std.proofs.lemmas.List.Elements.{Contains-append_right}
 use Rattle.std.proofs.lemmas.List.Folds.{list_any-append}
-use Rattle.pbx_link_rules_record.proofs.Seen.{swap_or}
+use Rattle.pbx_link_definitions.proofs.Seen.{swap}
 use Rattle.pbx_link_definitions.specs.Definitions.{Place, Part}
 use Rattle.pbx_link_definitions.specs.Places.{places_where, place_if, repeated}
 
@@ -83,7 +83,7 @@ pub any_reversed : {X : Type 0} (p : X → Bool) (xs : List X) → list_any p (r
 any_reversed p [] = refl
 any_reversed p (x ∷ xs) =
     ap (list_any p) (reversed x xs) ∙ list_any-append p (reverse xs) (x ∷ []) ∙ ap (λ (b : Bool). b || (p x || false)) (any_reversed p xs)
-    ∙ swap_or (list_any p xs) (p x || false) ∙ ap (λ (b : Bool). b || list_any p xs) (swap_or (p x) false)
+    ∙ swap (list_any p xs) (p x || false) ∙ ap (λ (b : Bool). b || list_any p xs) (swap (p x) false)
 
 pub any_mapped : {X Y : Type 0} (p : Y → Bool) (f : X → Y) (xs : List X) → list_any p (map f xs) ≡ list_any (λ x. p (f x)) xs
 any_mapped p f [] = refl

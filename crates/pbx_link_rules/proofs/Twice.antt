@@ -16,7 +16,7 @@ use Rattle.pbx_link_definitions.specs.Places.{places_where, repeated}
 use Rattle.pbx_link_scope.specs.Pooled.{like_named}
 use Rattle.pbx_link_definitions.specs.Found.{IsIndex, is_earlier}
 use Rattle.pbx_link_rules_record.proofs.Among.{among_right, passing, none_pass, again, none_again}
-use Rattle.pbx_link_rules_record.proofs.Seen.{swap_or}
+use Rattle.pbx_link_definitions.proofs.Seen.{swap}
 use Rattle.pbx_link_rules.specs.Rules.{taken_names, definitions_twice}
 
 -- ---- names that are walked
@@ -41,7 +41,7 @@ module _ (names : List (List ℕ)) (i : ℕ) (name : List ℕ) (within : i < len
     (has : List ℕ → Bool) (seen : HasSeen names i has) where
   pub seen_more : (after : List ℕ → Bool) → ((q : List ℕ) → after q ≡ (bytes_eq q name || has q)) → HasSeen names (i + 1) after
   seen_more after more q =
-      more q ∙ ap (λ (b : Bool). bytes_eq q name || b) (seen q) ∙ swap_or (bytes_eq q name) (list_any (bytes_eq q) (take i names))
+      more q ∙ ap (λ (b : Bool). bytes_eq q name || b) (seen q) ∙ swap (bytes_eq q name) (list_any (bytes_eq q) (take i names))
       ∙ ap (λ (n : List ℕ). list_any (bytes_eq q) (take i names) || bytes_eq q n) is ∙ sym (list_any_more (bytes_eq q) names i name within)
 
   module _ (added : Bool) (new : added ≡ not (has name)) where

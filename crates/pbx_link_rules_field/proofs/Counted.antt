@@ -18,7 +18,7 @@ use Rattle.pbx_link_definitions.specs.Places.{IsAmong}
 use Rattle.pbx_link_rules_field.specs.Rules.{members, has_oneof, is_alone, bad_member, bad_members_in, empty_oneofs_in}
 use Rattle.pbx_link_definitions.specs.Found.{IsIndex}
 use Rattle.pbx_link_rules_field.specs.Members.{member_count, index_below, is_bad_at, is_bad_by, is_bad_member}
-use Rattle.pbx_link_rules_field.proofs.Indexes.{any_default, index_same, position_is_index, is_among}
+use Rattle.pbx_link_definitions.proofs.Indexes.{any_default, index_same, position_is_index, is_among}
 
 -- ---- indexes below a count
 

@@ -6,26 +6,16 @@ use Rattle.std.specs.List.{list_any}
 use Rattle.std.specs.Ordering.{int_cmp}
 use Rattle.std.specs.BTreeMap.{is_at}
 use Rattle.std.specs.BTreeSet.{insert_key}
-use Rattle.std.proofs.lemmas.Int.{ints}
 use Rattle.std.proofs.lemmas.List.Folds.{list_any_more}
 use Rattle.pbx_desc_records.specs.declared.field.FieldDescriptorProto.{FieldDescriptorProto}
 use Rattle.pbx_link_definitions.specs.Says.{are_equal}
 use Rattle.pbx_link_definitions.specs.Found.{is_earlier}
-use Rattle.pbx_link_rules_field.proofs.Seen.{swap, was_there, was_new, contains_is, has_inserted}
-use Rattle.pbx_link_rules_field.proofs.Indexes.{or_none, any_default}
-
-abbrev pub equal : ℤ → ℤ → Bool
-equal a b = int_le a b && int_le b a
+use Rattle.pbx_link_definitions.proofs.Seen.{swap, was_there, was_new, contains_is, has_inserted, equal, tied, decides}
+use Rattle.pbx_link_definitions.proofs.Indexes.{or_none, any_default}
 
 -- both fields have one number
 abbrev pub like : FieldDescriptorProto → FieldDescriptorProto → Bool
 like x y = are_equal x.number y.number
-
-tied : (x y : ℤ) → is_eq (int_cmp x y) ≡ equal x y
-tied x y = grind (arith, ints)
-
-decides : (a b : ℤ) → Decides (equal a b) (a ≡ b)
-decides a b = (λ h. grind (arith, ints), λ e. grind (arith, ints))
 
 -- one of the fields has the number
 abbrev pub has_number : List FieldDescriptorProto → ℤ → Bool

@@ -14,7 +14,7 @@ use Rattle.pbx_link_definitions.specs.Places.{places_where, repeated, IsAmong}
 use Rattle.pbx_link_definitions.specs.Found.{IsIndex, is_earlier}
 use Rattle.pbx_link_rules_field.specs.Rules.{unfit_numbers, repeated_numbers, reserved_names, bad_numbers_in, has_bad_type, bad_types_among, bad_types_in}
 use Rattle.pbx_link_rules_field.specs.Rules.{bad_types, is_bad_label, bad_labels_among, bad_labels_in, bad_labels}
-use Rattle.pbx_link_rules_field.proofs.Indexes.{position_is_index, is_among, again_is_among, at_head}
+use Rattle.pbx_link_definitions.proofs.Indexes.{position_is_index, is_among, again_is_among, at_head}
 
 -- ---- fields of a message
 
@@ -130,14 +130,6 @@ places_both P place f xs ys = places_append P place (flat_map f xs) ys
     ∙ ap (λ (ps : List Place). ps ++ places_where P place ys) (places_flat P place f xs)
 
 -- ---- the parts of a list of places
-
--- found at an index, or at none
-pub place_here : (all : List Place) (there : ℕ → Place) (o : Option ℕ) → IsAmong all (option_map there o) → (i : ℕ) → o ≡ Some i → (p : Place)
-    → p ≡ there i → Contains all p
-place_here all there o h i e p q = subst (λ (r : Place). Contains all r) (sym q) (subst (λ (r : Option ℕ). IsAmong all (option_map there r)) e h)
-
-pub place_none : (all : List Place) (there : ℕ → Place) (o : Option ℕ) → IsAmong all (option_map there o) → o ≡ None → all ≡ []
-place_none all there o h e = subst (λ (r : Option ℕ). IsAmong all (option_map there r)) e h
 
 -- found in the first part
 pub in_first_part : (all ps qs : List Place) (o : Option Place) (p : Place) → all ≡ ps ++ qs → IsAmong ps o → o ≡ Some p → Contains all p

@@ -1,3 +1,2 @@
 pub mod Rules
 pub mod Members
-pub mod Spans

@@ -11,19 +11,13 @@ use Rattle.pbx_link_definitions.specs.Names.{text_or_empty, among}
 use Rattle.pbx_link_definitions.specs.Says.{is_number, is_proto3, is_set, is_optional, are_equal}
 use Rattle.pbx_link_definitions.specs.Definitions.{Place, Part, at, fields_in, oneofs_in, messages, fields, extensions}
 use Rattle.pbx_link_definitions.specs.Places.{places_where, repeated}
-use Rattle.pbx_link_definitions.specs.Ranges.{all_ranges, in_ranges}
+use Rattle.pbx_link_definitions.specs.Ranges.{is_field_number, all_ranges, in_ranges}
 
 -- every field and every extension
 abbrev pub all_fields : FileDescriptorProto → List (Part FieldDescriptorProto)
 all_fields f = fields f ++ extensions f
 
 -- ---- numbers of fields and reserved names (language guide: "Assigning Field Numbers", "Reserved Fields")
-
--- 1 to 536,870,911 without 19,000 to 19,999
-abbrev pub is_field_number : Option ℤ → Bool
-is_field_number None = false
-is_field_number (Some (pos n)) = nat_lt 0 n && nat_lt n 536870912 && not (nat_le 19000 n && nat_le n 19999)
-is_field_number (Some (negsuc n)) = false
 
 -- no number of a field, or one that the message leaves to extensions or reserves
 abbrev pub is_bad_number : DescriptorProto → Option ℤ → Bool

@@ -5,11 +5,9 @@ mod labels;
 mod numbers;
 mod oneofs;
 mod places;
-mod ranges;
 mod types;
 
 pub use labels::bad_labels;
-pub use numbers::{bad_field_numbers, is_field_number};
+pub use numbers::bad_field_numbers;
 pub use oneofs::bad_oneofs;
-pub use ranges::NumberRanges;
 pub use types::bad_types;

@@ -6,28 +6,19 @@ ghost use Rattle.pbx_desc_records.specs.declared.message.DescriptorProto.{out-De
 ghost use Rattle.pbx_link_definitions.specs.Names.{among, text_or_empty as text_or_empty_of};
 ghost use Rattle.pbx_link_definitions.specs.Says.{own_fields, are_equal};
 ghost use Rattle.pbx_link_definitions.specs.Places.{IsAmong};
-ghost use Rattle.pbx_link_definitions.specs.Ranges.{in_ranges};
-ghost use Rattle.pbx_link_rules_field.specs.Rules.{is_field_number as is_field_number_of, is_bad_number, has_reserved_name};
+ghost use Rattle.pbx_link_definitions.specs.Ranges.{in_ranges, is_field_number as is_field_number_of};
+ghost use Rattle.pbx_link_rules_field.specs.Rules.{is_bad_number, has_reserved_name};
 ghost use Rattle.pbx_link_rules_field.specs.Rules.{bad_numbers_in as bad_numbers_in_of, bad_field_numbers as bad_field_numbers_of};
 ghost use Rattle.pbx_link_definitions.specs.Found.{IsIndex, is_earlier};
 
 use crate::places::Place;
-use crate::ranges::NumberRanges;
 use pbx_desc_records::{DescriptorProto, FieldDescriptorProto};
-use pbx_link_definitions::{FileParts, Part, place_in_item, text_or_empty};
+use pbx_link_definitions::{
+    FileParts, NumberRanges, Part, is_field_number, place_in_item, text_or_empty,
+};
 use pbx_wire::NoMemory;
 use std::alloc::Global;
 use std::collections::BTreeSet;
-
-/// Whether a field may have the number: 1 to 536,870,911 without 19,000 to 19,999.
-pub fn is_field_number(number: Option<i32>) -> bool
-    ensures { result ≡ is_field_number_of number }
-{
-    match number {
-        Some(number) => 0 < number && number < 536870912 && !(19000 <= number && number <= 19999),
-        None => false,
-    }
-}
 
 /// The first field whose number is none of a field or is in one of the ranges.
 fn bad_number_by(ranges: &NumberRanges, fields: &[FieldDescriptorProto]) -> Option<usize>

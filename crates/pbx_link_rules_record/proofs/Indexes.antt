@@ -16,58 +16,10 @@ use Rattle.pbx_link_definitions.specs.Found.{IsIndex, is_earlier}
 use Rattle.pbx_link_rules_record.specs.Sets.{has_key, have_number, lacks_or_has}
 use Rattle.pbx_link_rules_record.specs.EnumRules.{is_at_most, is_reserved_value}
 use Rattle.pbx_link_rules_record.specs.RangeRules.{enum_range}
+use Rattle.pbx_link_definitions.proofs.Seen.{was_there, was_new}
 use Rattle.pbx_link_rules_record.proofs.Seen.{HasSeen, seen_is}
 
--- ---- what `position` says
-
-module _ {X : Type 0} (p : X → Bool) where
-  before_first : (xs : List X) → length xs ≤ position_or_len p xs → (k : ℕ) (d : X) → k < length xs → p (get_or xs k d) ≡ false
-  before_first [] h k d lt = absurd (omega arith)
-  before_first (x ∷ xs) h k d lt = at (p x) refl h k lt (before_first xs)
-    where
-      at : (b : Bool) → p x ≡ b → length (x ∷ xs) ≤ cond (not b) (1 + position_or_len p xs) 0 → (j : ℕ) → j < length (x ∷ xs)
-          → (length xs ≤ position_or_len p xs → (i : ℕ) (e : X) → i < length xs → p (get_or xs i e) ≡ false) → p (get_or (x ∷ xs) j d) ≡ false
-      at true e g j l ih = absurd (omega arith)
-      at false e g zero l ih = e
-      at false e g (suc j) l ih = ih (omega arith) j d (omega arith)
-
-  pub position_is : (xs : List X) (o : Option ℕ) → o ≡ position p xs → IsIndex (λ i. p) xs o
-  position_is xs (Some i) e = (below (nat_lt (position_or_len p xs) (length xs)) refl e, λ d. (position-Some p xs i d (sym e)).1)
-    where
-      below : (b : Bool) → nat_lt (position_or_len p xs) (length xs) ≡ b → Some i ≡ cond b (Some (position_or_len p xs)) None → i < length xs
-      below true q g =
-          let same : i ≡ position_or_len p xs = cc in
-          let lt : position_or_len p xs < length xs = grind (arith, nat_tests, q) in
-          omega arith
-      below false q g = absurd (cc)
-  position_is xs None e = at (nat_lt (position_or_len p xs) (length xs)) refl e
-    where
-      at : (b : Bool) → nat_lt (position_or_len p xs) (length xs) ≡ b → None ≡ cond b (Some (position_or_len p xs)) None → (k : ℕ) (d : X) → k < length xs → p (get_or xs k d) ≡ false
-      at true q g = absurd (cc)
-      at false q g = before_first xs (grind (arith, nat_tests, q))
-
--- ---- tests that are alike, or one of two
-
-pub index_same : {X : Type 0} (P Q : ℕ → X → Bool) (xs : List X) (o : Option ℕ) → ((i : ℕ) (x : X) → P i x ≡ Q i x) → IsIndex P xs o → IsIndex Q xs o
-index_same P Q xs None same h = λ k d lt. sym (same k (get_or xs k d)) ∙ h k d lt
-index_same P Q xs (Some i) same h = (h.0, λ d. sym (same i (get_or xs i d)) ∙ h.1 d)
-
-pub or_first : {X : Type 0} (P Q : ℕ → X → Bool) (xs : List X) (i : ℕ) → IsIndex P xs (Some i) → IsIndex (λ k x. P k x || Q k x) xs (Some i)
-or_first P Q xs i h = (h.0, λ d. ap (λ b. b || Q i (get_or xs i d)) (h.1 d))
-
-pub or_second : {X : Type 0} (P Q : ℕ → X → Bool) (xs : List X) (o : Option ℕ) → IsIndex P xs None → IsIndex Q xs o → IsIndex (λ k x. P k x || Q k x) xs o
-or_second P Q xs None p q = λ k d lt. ap (λ b. b || Q k (get_or xs k d)) (p k d lt) ∙ q k d lt
-or_second P Q xs (Some i) p q = (q.0, λ d. ap (λ b. b || Q i (get_or xs i d)) (p i d q.0) ∙ q.1 d)
-
 -- ---- numbers that were seen
-
-was_there : (added there : Bool) → added ≡ not there → added ≡ false → there ≡ true
-was_there added true e h = refl
-was_there added false e h = absurd (cc)
-
-was_new : (added there : Bool) → added ≡ not there → added ≡ true → there ≡ false
-was_new added false e h = refl
-was_new added true e h = absurd (cc)
 
 module _ {X : Type 0} (number : X → Option ℤ) (xs : List X) (i : ℕ) (x : X) (ks : List ℤ) (added : Bool) (lt : i < length xs) (is : x ≡ get_or xs i x) (seen : HasSeen number xs i ks) (new : added ≡ not (has_key ks (number x))) where
   there : (d : X) → get_or xs i d ≡ x

@@ -17,7 +17,7 @@ use Rattle.pbx_link_definitions.specs.Found.{IsIndex, is_earlier}
 use Rattle.pbx_link_rules_record.specs.EnumRules.{is_bad_value, like_valued, aliases, bad_first, bad_enum, breaks_value}
 use Rattle.pbx_link_rules_record.specs.EntryRules.{is_empty}
 use Rattle.pbx_link_rules_record.specs.RangeRules.{is_bad_range, bad_message_ranges, extension_range_parts, share_number, bad_ranges_of, message_ranges}
-use Rattle.pbx_link_rules_record.proofs.Indexes.{position_is}
+use Rattle.pbx_link_definitions.proofs.Indexes.{position_is_index}
 use Rattle.pbx_link_rules_record.proofs.Among.{among_right, passing, none_pass, again, none_again, items_are, place_at_index}
 
 module _ {X : Type 0} (scope : List ℕ) (place : Place) (n : ℕ) (xs : List X) where
@@ -186,19 +186,19 @@ IsNotFound test xs = None ≡ position test xs
 
 module _ {X : Type 0} (scope : List ℕ) (place : Place) (n : ℕ) (xs : List X) (test : X → Bool) where
   pub where_found_in : (i : ℕ) → IsFound test xs i → Contains (places_where (λ p. test p.item) (λ p. p.place) (parts scope place n xs)) (place ++ pos n ∷ pos i ∷ [])
-  where_found_in i e = by_item xs refl (position_is test xs (Some i) e)
+  where_found_in i e = by_item xs refl (position_is_index test xs (Some i) e)
     where
       by_item : (ys : List X) → xs ≡ ys → IsIndex (λ k. test) xs (Some i) → Contains (places_where (λ p. test p.item) (λ p. p.place) (parts scope place n xs)) (place ++ pos n ∷ pos i ∷ [])
       by_item [] same h = absurd (let lt = subst (λ (l : List X). i < length l) same h.0 in omega (arith, lt))
       by_item (y ∷ ys) same h = where_of_parts scope place n xs test i y h.0 h.1
 
   pub where_not_in : IsNotFound test xs → places_where (λ p. test p.item) (λ p. p.place) (parts scope place n xs) ≡ []
-  where_not_in e = none_of_parts scope place n xs test (position_is test xs None e)
+  where_not_in e = none_of_parts scope place n xs test (position_is_index test xs None e)
 
 -- the field k of an item that passes a test
 module _ {X : Type 0} (scope : List ℕ) (place : Place) (n : ℕ) (xs : List X) (test : X → Bool) (k : ℕ) where
   pub field_found_in : (i : ℕ) → IsFound test xs i → Contains (places_where (λ p. test p.item) (λ p. p.place ++ pos k ∷ []) (parts scope place n xs)) ((place ++ pos n ∷ pos i ∷ []) ++ pos k ∷ [])
-  field_found_in i e = by_item xs refl (position_is test xs (Some i) e)
+  field_found_in i e = by_item xs refl (position_is_index test xs (Some i) e)
     where
       by_item : (ys : List X) → xs ≡ ys → IsIndex (λ j. test) xs (Some i) → Contains (places_where (λ p. test p.item) (λ p. p.place ++ pos k ∷ []) (parts scope place n xs)) ((place ++ pos n ∷ pos i ∷ []) ++ pos k ∷ [])
       by_item [] same h = absurd (let lt = subst (λ (l : List X). i < length l) same h.0 in omega (arith, lt))
@@ -211,7 +211,7 @@ module _ {X : Type 0} (scope : List ℕ) (place : Place) (n : ℕ) (xs : List X)
   pub field_not_in : IsNotFound test xs → places_where (λ p. test p.item) (λ p. p.place ++ pos k ∷ []) (parts scope place n xs) ≡ []
   field_not_in e =
       none_pass (λ (p : Part X). p.item) (λ (p : Part X). p.place ++ pos k ∷ []) (parts scope place n xs) test
-      (subst (λ (zs : List X). (i : ℕ) (d : X) → i < length zs → test (get_or zs i d) ≡ false) (sym (items_are scope place n xs)) (position_is test xs None e))
+      (subst (λ (zs : List X). (i : ℕ) (d : X) → i < length zs → test (get_or zs i d) ≡ false) (sym (items_are scope place n xs)) (position_is_index test xs None e))
 
 -- ---- the ranges of a message, behind one another
 

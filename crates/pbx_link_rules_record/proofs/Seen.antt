@@ -11,78 +11,16 @@ use Rattle.std.proofs.lemmas.List.Folds.{list_any_more}
 use Rattle.std.proofs.lemmas.Slice.Eq.{bytes_eq-Decides}
 use Rattle.pbx_link_definitions.specs.Names.{among}
 use Rattle.pbx_link_definitions.specs.Says.{are_equal}
+use Rattle.pbx_link_definitions.proofs.Seen.{swap, either_way, contains_is, has_inserted, equal, tied, decides}
 use Rattle.pbx_link_rules_record.specs.Sets.{has_key}
-
-twice : (a b : Bool) → (a || b) ≡ (a || (a || b))
-twice true b = refl
-twice false b = refl
-
-turn : (a b c : Bool) → (a || (b || c)) ≡ (b || (a || c))
-turn true true c = refl
-turn true false c = refl
-turn false true c = refl
-turn false false c = refl
-
-pub swap_or : (a b : Bool) → (a || b) ≡ (b || a)
-swap_or true true = refl
-swap_or true false = refl
-swap_or false true = refl
-swap_or false false = refl
-
--- a set of what has keys, and a test of keys that the order agrees with
-module _ {K N : Type 0} (cmp : K → K → Ordering) (key : K → N) (eq : N → N → Bool)
-    (tied : (x y : K) → is_eq (cmp x y) ≡ eq (key x) (key y)) (decides : (a b : N) → Decides (eq a b) (a ≡ b)) where
-  -- whether one of the set's keys is this
-  abbrev pub has : List K → N → Bool
-  has ks q = list_any (λ k. eq q (key k)) ks
-
-  pub either_way : (a b : N) → eq a b ≡ eq b a
-  either_way a b = at (eq a b) (eq b a) refl refl
-    where
-      at : (s t : Bool) → eq a b ≡ s → eq b a ≡ t → s ≡ t
-      at true true p q = refl
-      at false false p q = refl
-      at true false p q = absurd (let yes = (decides b a).1 (sym ((decides a b).0 p)) in cc)
-      at false true p q = absurd (let yes = (decides a b).1 (sym ((decides b a).0 q)) in cc)
-
-  pub contains_is : (k : K) (ks : List K) → list_any (is_at (cmp k)) ks ≡ has ks (key k)
-  contains_is k [] = refl
-  contains_is k (x ∷ ks) = rw (tied k x, contains_is k ks) refl
-
-  same : (x y : K) → cmp x y ≡ Equal → key x ≡ key y
-  same x y e = (decides (key x) (key y)).0 (sym (tied x y) ∙ ap is_eq e)
-
-  pub has_inserted : (q : N) (k : K) (ks : List K) → has (insert_key cmp ks k) q ≡ (eq q (key k) || has ks q)
-  has_inserted q k [] = refl
-  has_inserted q k (x ∷ ks) = at (cmp k x) refl (has_inserted q k ks)
-    where
-      at : (o : Ordering) → cmp k x ≡ o → has (insert_key cmp ks k) q ≡ (eq q (key k) || has ks q)
-          → has (match_ordering o (k ∷ x ∷ ks) (x ∷ ks) (x ∷ insert_key cmp ks k)) q ≡ (eq q (key k) || (eq q (key x) || has ks q))
-      at Less e ih = refl
-      at Equal e ih = ap (λ n. eq q n || has ks q) (sym (same k x e)) ∙ twice (eq q (key k)) (has ks q) ∙ ap (λ n. eq q (key k) || (eq q n || has ks q)) (same k x e)
-      at Greater e ih = ap (λ b. eq q (key x) || b) ih ∙ turn (eq q (key x)) (eq q (key k)) (has ks q)
 
 -- ---- numbers
 
-abbrev equal : ℤ → ℤ → Bool
-equal a b = int_le a b && int_le b a
-
-tied_numbers : (x y : ℤ) → is_eq (int_cmp x y) ≡ (int_le x y && int_le y x)
-tied_numbers x y = at (int_cmp x y) (int_ranked x y (int_cmp x y) refl)
-  where
-    at : (o : Ordering) → MatchOrdering o (x <ℤ y) (x ≡ y) (y <ℤ x) → is_eq o ≡ (int_le x y && int_le y x)
-    at Less h = grind (arith, ints)
-    at Equal h = grind (arith, ints)
-    at Greater h = grind (arith, ints)
-
-equal_decides : (a b : ℤ) → Decides (equal a b) (a ≡ b)
-equal_decides a b = (λ h. grind (arith, ints), λ e. grind (arith, ints))
-
 pub number_new : (k : ℤ) (ks : List ℤ) (added : Bool) → added ≡ not (list_any (is_at (int_cmp k)) ks) → added ≡ not (has_key ks (Some k))
-number_new k ks added e = e ∙ ap not (contains_is int_cmp (λ z. z) equal tied_numbers equal_decides k ks)
+number_new k ks added e = e ∙ ap not (contains_is int_cmp (λ z. z) equal tied decides k ks)
 
 pub number_seen : (q k : ℤ) (ks after : List ℤ) → after ≡ insert_key int_cmp ks k → has_key after (Some q) ≡ (are_equal (Some q) (Some k) || has_key ks (Some q))
-number_seen q k ks after e = ap (λ (l : List ℤ). has_key l (Some q)) e ∙ has_inserted int_cmp (λ z. z) equal tied_numbers equal_decides q k ks
+number_seen q k ks after e = ap (λ (l : List ℤ). has_key l (Some q)) e ∙ has_inserted int_cmp (λ z. z) equal tied decides q k ks
 
 -- ---- items that are walked, by their numbers
 
@@ -93,7 +31,7 @@ HasSeen number xs i ks = (q : ℤ) → has_key ks (Some q) ≡ list_any (λ x. a
 pub seen_more : {X : Type 0} (number : X → Option ℤ) (xs : List X) (i : ℕ) (x : X) (ks after : List ℤ) → i < length xs → x ≡ get_or xs i x → HasSeen number xs i ks
     → ((q : ℤ) → has_key after (Some q) ≡ (are_equal (Some q) (number x) || has_key ks (Some q))) → HasSeen number xs (i + 1) after
 seen_more {X} number xs i x ks after lt is seen one q =
-    one q ∙ ap (λ (b : Bool). are_equal (Some q) (number x) || b) (seen q) ∙ swap_or (are_equal (Some q) (number x)) (list_any (λ y. are_equal (Some q) (number y)) (take i xs))
+    one q ∙ ap (λ (b : Bool). are_equal (Some q) (number x) || b) (seen q) ∙ swap (are_equal (Some q) (number x)) (list_any (λ y. are_equal (Some q) (number y)) (take i xs))
     ∙ ap (λ (y : X). list_any (λ z. are_equal (Some q) (number z)) (take i xs) || are_equal (Some q) (number y)) is ∙ sym (list_any_more (λ y. are_equal (Some q) (number y)) xs i x lt)
 
 pub seen_is : {X : Type 0} (number : X → Option ℤ) (xs : List X) (i : ℕ) (ks : List ℤ) (n : Option ℤ) → HasSeen number xs i ks → has_key ks n ≡ list_any (λ x. are_equal n (number x)) (take i xs)
@@ -118,9 +56,9 @@ names_more {K} cmp key tied names i name k ks after q lt is same added so_far =
     ap (λ (l : List K). list_any (λ x. bytes_eq q (key x)) l) added
     ∙ has_inserted cmp key bytes_eq tied bytes_eq-Decides q k ks
     ∙ ap (λ (n : List ℕ). bytes_eq q n || list_any (λ x. bytes_eq q (key x)) ks) same
-    ∙ ap (λ (b : Bool). b || list_any (λ x. bytes_eq q (key x)) ks) (either_way cmp key bytes_eq tied bytes_eq-Decides q name)
+    ∙ ap (λ (b : Bool). b || list_any (λ x. bytes_eq q (key x)) ks) (either_way bytes_eq bytes_eq-Decides q name)
     ∙ ap (λ (b : Bool). bytes_eq name q || b) so_far
-    ∙ swap_or (bytes_eq name q) (among (take i names) q)
+    ∙ swap (bytes_eq name q) (among (take i names) q)
     ∙ ap (λ (n : List ℕ). among (take i names) q || bytes_eq n q) is
     ∙ sym (list_any_more (λ other. bytes_eq other q) names i name lt)
 

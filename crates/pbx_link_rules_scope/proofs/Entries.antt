@@ -17,9 +17,8 @@ use Rattle.pbx_link_definitions.specs.Definitions.{Place, Part, message_name}
 use Rattle.pbx_link_definitions.specs.Places.{IsAmong}
 use Rattle.pbx_link_definitions.specs.Says.{own_name, own_fields, is_entry, is_repeated}
 use Rattle.pbx_link_definitions.specs.Found.{IsIndex}
-use Rattle.pbx_link_rules_field.proofs.Indexes.{any_default, at_head, is_among}
-use Rattle.pbx_link_rules_field.proofs.Placed.{place_here, place_none}
-use Rattle.pbx_link_rules_field.proofs.Seen.{was_there, was_new, either_way, swap}
+use Rattle.pbx_link_definitions.proofs.Indexes.{any_default, at_head, is_among, place_here, place_none}
+use Rattle.pbx_link_definitions.proofs.Seen.{was_there, was_new, either_way, swap}
 use Rattle.pbx_link_scope.specs.declared.types.Bound.{Bound}
 use Rattle.pbx_link_scope.specs.declared.types.Bound.TheVariants.{Message as to_message, Enum as to_enum}
 use Rattle.pbx_link_scope.specs.Scope.{bound_name, types, type_named, is_scope_name, first_type, type_in_first, type_from, bound, bound_if}

@@ -19,12 +19,10 @@ use Rattle.pbx_desc_records.specs.declared.message.DescriptorProto.{DescriptorPr
 use Rattle.pbx_link_definitions.specs.Definitions.{Place, Part, at}
 use Rattle.pbx_link_definitions.specs.Names.{is_named}
 use Rattle.pbx_link_definitions.specs.Places.{repeated}
-use Rattle.pbx_link_definitions.specs.Ranges.{Range, in_ranges, extension_ranges}
+use Rattle.pbx_link_definitions.specs.Ranges.{Range, in_ranges, extension_ranges, is_field_number}
 use Rattle.pbx_link_definitions.specs.Says.{are_equal}
-use Rattle.pbx_link_rules_field.specs.Rules.{is_field_number}
-use Rattle.pbx_link_rules_field.proofs.Indexes.{or_none, any_default, at_head, in_tail}
-use Rattle.pbx_link_rules_field.proofs.Numbered.{equal}
-use Rattle.pbx_link_rules_field.proofs.Seen.{was_there, was_new, either_way, swap, contains_is, has_inserted}
+use Rattle.pbx_link_definitions.proofs.Indexes.{or_none, any_default, at_head, in_tail}
+use Rattle.pbx_link_definitions.proofs.Seen.{was_there, was_new, either_way, swap, contains_is, has_inserted, equal}
 use Rattle.pbx_link_scope.specs.declared.types.Bound.{Bound}
 use Rattle.pbx_link_scope.specs.declared.types.Bound.TheVariants.{Message as to_message}
 use Rattle.pbx_link_scope.specs.Scope.{bound_name, bound_if, type_named}

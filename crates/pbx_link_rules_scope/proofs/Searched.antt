@@ -13,8 +13,7 @@ use Rattle.pbx_desc_records.specs.declared.service.ServiceDescriptorProto.{Servi
 use Rattle.pbx_link_definitions.specs.Definitions.{Place, Part, at, part, parts, fields_in, methods_in}
 use Rattle.pbx_link_definitions.specs.Places.{IsAmong}
 use Rattle.pbx_link_definitions.specs.Found.{IsIndex}
-use Rattle.pbx_link_rules_field.proofs.Indexes.{any_default, at_head, is_among}
-use Rattle.pbx_link_rules_field.proofs.Placed.{place_here, place_none}
+use Rattle.pbx_link_definitions.proofs.Indexes.{any_default, at_head, is_among, place_here, place_none}
 use Rattle.pbx_link_rules_scope.specs.Rules.{places_by}
 
 -- ---- an item of a list

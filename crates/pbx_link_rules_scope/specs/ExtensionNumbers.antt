@@ -5,9 +5,8 @@ use Rattle.pbx_desc_records.specs.declared.field.FieldDescriptorProto.{FieldDesc
 use Rattle.pbx_desc_records.specs.declared.file.FileDescriptorProto.{FileDescriptorProto}
 use Rattle.pbx_link_definitions.specs.Definitions.{Place, Part, at, message_name, extensions}
 use Rattle.pbx_link_definitions.specs.Places.{repeated}
-use Rattle.pbx_link_definitions.specs.Ranges.{in_ranges, extension_ranges}
+use Rattle.pbx_link_definitions.specs.Ranges.{in_ranges, extension_ranges, is_field_number}
 use Rattle.pbx_link_definitions.specs.Says.{are_equal}
-use Rattle.pbx_link_rules_field.specs.Rules.{is_field_number}
 use Rattle.pbx_link_scope.specs.declared.types.Bound.{Bound}
 use Rattle.pbx_link_scope.specs.declared.types.Bound.TheVariants.{Message as to_message, Enum as to_enum}
 use Rattle.pbx_link_scope.specs.Scope.{bound_if, extendee_of}

@@ -11,8 +11,9 @@ ghost use Rattle.pbx_link_rules_scope.specs.Rules.{places_by};
 
 use crate::searches::{Place, Rule, broken_extension};
 use pbx_desc_records::{DescriptorProto, FieldDescriptorProto};
-use pbx_link_definitions::{FileParts, Part, PartRef, name_in, text_or_empty};
-use pbx_link_rules_field::{NumberRanges, is_field_number};
+use pbx_link_definitions::{
+    FileParts, NumberRanges, Part, PartRef, is_field_number, name_in, text_or_empty,
+};
 use pbx_link_scope::{Bound, Pooled, Visible, extendee_of};
 use pbx_wire::{NoMemory, Text};
 use std::alloc::Global;

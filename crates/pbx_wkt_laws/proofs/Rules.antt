@@ -21,14 +21,14 @@ use Rattle.pbx_link_definitions.specs.Definitions.{Place, Part, Defined, at, par
 use Rattle.pbx_link_definitions.specs.Definitions.{extensions, definitions, fields_in, values_in}
 use Rattle.pbx_link_definitions.specs.Names.{among, qualified, text_or_empty}
 use Rattle.pbx_link_definitions.specs.Places.{places_where, place_if, repeated}
-use Rattle.pbx_link_definitions.specs.Ranges.{Range, in_ranges}
+use Rattle.pbx_link_definitions.specs.Ranges.{Range, in_ranges, is_field_number}
 use Rattle.pbx_link_definitions.specs.Says.{is_proto3, is_set, is_number, is_optional, is_repeated, is_entry, option_bool, has_option, signed_or_zero}
 use Rattle.pbx_link_definitions.specs.Says.{are_equal, is_uninterpreted, has_record}
 use Rattle.pbx_link_scope.specs.declared.types.Bound.{Bound}
 use Rattle.pbx_link_scope.specs.Scope.{packages, visible}
 use Rattle.pbx_link_scope.specs.Pooled.{like_named, all_packages}
 use Rattle.pbx_link_rules_field.specs.Rules.{bad_field_numbers, bad_types, bad_oneofs, bad_labels, bad_types_among, bad_labels_among, bad_numbers_in}
-use Rattle.pbx_link_rules_field.specs.Rules.{is_field_number, like_numbered, is_below, has_oneof, bad_member, bad_oneofs_in, is_bad_extension}
+use Rattle.pbx_link_rules_field.specs.Rules.{like_numbered, is_below, has_oneof, bad_member, bad_oneofs_in, is_bad_extension}
 use Rattle.pbx_link_rules_record.specs.FileRules.{unknown_syntax, bad_names, is_bad_name, is_bad_package}
 use Rattle.pbx_link_rules_record.specs.EnumRules.{bad_enums, bad_enum}
 use Rattle.pbx_link_rules_record.specs.EntryRules.{is_empty, bad_entries, is_bad_entry, are_entry_fields}

@@ -5,7 +5,7 @@ use Rattle.std.specs.BTreeSet.{insert_key}
 use Rattle.std.specs.Cmp.Lexicographic.{slice_cmp}
 use Rattle.std.proofs.lemmas.Map.Text.{is_eq-slice_cmp}
 use Rattle.std.proofs.lemmas.Slice.Eq.{bytes_eq-Decides}
-use Rattle.pbx_link_rules_record.proofs.Seen.{contains_is, has_inserted}
+use Rattle.pbx_link_definitions.proofs.Seen.{contains_is, has_inserted}
 use Rattle.pbx_link_rules.proofs.Twice.{again_here, none_more, seen_more}
 use Rattle.pbx_link_rules.proofs.names.repeated_name.Goals as goal
 

@@ -2,7 +2,7 @@ use Rattle.std.proofs.Common.{◌∙◌, bytes_eq, nat_cmp}
 use Rattle.std.specs.Cmp.Lexicographic.{slice_cmp}
 use Rattle.std.proofs.lemmas.Map.Text.{is_eq-slice_cmp}
 use Rattle.std.proofs.lemmas.Slice.Eq.{bytes_eq-Decides}
-use Rattle.pbx_link_rules_field.proofs.Seen.{contains_is}
+use Rattle.pbx_link_definitions.proofs.Seen.{contains_is}
 use Rattle.pbx_link_rules_field.proofs.numbers.holds_name.Goals as goal
 
 pub returns : goal.returns

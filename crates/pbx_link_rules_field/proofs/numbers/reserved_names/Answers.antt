@@ -5,7 +5,7 @@ use Rattle.std.proofs.lemmas.List.Folds.{list_any_more}
 use Rattle.std.proofs.lemmas.Map.Text.{is_eq-slice_cmp}
 use Rattle.std.proofs.lemmas.Slice.Eq.{bytes_eq-Decides}
 use Rattle.pbx_link_definitions.specs.Names.{among}
-use Rattle.pbx_link_rules_field.proofs.Seen.{swap, has_inserted, either_way}
+use Rattle.pbx_link_definitions.proofs.Seen.{swap, has_inserted, either_way}
 use Rattle.pbx_link_rules_field.proofs.numbers.reserved_names.Goals as goal
 
 pub loop-name-preserved : goal.loop-name-preserved

@@ -8,7 +8,8 @@ use Rattle.pbx_link_definitions.specs.Definitions.{Place}
 use Rattle.pbx_link_rules_field.specs.Rules.{bad_members_in, empty_oneofs_in}
 use Rattle.pbx_link_rules_field.specs.Members.{member_count, is_bad_member}
 use Rattle.pbx_link_rules_field.proofs.Counted.{Counts, bad_member_among, empty_among}
-use Rattle.pbx_link_rules_field.proofs.Placed.{place_here, place_none, in_second, none_of_both}
+use Rattle.pbx_link_definitions.proofs.Indexes.{place_here, place_none}
+use Rattle.pbx_link_rules_field.proofs.Placed.{in_second, none_of_both}
 use Rattle.pbx_link_rules_field.proofs.oneofs.bad_oneofs_in.Goals as goal
 
 pub returns-in-Some : goal.returns-in-Some

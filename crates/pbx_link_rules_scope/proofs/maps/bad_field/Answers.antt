@@ -4,7 +4,7 @@ use Rattle.std.specs.Cmp.Lexicographic.{slice_cmp}
 use Rattle.std.proofs.lemmas.Map.Text.{is_eq-slice_cmp}
 use Rattle.std.proofs.lemmas.Slice.Eq.{bytes_eq-Decides}
 use Rattle.pbx_link_definitions.specs.Says.{own_name, is_repeated}
-use Rattle.pbx_link_rules_field.proofs.Seen.{contains_is, has_inserted}
+use Rattle.pbx_link_definitions.proofs.Seen.{contains_is, has_inserted}
 use Rattle.pbx_link_rules_scope.proofs.Entries.{other_fits, other_named, shared_here, entry_fits, entry_named, none_bad}
 use Rattle.pbx_link_rules_scope.proofs.maps.bad_field.Goals as goal
 use Rattle.pbx_link_rules_scope.proofs.maps.bad_field.Goals.{in-Some+else-not-is_repeated+else-ne+in_ok-insert+else-not-branch, in_default}

@@ -1,8 +1,8 @@
 use Rattle.std.proofs.Common.{◌≡◌, ◌++◌, ◌<◌, drop, get_or, pos, negsuc}
 use mir.Val.{SFits}
 use mir.Syntax.{w32}
-use Rattle.pbx_link_rules_field.proofs.Rising.{raised}
-use Rattle.pbx_link_rules_field.proofs.ranges.number_ranges.Given as goal
+use Rattle.pbx_link_definitions.proofs.Rising.{raised}
+use Rattle.pbx_link_definitions.proofs.ranges.number_ranges.Given as goal
 
 abbrev pub invariant-loop-span : goal.invariant-loop-span
 invariant-loop-span l = record {

@@ -6,8 +6,8 @@ use Rattle.std.proofs.lemmas.Int.{ints}
 use Rattle.std.proofs.lemmas.List.Folds.{list_any-append}
 use Rattle.pbx_link_definitions.specs.Says.{signed_or_zero}
 use Rattle.pbx_link_definitions.specs.Ranges.{Range, has_number, in_ranges}
-use Rattle.pbx_link_rules_field.specs.Spans.{span_range, span_of}
-use Rattle.pbx_link_rules_field.specs.declared.ranges.Span.{Span}
+use Rattle.pbx_link_definitions.specs.Spans.{span_range, span_of}
+use Rattle.pbx_link_definitions.specs.declared.ranges.Span.{Span}
 
 nothing_between : (a z : ℤ) → (int_le a z && int_lt z a) ≡ false
 nothing_between a z = grind (arith, ints)

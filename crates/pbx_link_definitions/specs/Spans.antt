@@ -3,7 +3,7 @@ use Rattle.std.specs.Prelude.{◌≡◌, ℕ, ◌<◌, ◌≤◌, ℤ, int_le, L
 use Rattle.std.specs.Option.{unwrap_or}
 use Rattle.pbx_link_definitions.specs.Says.{signed_or_zero}
 use Rattle.pbx_link_definitions.specs.Ranges.{Range}
-use Rattle.pbx_link_rules_field.specs.declared.ranges.Span.{Span}
+use Rattle.pbx_link_definitions.specs.declared.ranges.Span.{Span}
 
 -- the range of a span
 abbrev pub span_range : Span → Range

@@ -3,11 +3,11 @@ use Rattle.std.proofs.Common.{w32}
 use mir.Val.{SFits}
 use Rattle.std.proofs.lemmas.Int.{to_z-of_z}
 use Rattle.std.proofs.lemmas.Fn.{always_returns_same}
-use Rattle.pbx_link_rules_field.specs.declared.ranges.Span.{Span}
-use Rattle.pbx_link_rules_field.proofs.Rising.{raised, has, raised_more, raised_rise, starts_rise, raised_has, all_raised, none_under, first_fits, same_numbers}
-use Rattle.pbx_link_rules_field.specs.Spans.{Rise}
+use Rattle.pbx_link_definitions.specs.declared.ranges.Span.{Span}
+use Rattle.pbx_link_definitions.proofs.Rising.{raised, has, raised_more, raised_rise, starts_rise, raised_has, all_raised, none_under, first_fits, same_numbers}
+use Rattle.pbx_link_definitions.specs.Spans.{Rise}
 use Rattle.std.specs.List.{list_any}
-use Rattle.pbx_link_rules_field.proofs.ranges.number_ranges.Goals as goal
+use Rattle.pbx_link_definitions.proofs.ranges.number_ranges.Goals as goal
 
 pub loop-span-preserved : goal.loop-span-preserved
 loop-span-preserved c =

@@ -3,7 +3,7 @@ ghost use Rattle.std.specs.Prelude.{◌≡◌, ◌++◌, ℤ, Option as OptionOf
 ghost use Rattle.pbx_desc_records.specs.declared.message.ExtensionRange.{ExtensionRange as ExtensionRangeOf};
 ghost use Rattle.pbx_desc_records.specs.declared.message.ReservedRange.{ReservedRange as ReservedRangeOf};
 ghost use Rattle.pbx_link_definitions.specs.Ranges.{in_ranges, extension_ranges, all_ranges};
-ghost use Rattle.pbx_link_rules_field.specs.Spans.{span_range, span_of as span_of_range};
+ghost use Rattle.pbx_link_definitions.specs.Spans.{span_range, span_of as span_of_range};
 
 use pbx_desc_records::{DescriptorProto, ExtensionRange, ReservedRange};
 use pbx_wire::NoMemory;
@@ -30,7 +30,7 @@ impl Model for NumberRanges {
 
     ghost Value = { List Range };
 
-    ghost use Rattle.pbx_link_rules_field.specs.Spans.{span_range, Rise};
+    ghost use Rattle.pbx_link_definitions.specs.Spans.{span_range, Rise};
 
     ghost view = { λ a. map span_range a.spans.items };
 

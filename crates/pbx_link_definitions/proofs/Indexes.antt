@@ -55,6 +55,14 @@ pub index_same : {X : Type 0} (P Q : ℕ → X → Bool) (xs : List X) (o : Opti
 index_same P Q xs None same h = λ i d lt. sym (same i (get_or xs i d)) ∙ h i d lt
 index_same P Q xs (Some i) same h = (h.0, λ d. sym (same i (get_or xs i d)) ∙ h.1 d)
 
+-- an index of one of two tests
+pub or_first : {X : Type 0} (P Q : ℕ → X → Bool) (xs : List X) (i : ℕ) → IsIndex P xs (Some i) → IsIndex (λ k x. P k x || Q k x) xs (Some i)
+or_first P Q xs i h = (h.0, λ d. ap (λ b. b || Q i (get_or xs i d)) (h.1 d))
+
+pub or_second : {X : Type 0} (P Q : ℕ → X → Bool) (xs : List X) (o : Option ℕ) → IsIndex P xs None → IsIndex Q xs o → IsIndex (λ k x. P k x || Q k x) xs o
+or_second P Q xs None p q = λ k d lt. ap (λ b. b || Q k (get_or xs k d)) (p k d lt) ∙ q k d lt
+or_second P Q xs (Some i) p q = (q.0, λ d. ap (λ b. b || Q i (get_or xs i d)) (p i d q.0) ∙ q.1 d)
+
 -- ---- from indexes to places
 
 pub any_default : {X : Type 0} (xs : List X) (i : ℕ) (d e : X) → i < length xs → get_or xs i d ≡ get_or xs i e
@@ -102,6 +110,14 @@ module _ {X : Type 0} (scope : List ℕ) (above : Place) (n : ℕ) (P : Part X �
   is_among xs None h = none 0 xs (λ i j d e lt. ap (λ l. P (part scope above n l (get_or xs i d))) (omega arith) ∙ h i d lt)
   is_among [] (Some i) h = absurd (omega (arith, h.0))
   is_among (x ∷ xs) (Some i) h = here 0 i (x ∷ xs) i x (omega arith) h.0 (h.1 x)
+
+-- found at an index, or at none
+pub place_here : (all : List Place) (there : ℕ → Place) (o : Option ℕ) → IsAmong all (option_map there o) → (i : ℕ) → o ≡ Some i → (p : Place)
+    → p ≡ there i → Contains all p
+place_here all there o h i e p q = subst (λ (r : Place). Contains all r) (sym q) (subst (λ (r : Option ℕ). IsAmong all (option_map there r)) e h)
+
+pub place_none : (all : List Place) (there : ℕ → Place) (o : Option ℕ) → IsAmong all (option_map there o) → o ≡ None → all ≡ []
+place_none all there o h e = subst (λ (r : Option ℕ). IsAmong all (option_map there r)) e h
 
 -- ---- items that are like earlier ones
 

@@ -4,9 +4,9 @@ use Rattle.pbx_desc_records.specs.declared.message.DescriptorProto.{out-Descript
 use Rattle.pbx_desc_records.specs.declared.message.ExtensionRange.{ExtensionRange}
 use Rattle.pbx_desc_records.specs.declared.message.ReservedRange.{ReservedRange}
 use Rattle.pbx_link_definitions.specs.Ranges.{in_ranges, extension_ranges, reserved_ranges}
-use Rattle.pbx_link_rules_field.specs.Spans.{span_range, span_of}
-use Rattle.pbx_link_rules_field.proofs.Spanned.{spans_have, both_have}
-use Rattle.pbx_link_rules_field.proofs.ranges.NumberRanges.of_message.Goals as goal
+use Rattle.pbx_link_definitions.specs.Spans.{span_range, span_of}
+use Rattle.pbx_link_definitions.proofs.Spanned.{spans_have, both_have}
+use Rattle.pbx_link_definitions.proofs.ranges.NumberRanges.of_message.Goals as goal
 
 pub returns : goal.returns
 returns c =

@@ -1,9 +1,11 @@
 -- Keys of a sorted set.
-use Rattle.std.proofs.Common.{◌≡◌, ◌∙◌, Bool, true, false, not, ◌||◌, List, [], ◌∷◌, Ordering, Less, Equal, Greater, is_eq, refl, ap, sym, Decides}
+use Rattle.std.proofs.Common.{◌≡◌, ◌∙◌, Bool, true, false, not, ◌||◌, List, [], ◌∷◌, Ordering, Less, Equal, Greater, is_eq, refl, ap, sym, Decides, ◌&&◌, arith}
+use Rattle.std.specs.Prelude.{ℤ, int_le}
 use Rattle.std.specs.List.{list_any}
-use Rattle.std.specs.Ordering.{match_ordering}
+use Rattle.std.specs.Ordering.{match_ordering, int_cmp}
 use Rattle.std.specs.BTreeMap.{is_at}
 use Rattle.std.specs.BTreeSet.{insert_key}
+use Rattle.std.proofs.lemmas.Int.{ints}
 
 twice : (a b : Bool) → (a || b) ≡ (a || (a || b))
 twice true b = refl
@@ -63,3 +65,14 @@ module _ {K N : Type 0} (cmp : K → K → Ordering) (key : K → N) (eq : N →
       at Equal e ih = ap (λ n. eq q n || has ks q) (sym (same k x e)) ∙ twice (eq q (key k)) (has ks q)
           ∙ ap (λ n. eq q (key k) || (eq q n || has ks q)) (same k x e)
       at Greater e ih = ap (λ b. eq q (key x) || b) ih ∙ turn (eq q (key x)) (eq q (key k)) (has ks q)
+
+-- ---- numbers
+
+abbrev pub equal : ℤ → ℤ → Bool
+equal a b = int_le a b && int_le b a
+
+pub tied : (x y : ℤ) → is_eq (int_cmp x y) ≡ equal x y
+tied x y = grind (arith, ints)
+
+pub decides : (a b : ℤ) → Decides (equal a b) (a ≡ b)
+decides a b = (λ h. grind (arith, ints), λ e. grind (arith, ints))

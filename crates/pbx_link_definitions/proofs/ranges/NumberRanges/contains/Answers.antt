@@ -8,9 +8,9 @@ use Rattle.std.specs.List.Sorted.{IsPartitionPoint}
 use Rattle.std.proofs.lemmas.Int.{to_z-of_z}
 use Rattle.std.proofs.lemmas.Fn.{always_returns_same}
 use Rattle.pbx_link_definitions.specs.Ranges.{Range, in_ranges}
-use Rattle.pbx_link_rules_field.specs.Spans.{span_range, Rise}
-use Rattle.pbx_link_rules_field.proofs.Rising.{has, in_spans, in_no_range, found, none_found, le_over}
-use Rattle.pbx_link_rules_field.proofs.ranges.NumberRanges.contains.Goals as goal
+use Rattle.pbx_link_definitions.specs.Spans.{span_range, Rise}
+use Rattle.pbx_link_definitions.proofs.Rising.{has, in_spans, in_no_range, found, none_found, le_over}
+use Rattle.pbx_link_definitions.proofs.ranges.NumberRanges.contains.Goals as goal
 
 pub returns-in_default : goal.returns-in_default
 returns-in_default c = sym (in_no_range c.args.self.now c.args.number c.in_default.is)

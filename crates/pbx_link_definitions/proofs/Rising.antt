@@ -15,8 +15,8 @@ use Rattle.std.proofs.lemmas.List.{at_drop_more, at_drop_all, append_assoc}
 use Rattle.std.proofs.lemmas.List.Sorted.{sorted_far, ranks_by, list_any-IsPermutation}
 use Rattle.std.proofs.lemmas.List.Folds.{list_any_none, list_any_at}
 use Rattle.pbx_link_definitions.specs.Ranges.{Range, in_ranges}
-use Rattle.pbx_link_rules_field.specs.Spans.{span_range, Rise}
-use Rattle.pbx_link_rules_field.specs.declared.ranges.Span.{Span}
+use Rattle.pbx_link_definitions.specs.Spans.{span_range, Rise}
+use Rattle.pbx_link_definitions.specs.declared.ranges.Span.{Span}
 
 -- the number is in the span
 abbrev pub has : ℤ → Span → Bool
