@@ -20,7 +20,8 @@ pub use protox_file;
 pub use protox_file as file;
 pub use protox_file::Error;
 pub use protox_io;
-pub use protox_run::{Ran, Refusal, done_is_determined, run};
+pub use protox_run::{Ran, Refusal, done_is_determined, run, stopped_run_leaves};
 pub use protox_transcode::{
-    Attempt, TopError, Transcoded, compile_and_transcode, transcoded_is_determined,
+    Attempt, TopError, Transcoded, compile_and_transcode, refused_is_determined,
+    transcoded_is_determined,
 };

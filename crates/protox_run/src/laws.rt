@@ -1,4 +1,4 @@
-ghost use Rattle.protox_run.specs.Laws.{DoneAlone, DoneOnce};
+ghost use Rattle.protox_run.specs.Laws.{DoneAlone, DoneOnce, OthersStay, WrittenOrOpen};
 
 use protox_compile::opens_once;
 
@@ -10,3 +10,11 @@ pub fn done_is_determined()
 {
     opens_once();
 }
+
+/// What a run of status 3 or 4 leaves, over a disk, an input and an out that tell: each key of the disk as it was, but for
+/// those of the paths of `-o` and `--wire`; and each of these as it was, or with the bytes that are written there where all is
+/// done, or open since its own write was refused.
+pub fn stopped_run_leaves()
+    ensures others { OthersStay }
+    ensures own { WrittenOrOpen }
+{}

@@ -8,6 +8,6 @@ mod report;
 mod stop;
 mod top;
 
-pub use laws::done_is_determined;
+pub use laws::{done_is_determined, stopped_run_leaves};
 pub use stop::Refusal;
 pub use top::{Ran, run};

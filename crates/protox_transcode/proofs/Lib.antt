@@ -2,3 +2,4 @@ pub mod Judged
 pub mod SetOf
 pub mod Transcoding
 pub mod Determined
+pub mod Refused

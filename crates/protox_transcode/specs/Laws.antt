@@ -1,10 +1,19 @@
 -- What holds of transcodings.
-use Rattle.std.specs.Prelude.{◌≡◌, ℕ, List, Option, true}
+use Rattle.std.specs.Prelude.{◌≡◌, ℕ, List, [], Option, true}
 use Rattle.serde_json.specs.Data.{Data}
+use Rattle.pbx_parse.specs.declared.error.ParseError.TheVariants as parse
+use Rattle.pbx_link_definitions.specs.declared.error.DescriptorError.TheVariants as check
+use Rattle.pbx_json_meaning.specs.declared.kind.JsonKind.TheVariants as json
 use Rattle.pbx_json_meaning.specs.declared.options.SerializeOptions.{SerializeOptions}
+use Rattle.protox_io.specs.Count.{Count}
+use Rattle.protox_file_error.specs.declared.error.ErrorKind.{ErrorKind}
+use Rattle.protox_file_error.specs.declared.error.ErrorKind.TheVariants as kinds
+use Rattle.protox_file_sources.specs.Causes.{FaultCause}
+use Rattle.protox_file_sources.specs.Library.{Library}
 use Rattle.protox_file_sources.specs.Told.{Told}
-use Rattle.protox_transcode.specs.Top.{ForFiles, IsTranscoded, Refuses, is_refusal}
+use Rattle.protox_transcode.specs.Top.{ForFiles, IsTranscoded, Refuses, IsCaused, is_refusal}
 use Rattle.protox_transcode.specs.declared.error.TopError.{TopError}
+use Rattle.protox_transcode.specs.declared.error.TopError.TheVariants.{File, Json}
 
 -- Whatever is told of names and paths, what is transcoded is refused for no reason.
 abbrev pub TranscodedAlone : Type 0
@@ -22,3 +31,25 @@ TranscodedOnce =
     → ForFiles told resolves paths (λ files. IsTranscoded name tree o files set wire written)
     → ForFiles told resolves paths (λ files. IsTranscoded name tree o files later_set later_wire later_written)
     → (set ≡ later_set) × (wire ≡ later_wire) × (written ≡ later_written)
+
+-- The part of an error of files that the files determine: of a fault of syntax all but its place and its words, and of a broken rule all but its place.
+abbrev pub fixed_part : ErrorKind → ErrorKind
+fixed_part (kinds.Parse (parse.Syntax file line column expected found)) = kinds.Parse (parse.Syntax file 0 0 [] [])
+fixed_part (kinds.Check (check.Rule file place rule)) = kinds.Check (check.Rule file [] rule)
+fixed_part error = error
+
+-- the same of every error: of a fault of the tree its place, at which several rules may be broken
+abbrev pub fixed_error : TopError → TopError
+fixed_error (File error) = File (fixed_part error)
+fixed_error (Json error) = Json (record error { kind = json.WrongKind })
+fixed_error error = error
+
+-- Two refusals of one input are one, but for what is left open: no input has two classes of refusal. A refusal is told as a call tells it, over a
+-- resolver that tells its files; the counts of faults before and after the two calls may be any.
+abbrev pub RefusedOnce : Type 0
+RefusedOnce =
+    (library : Library) (before after later_before later_after : Count) (paths : List (List ℕ)) (name : List ℕ) (tree : Data) (error later : TopError)
+    → is_refusal error ≡ true → IsCaused (FaultCause library before after) error → Refuses library.files library.resolves paths name tree error
+    → is_refusal later ≡ true → IsCaused (FaultCause library later_before later_after) later
+    → Refuses library.files library.resolves paths name tree later
+    → fixed_error error ≡ fixed_error later
