@@ -38,3 +38,11 @@ abbrev pub IsNotReflected : Option (Described DescriptorProto) → List ℕ → 
 IsNotReflected d bytes errors.NotFound = d ≡ None
 IsNotReflected d bytes (errors.Decode e) = IsBroken d bytes e
 IsNotReflected d bytes errors.NoMemory = Unit {0}
+
+-- values that have no type of their own, and are messages of the type of this full name
+abbrev pub HasTypeName : {T : Type 0} → (T → Option (Described DescriptorProto)) → (T → Shape) → (T → ℕ) → List ℕ → Type 0
+HasTypeName {T} own shape type_at name = (value : T) → (own value ≡ None) × (message_name (shape value) (type_at value) ≡ name)
+
+-- dynamic messages have their own type
+abbrev pub HaveOwnType : (Dynamic → Option (Described DescriptorProto)) → Type 0
+HaveOwnType own = (m : Dynamic) → own m ≡ Some m.of

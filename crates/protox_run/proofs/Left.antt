@@ -137,23 +137,23 @@ module _ (key : List Component) (old new : Volume) (input out : List ℕ) (path_
       at (inl c) = stopped_others key h.0 old new c.1 others
       at (inr c) = wrote_others key h.0 old new others c.0
 
-  left_at : (read : Result Args WordFault) → Leftover read old input new out path_refused out_refused → IsSameAt key old new ⊎ (IsWrittenAt read old input new key ⊎ IsOpenAt read old input new key)
+  left_at : (read : Result Args WordFault) → Leftover read old input new out path_refused out_refused → IsSameAt key old new ⊎ (IsWrittenAt read old input new key ⊎ (path_refused × IsOpenAt read old input new key))
   left_at read (inl u) = inl (same_disk key old new u.same)
   left_at (Err fault) (inr h) = absurd h
   left_at (Ok args) (inr h) = at h.3
     where
-      both : IsSameAt key old new ⊎ Written key h.0 new → IsSameAt key old new ⊎ (IsWrittenAt (Ok args) old input new key ⊎ IsOpenAt (Ok args) old input new key)
+      both : IsSameAt key old new ⊎ Written key h.0 new → IsSameAt key old new ⊎ (IsWrittenAt (Ok args) old input new key ⊎ (path_refused × IsOpenAt (Ok args) old input new key))
       both (inl k) = inl k
       both (inr k) = inr (inl (h.0, h.1, h.2, k))
 
-      stop : (s : StoppedAt h.0 old new) → IsSameAt key old new ⊎ (Written key h.0 new ⊎ (disk_key s.next.path ≡ key))
-          → IsSameAt key old new ⊎ (IsWrittenAt (Ok args) old input new key ⊎ IsOpenAt (Ok args) old input new key)
-      stop s (inl k) = inl k
-      stop s (inr (inl k)) = inr (inl (h.0, h.1, h.2, k))
-      stop s (inr (inr k)) = inr (inr (h.0, h.1, h.2, (s, k)))
+      stop : path_refused → (s : StoppedAt h.0 old new) → IsSameAt key old new ⊎ (Written key h.0 new ⊎ (disk_key s.next.path ≡ key))
+          → IsSameAt key old new ⊎ (IsWrittenAt (Ok args) old input new key ⊎ (path_refused × IsOpenAt (Ok args) old input new key))
+      stop r s (inl k) = inl k
+      stop r s (inr (inl k)) = inr (inl (h.0, h.1, h.2, k))
+      stop r s (inr (inr k)) = inr (inr (r, (h.0, h.1, h.2, (s, k))))
 
-      at : Carrying h.0 h.1 old new out path_refused out_refused → IsSameAt key old new ⊎ (IsWrittenAt (Ok args) old input new key ⊎ IsOpenAt (Ok args) old input new key)
-      at (inl c) = stop c.1 (stopped_at key h.0 old new c.1)
+      at : Carrying h.0 h.1 old new out path_refused out_refused → IsSameAt key old new ⊎ (IsWrittenAt (Ok args) old input new key ⊎ (path_refused × IsOpenAt (Ok args) old input new key))
+      at (inl c) = stop c.0 c.1 (stopped_at key h.0 old new c.1)
       at (inr c) = both (wrote_at key h.0 old new c.0)
 
 pub others_stay : OthersStay

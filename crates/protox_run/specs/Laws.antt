@@ -4,7 +4,7 @@ use Rattle.protox_io.specs.Disk.{Volume, Stands}
 use Rattle.protox_io.specs.Paths.{Component, disk_key}
 use Rattle.protox_words.specs.Words.{Args, WordFault, args_of}
 use Rattle.protox_run.specs.Class.{Write, Ready, Refusing, Judges}
-use Rattle.protox_run.specs.Run.{Run, AllTell, Runs}
+use Rattle.protox_run.specs.Run.{Run, AllTell, Raised, Runs}
 use Rattle.protox_run.specs.Stops.{ForArgs, ForReady, StoppedAt}
 use Rattle.protox_run.specs.declared.stop.Refusal.{Refusal}
 
@@ -51,9 +51,10 @@ OthersStay =
     (run : Run) (key : List Component) → Runs run → AllTell run → 3 ≤ run.status
     → ((path : List ℕ) → IsWritePath (args_of run.words) path → ¬ (key ≡ disk_key path)) → IsSameAt key run.disk.old run.disk.new
 
--- At each key it leaves what stood there, or the bytes that are written there where all is done, or the key is open since its own write was refused.
+-- At each key it leaves what stood there, or the bytes that are written there where all is done, or the key is open since its own write was refused: the
+-- disk's count rose, or memory was wanted.
 abbrev pub WrittenOrOpen : Type 0
 WrittenOrOpen =
     (run : Run) (key : List Component) → Runs run → AllTell run → 3 ≤ run.status
     → IsSameAt key run.disk.old run.disk.new ⊎ (IsWrittenAt (args_of run.words) run.disk.old run.input.old.left run.disk.new key
-    ⊎ IsOpenAt (args_of run.words) run.disk.old run.input.old.left run.disk.new key)
+    ⊎ ((Raised run.disk ⊎ (run.status ≡ 4)) × IsOpenAt (args_of run.words) run.disk.old run.input.old.left run.disk.new key))

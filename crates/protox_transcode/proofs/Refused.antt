@@ -14,6 +14,7 @@ use Rattle.pbx_link_meaning.specs.Descriptors.{Described, message_of_name}
 use Rattle.pbx_link_meaning.specs.Shapes.{shape_of, place_of}
 use Rattle.pbx_link_rules.specs.Breaches.{BreaksFirst, breaches}
 use Rattle.pbx_json_meaning.specs.Clash.{ByAnyName, name_fault}
+use Rattle.pbx_json_meaning.specs.Faults.{JsonFault}
 use Rattle.pbx_json_meaning.specs.declared.error.JsonError.{JsonError}
 use Rattle.pbx_json_meaning.specs.declared.kind.JsonKind.TheVariants as json
 use Rattle.pbx_json_meaning.specs.declared.names_fault.NameFault.{NameFault}
@@ -34,7 +35,7 @@ use Rattle.protox_compile_walk.specs.Closures.{StopsAt}
 use Rattle.protox_compile_walk.specs.Laws.{ClosesOnce}
 use Rattle.protox_compile.specs.Sets.{is_undecodable, IsUndecodable}
 use Rattle.protox_compile.specs.State.{most_files}
-use Rattle.protox_transcode.specs.Laws.{RefusedOnce, fixed_error, fixed_part}
+use Rattle.protox_transcode.specs.Laws.{KindsAreBroken, RefusedOnce, fixed_error, fixed_part}
 use Rattle.protox_transcode.specs.Top.{ForFiles, ForType, IsCaused, IsRefused, IsTooDeep, IsUnread, Refuses, RefusesFiles, is_fault, is_refusal, of_names}
 use Rattle.protox_transcode.specs.declared.error.TopError.{TopError}
 use Rattle.protox_transcode.specs.declared.error.TopError.TheVariants as top
@@ -382,6 +383,23 @@ module _ (once : ClosesOnce) (told : List ℕ → Told) (resolves : List ℕ →
       (among once told resolves paths (λ files. IsRefused name tree files error) (λ files. IsRefused name tree files other) h k)
 
 pub refused_once : ClosesOnce → RefusedOnce
-refused_once once library before after later_before later_after paths name tree error later f c h g d k =
-    both once library.files library.resolves paths name tree (FaultCause library before after) (FaultCause library later_before later_after) error later f c g d
+refused_once once library later_library before after later_before later_after paths name tree error later f c h g d k =
+    both once library.files library.resolves paths name tree (FaultCause library before after) (FaultCause later_library later_before later_after) error later f c g d
     (either library.files library.resolves paths name tree error f h) (either library.files library.resolves paths name tree later g k)
+
+-- ---- the kinds of a tree's faults
+
+kinds_in : (name : List ℕ) (tree : Data) (files : List FileDescriptorProto) (error later : JsonError) → ForType name files (λ shape t. IsUnread shape t tree error) → ForType name files (λ shape t. IsUnread shape t tree later)
+    → ForType name files (λ shape t. JsonFault shape t false tree error.place error.kind × JsonFault shape t false tree error.place later.kind)
+kinds_in name tree files error later h k =
+    let one : k.0 ≡ h.0 = (let e : Some k.0 ≡ Some h.0 = sym k.1 ∙ h.1 in cc) in
+    let P : Described DescriptorProto → Type 0 = λ d. IsUnread (shape_of files) (place_of d) tree later in
+    let unread : IsUnread (shape_of files) (place_of h.0) tree later = subst P one k.2 in
+    let place : later.place ≡ error.place = first_fault_is_one_place (shape_of files) (place_of h.0) false tree later.place error.place later.kind error.kind unread.1 h.2.1 in
+    let Q : List Step → Type 0 = λ p. JsonFault (shape_of files) (place_of h.0) false tree p later.kind in
+    (h.0, h.1, (h.2.1.broken, subst Q place unread.1.broken))
+
+pub kinds_broken : ClosesOnce → KindsAreBroken
+kinds_broken once told resolves paths name tree error later h k =
+    let same = among once told resolves paths (λ files. IsRefused name tree files (top.Json error)) (λ files. IsRefused name tree files (top.Json later)) h k in
+    (h.0, h.1, (h.2.0, h.2.1, kinds_in name tree (records h.2.0) error later h.2.2.2 same.2))

@@ -1,4 +1,4 @@
-ghost use Rattle.protox_transcode.specs.Laws.{RefusedOnce, TranscodedAlone, TranscodedOnce};
+ghost use Rattle.protox_transcode.specs.Laws.{KindsAreBroken, RefusedOnce, TranscodedAlone, TranscodedOnce};
 
 use protox_compile::opens_once;
 
@@ -13,11 +13,12 @@ pub fn transcoded_is_determined()
 }
 
 /// Of any paths and any resolver that tells its files: where `compile_and_transcode` refuses the same paths, type's name and
-/// tree twice, the two errors are one, want of memory and faults aside: of one class, of one kind, and equal but for the place
-/// beside a broken rule, the place and the words of a fault of syntax, and the kind of a fault of the tree, where several rules
-/// are broken at its place.
+/// tree twice, the two errors are one, want of memory and faults aside: of one class, and equal but for the place beside a
+/// broken rule, the place and the words of a fault of syntax, and the kind of a fault of the tree, which is one too where no
+/// two rules are broken at its place.
 pub fn refused_is_determined()
-    ensures { RefusedOnce }
+    ensures once { RefusedOnce }
+    ensures kinds { KindsAreBroken }
 {
     opens_once();
 }

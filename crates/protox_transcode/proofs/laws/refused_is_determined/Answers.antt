@@ -1,5 +1,8 @@
-use Rattle.protox_transcode.proofs.Refused.{refused_once}
+use Rattle.protox_transcode.proofs.Refused.{kinds_broken, refused_once}
 use Rattle.protox_transcode.proofs.laws.refused_is_determined.Goals as goal
 
-pub returns : goal.returns
-returns c = refused_once c.opens_once.ensures.paths
+pub returns-clause-once : goal.returns-clause-once
+returns-clause-once c = refused_once c.opens_once.ensures.paths
+
+pub returns-clause-kinds : goal.returns-clause-kinds
+returns-clause-kinds c = kinds_broken c.opens_once.ensures.paths
