@@ -18,3 +18,4 @@ pub mod Arrows
 pub mod Causes
 pub mod Walks
 pub mod Again
+pub mod WalkAgain

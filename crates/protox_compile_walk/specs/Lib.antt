@@ -8,3 +8,4 @@ pub mod Compiled
 pub mod Opens
 pub mod Indexes
 pub mod Laws
+pub mod Again

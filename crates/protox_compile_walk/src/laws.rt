@@ -1,3 +1,4 @@
+ghost use Rattle.protox_compile_walk.specs.Again.{ClosesAgain};
 ghost use Rattle.protox_compile_walk.specs.Laws.{OpeningAgainMarks, OpensOnce, ClosesOnce, OpensByAll, RefusesByAll, ClosesByAll, StopsByAll};
 
 use protox_file_sources::looked_up_once;
@@ -25,3 +26,10 @@ pub fn opens_by_all()
 {
     looked_up_once();
 }
+
+/// The walk over records that link to the finished ones is the walk: where paths were opened from nothing, the names that they
+/// ask for open to the same files again, with the same records and marks in the same order, without the paths that they were
+/// read from.
+pub fn closes_again()
+    ensures { ClosesAgain }
+{}

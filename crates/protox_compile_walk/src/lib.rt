@@ -15,5 +15,5 @@ mod step;
 mod walk;
 
 pub use finished::FinishedFiles;
-pub use laws::{opening_again_marks, opens_by_all, opens_once};
+pub use laws::{closes_again, opening_again_marks, opens_by_all, opens_once};
 pub use root::{Opened, open_path};
