@@ -42,8 +42,8 @@ pub record LinksTo (before : List FileDescriptorProto) (name : List ℕ) (file :
   pub linked_is : linked_record before entry.file ≡ file
 
 -- the name of each finished file looks up to a file that is linked to its record, among the records of the files before it
-abbrev pub AreLinked : (List ℕ → Lookup) → List Done → Type 0
-AreLinked others later =
+abbrev pub AllLinkTo : (List ℕ → Lookup) → List Done → Type 0
+AllLinkTo others later =
     (before after : List Done) (d : Done) → later ≡ before ++ d ∷ after → LinksTo (records before) d.name d.file (others d.name)
 
 -- Where paths were opened from nothing and these files are finished, the names that the paths ask for open to the same files, marks and
@@ -51,5 +51,5 @@ AreLinked others later =
 abbrev pub ClosesAgain : Type 0
 ClosesAgain =
     (lookups others : List ℕ → Lookup) (resolves : List ℕ → Option (List ℕ)) (limit : ℕ) (paths names : List (List ℕ)) (later : List Done)
-    → closure lookups resolves limit paths [] ≡ (later, Accepted) → AskFor resolves paths names → AreLinked others later
+    → closure lookups resolves limit paths [] ≡ (later, Accepted) → AskFor resolves paths names → AllLinkTo others later
     → closure others resolves_nothing limit names [] ≡ (without_paths later, Accepted)
