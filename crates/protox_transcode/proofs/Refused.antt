@@ -20,7 +20,7 @@ use Rattle.pbx_json_meaning.specs.declared.kind.JsonKind.TheVariants as json
 use Rattle.pbx_json_meaning.specs.declared.names_fault.NameFault.{NameFault}
 use Rattle.pbx_json_meaning.specs.declared.names_fault.NameFault.TheVariants as names
 use Rattle.pbx_json_meaning.specs.declared.place.Step.{Step}
-use Rattle.pbx_json_meaning.proofs.Places.{first_fault_is_one_place}
+use Rattle.pbx_json_meaning.specs.Laws.{FirstFaultIsOnePlace}
 use Rattle.protox_io.specs.Count.{Count}
 use Rattle.protox_file_error.specs.Errors.{IsWhole}
 use Rattle.protox_file_error.specs.declared.error.ErrorKind.{ErrorKind}
@@ -83,7 +83,7 @@ text_once file kind x y (inr (inr h)) (inr (inr k)) = h.1 ∙ sym k.1
 -- nothing stands among no places
 no_place : (places : List Place) (place : Place) → places ≡ [] → Contains places place → ⊥
 no_place places place e h =
-    let c : Contains {A = Place} [] place = (let P : List Place → Type 0 = λ ps. Contains ps place in subst P e h) in
+    let c : Contains {X = Place} [] place = (let P : List Place → Type 0 = λ ps. Contains ps place in subst P e h) in
     let lt : c.0 < 0 = c.1 in
     omega arith
 
@@ -247,23 +247,23 @@ TellsOf name tree files None None (Some d) x = TellsTree (shape_of files) (place
 abbrev TellsFiles : List ℕ → Data → List FileDescriptorProto → TopError → Type 0
 TellsFiles name tree files x = TellsOf name tree files (find is_undecodable files) (name_fault ByAnyName (shape_of files)) (message_of_name files name) x
 
-tree_once : (shape : Shape) (t : ℕ) (tree : Data) (x y : TopError) → TellsTree shape t tree x → TellsTree shape t tree y → x ≡ y
-tree_once shape t tree x y (inl h) (inl k) = h.1 ∙ sym k.1
-tree_once shape t tree x y (inl h) (inr k) = absurd (k.1.2 h.0.0 h.0.1)
-tree_once shape t tree x y (inr h) (inl k) = absurd (h.1.2 k.0.0 k.0.1)
-tree_once shape t tree x y (inr h) (inr k) =
-    let place : h.0.place ≡ k.0.place = first_fault_is_one_place shape t false tree h.0.place k.0.place h.0.kind k.0.kind h.1.1 k.1.1 in
+tree_once : FirstFaultIsOnePlace → (shape : Shape) (t : ℕ) (tree : Data) (x y : TopError) → TellsTree shape t tree x → TellsTree shape t tree y → x ≡ y
+tree_once one_place shape t tree x y (inl h) (inl k) = h.1 ∙ sym k.1
+tree_once one_place shape t tree x y (inl h) (inr k) = absurd (k.1.2 h.0.0 h.0.1)
+tree_once one_place shape t tree x y (inr h) (inl k) = absurd (h.1.2 k.0.0 k.0.1)
+tree_once one_place shape t tree x y (inr h) (inr k) =
+    let place : h.0.place ≡ k.0.place = one_place shape t false tree h.0.place k.0.place h.0.kind k.0.kind h.1.1 k.1.1 in
     h.2 ∙ same h.0 k.0 place ∙ sym k.2
   where
     same : (d e : JsonError) → d.place ≡ e.place → fixed_error (top.Json d) ≡ fixed_error (top.Json e)
     same d e p = ap (λ (q : List Step). top.Json (record { place = q; kind = json.WrongKind })) p
 
-files_tell_once : (name : List ℕ) (tree : Data) (files : List FileDescriptorProto) (o : Option FileDescriptorProto) (fault : Option NameFault) (type : Option (Described DescriptorProto)) (x y : TopError)
+files_tell_once : FirstFaultIsOnePlace → (name : List ℕ) (tree : Data) (files : List FileDescriptorProto) (o : Option FileDescriptorProto) (fault : Option NameFault) (type : Option (Described DescriptorProto)) (x y : TopError)
     → TellsOf name tree files o fault type x → TellsOf name tree files o fault type y → x ≡ y
-files_tell_once name tree files (Some g) fault type x y h k = h ∙ sym k
-files_tell_once name tree files None (Some fault) type x y h k = h ∙ sym k
-files_tell_once name tree files None None None x y h k = h ∙ sym k
-files_tell_once name tree files None None (Some d) x y h k = tree_once (shape_of files) (place_of d) tree x y h k
+files_tell_once one_place name tree files (Some g) fault type x y h k = h ∙ sym k
+files_tell_once one_place name tree files None (Some fault) type x y h k = h ∙ sym k
+files_tell_once one_place name tree files None None None x y h k = h ∙ sym k
+files_tell_once one_place name tree files None None (Some d) x y h k = tree_once one_place (shape_of files) (place_of d) tree x y h k
 
 module _ (name : List ℕ) (tree : Data) (files : List FileDescriptorProto) where
   by_file : (g : FileDescriptorProto) (x : TopError) → find is_undecodable files ≡ Some g → x ≡ top.File (kinds.Undecodable (text_or_empty g.name)) → TellsFiles name tree files x
@@ -313,9 +313,9 @@ module _ (name : List ℕ) (tree : Data) (files : List FileDescriptorProto) wher
   files_tell top.TooDeep f h = by_type (Some h.2.0) _ h.0 h.1 h.2.1 (inl (h.2.2, refl))
   files_tell top.NoMemory f h = absurd (cc)
 
-  refused_files_once : (error other : TopError) → is_refusal error ≡ true → is_refusal other ≡ true → IsRefused name tree files error → IsRefused name tree files other → fixed_error error ≡ fixed_error other
-  refused_files_once error other f g h k =
-      files_tell_once name tree files (find is_undecodable files) (name_fault ByAnyName (shape_of files)) (message_of_name files name) (fixed_error error) (fixed_error other)
+  refused_files_once : FirstFaultIsOnePlace → (error other : TopError) → is_refusal error ≡ true → is_refusal other ≡ true → IsRefused name tree files error → IsRefused name tree files other → fixed_error error ≡ fixed_error other
+  refused_files_once one_place error other f g h k =
+      files_tell_once one_place name tree files (find is_undecodable files) (name_fault ByAnyName (shape_of files)) (message_of_name files name) (fixed_error error) (fixed_error other)
       (files_tell error f h) (files_tell other g k)
 
 -- ---- both together
@@ -356,7 +356,7 @@ whole fault (kinds.FileLimit n) f h = tt
 whole fault (kinds.Undecodable file) f h = tt
 whole fault kinds.NoMemory f h = tt
 
-module _ (once : ClosesOnce) (told : List ℕ → Told) (resolves : List ℕ → Option (List ℕ)) (paths : List (List ℕ)) (name : List ℕ) (tree : Data) (fault wider : ErrorKind → Type 0) (error other : TopError)
+module _ (once : ClosesOnce) (one_place : FirstFaultIsOnePlace) (told : List ℕ → Told) (resolves : List ℕ → Option (List ℕ)) (paths : List (List ℕ)) (name : List ℕ) (tree : Data) (fault wider : ErrorKind → Type 0) (error other : TopError)
     (f : is_refusal error ≡ true) (c : IsCaused fault error) (g : is_refusal other ≡ true) (d : IsCaused wider other) where
   -- of an error that is one of files
   kind_of : (x : TopError) (kind : ErrorKind) → x ≡ top.File kind → is_refusal x ≡ true → is_fault kind ≡ false
@@ -379,27 +379,27 @@ module _ (once : ClosesOnce) (told : List ℕ → Told) (resolves : List ℕ →
   both (inl h) (inr k) = absurd (apart h.0 (kind_of error h.0 h.1 f) (λ files. IsRefused name tree files other) k h.2)
   both (inr h) (inl k) = absurd (apart k.0 (kind_of other k.0 k.1 g) (λ files. IsRefused name tree files error) h k.2)
   both (inr h) (inr k) =
-      refused_files_once name tree (records h.2.0) error other f g h.2.2
+      refused_files_once name tree (records h.2.0) one_place error other f g h.2.2
       (among once told resolves paths (λ files. IsRefused name tree files error) (λ files. IsRefused name tree files other) h k)
 
-pub refused_once : ClosesOnce → RefusedOnce
-refused_once once library later_library before after later_before later_after paths name tree error later f c h g d k =
-    both once library.files library.resolves paths name tree (FaultCause library before after) (FaultCause later_library later_before later_after) error later f c g d
+pub refused_once : ClosesOnce → FirstFaultIsOnePlace → RefusedOnce
+refused_once once one_place library later_library before after later_before later_after paths name tree error later f c h g d k =
+    both once one_place library.files library.resolves paths name tree (FaultCause library before after) (FaultCause later_library later_before later_after) error later f c g d
     (either library.files library.resolves paths name tree error f h) (either library.files library.resolves paths name tree later g k)
 
 -- ---- the kinds of a tree's faults
 
-kinds_in : (name : List ℕ) (tree : Data) (files : List FileDescriptorProto) (error later : JsonError) → ForType name files (λ shape t. IsUnread shape t tree error) → ForType name files (λ shape t. IsUnread shape t tree later)
+kinds_in : FirstFaultIsOnePlace → (name : List ℕ) (tree : Data) (files : List FileDescriptorProto) (error later : JsonError) → ForType name files (λ shape t. IsUnread shape t tree error) → ForType name files (λ shape t. IsUnread shape t tree later)
     → ForType name files (λ shape t. JsonFault shape t false tree error.place error.kind × JsonFault shape t false tree error.place later.kind)
-kinds_in name tree files error later h k =
+kinds_in one_place name tree files error later h k =
     let one : k.0 ≡ h.0 = (let e : Some k.0 ≡ Some h.0 = sym k.1 ∙ h.1 in cc) in
     let P : Described DescriptorProto → Type 0 = λ d. IsUnread (shape_of files) (place_of d) tree later in
     let unread : IsUnread (shape_of files) (place_of h.0) tree later = subst P one k.2 in
-    let place : later.place ≡ error.place = first_fault_is_one_place (shape_of files) (place_of h.0) false tree later.place error.place later.kind error.kind unread.1 h.2.1 in
+    let place : later.place ≡ error.place = one_place (shape_of files) (place_of h.0) false tree later.place error.place later.kind error.kind unread.1 h.2.1 in
     let Q : List Step → Type 0 = λ p. JsonFault (shape_of files) (place_of h.0) false tree p later.kind in
     (h.0, h.1, (h.2.1.broken, subst Q place unread.1.broken))
 
-pub kinds_broken : ClosesOnce → KindsAreBroken
-kinds_broken once told resolves paths name tree error later h k =
+pub kinds_broken : ClosesOnce → FirstFaultIsOnePlace → KindsAreBroken
+kinds_broken once one_place told resolves paths name tree error later h k =
     let same = among once told resolves paths (λ files. IsRefused name tree files (top.Json error)) (λ files. IsRefused name tree files (top.Json later)) h k in
-    (h.0, h.1, (h.2.0, h.2.1, kinds_in name tree (records h.2.0) error later h.2.2.2 same.2))
+    (h.0, h.1, (h.2.0, h.2.1, kinds_in one_place name tree (records h.2.0) error later h.2.2.2 same.2))

@@ -1,5 +1,6 @@
 ghost use Rattle.protox_transcode.specs.Laws.{KindsAreBroken, RefusedOnce, TranscodedAlone, TranscodedOnce};
 
+use pbx_json_meaning::first_fault_is_one_place;
 use protox_compile::opens_once;
 
 /// Of any paths, any options, and any resolver that tells its files: where `compile_and_transcode` gives a set, wire bytes
@@ -21,4 +22,6 @@ pub fn refused_is_determined()
     ensures kinds { KindsAreBroken }
 {
     opens_once();
+    // The place of a tree's fault is one.
+    first_fault_is_one_place();
 }
