@@ -9,6 +9,7 @@ use Rattle.pbx_desc_records.specs.declared.file.FileDescriptorProto.{FileDescrip
 use Rattle.pbx_desc_records.specs.declared.file.FileDescriptorSet.{FileDescriptorSet}
 use Rattle.pbx_desc_encoding.specs.Content.{file_content, file_set_content}
 use Rattle.pbx_desc_encoding.specs.Sets.{set_meaning_of, IsSetFault}
+use Rattle.pbx_desc.specs.Exact.{is_exact_file, is_exact_file_set}
 use Rattle.pbx_link_definitions.specs.Definitions.{Place}
 use Rattle.pbx_link_definitions.specs.Names.{text_or_empty}
 use Rattle.pbx_link_rules.specs.Breaches.{keeps_rules, BreaksFirst}
@@ -54,9 +55,9 @@ undecoded_as faults.NoMemory = NoMemory
 
 -- ---- one file
 
--- the bytes decode to this record
+-- the bytes decode to this record, in which nothing stands beside its content, so they decode to no other
 abbrev pub DecodesFile : List ℕ → FileDescriptorProto → Type 0
-DecodesFile bytes f = meaning_of descriptor_shape 1 bytes ≡ Some (file_content f)
+DecodesFile bytes f = (meaning_of descriptor_shape 1 bytes ≡ Some (file_content f)) × (is_exact_file f ≡ true)
 
 -- the bytes decode to a record that keeps the rules among the files, and these are the files with it
 abbrev pub IsFileAdded : List FileDescriptorProto → List ℕ → List FileDescriptorProto → Type 0
@@ -70,9 +71,10 @@ IsFileRefused files bytes NoMemory = Unit {0}
 
 -- ---- a set
 
--- the bytes decode, file by file, to a set of these records
+-- the bytes decode, file by file, to a set of these records, in which nothing stands beside its content, so they decode to no others
 abbrev pub DecodesFiles : List ℕ → List FileDescriptorProto → Type 0
-DecodesFiles bytes fs = (set : FileDescriptorSet) × (set_meaning_of bytes ≡ Some (file_set_content set)) × (set.file ≡ fs)
+DecodesFiles bytes fs =
+    (set : FileDescriptorSet) × (set_meaning_of bytes ≡ Some (file_set_content set)) × (is_exact_file_set set ≡ true) × (set.file ≡ fs)
 
 -- the bytes decode to records each of which keeps the rules among those before it, and these are the files with them
 abbrev pub AreAdded : List FileDescriptorProto → List ℕ → List FileDescriptorProto → Type 0

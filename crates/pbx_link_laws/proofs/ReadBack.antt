@@ -106,13 +106,14 @@ none_stops files fs new file place rule all stops =
 
 pub sets_are_read_back : SetsAreReadBack
 sets_are_read_back pool bytes pooled (d, meant, same) = record {
+  added = λ fs decodes. made fs decodes;
   same = λ new added. the_same new added;
   accepted = λ error refused. want error refused;
 }
   where
     -- what the records of a set that was decoded make
     made : (fs : List FileDescriptorProto) → DecodesFiles bytes fs → with_files [] fs ≡ Some pool
-    made fs (set, means, is) =
+    made fs (set, means, exact, is) =
         let one : d ≡ file_set_content set = cc in
         let told = files_told set.file pool set.unknown [] (subst (λ (c : Content). Same descriptor_shape 0 c (files_content pool)) one same) in
         subst (λ (files : List FileDescriptorProto). with_files [] files ≡ Some pool) is (all_added [] set.file pool pooled told)

@@ -1,5 +1,5 @@
 -- The files of the bytes of a set, record by record.
-use Rattle.std.proofs.Common.{◌≡◌, ◌∙◌, ℕ, ◌<◌, true, false, List, [], ◌∷◌, ◌++◌, length, map, Option, Some, None, option_map, refl, sym, ap}
+use Rattle.std.proofs.Common.{◌≡◌, ◌∙◌, ℕ, ◌<◌, Bool, true, false, List, [], ◌∷◌, ◌++◌, length, map, Option, Some, None, option_map, refl, sym, ap}
 use Rattle.std.proofs.Common.{subst, inl, inr, arith, append-nil, append_assoc, length-append}
 use Rattle.std.specs.Prelude.{option_and_then, codes}
 use Rattle.std.specs.List.{filter}
@@ -26,6 +26,7 @@ use Rattle.pbx_desc_encoding.specs.Content.{listed, of_records, file_content, fi
 use Rattle.pbx_desc_encoding.specs.Sets.{set_meaning_of}
 use Rattle.pbx_desc_encoding.proofs.Types.{file_set_type}
 use Rattle.pbx_desc.specs.Taking.{AreTaken}
+use Rattle.pbx_desc.specs.Exact.{is_exact_with, are_exact, is_exact_file}
 use Rattle.pbx_desc.proofs.Walk.{whole}
 use Rattle.pbx_link.specs.Bytes.{DecodesFiles}
 use Rattle.protox_file_sources.specs.Told.{Entry}
@@ -65,7 +66,7 @@ value_of e = file_value e.file
 
 file_read : (r : Rec) (payload : List ℕ) (e : Entry) → bytes_of r ≡ Some payload → IsFileOf payload e
     → spread descriptor_shape (inner_at descriptor_shape 101) (kind.Message 1) r ≡ Some (value_of e ∷ [])
-file_read r payload e is file = rw (is, one_inner descriptor_shape 100 (fields_of descriptor_shape 1) payload, file.1) refl
+file_read r payload e is file = rw (is, one_inner descriptor_shape 100 (fields_of descriptor_shape 1) payload, file.1.0) refl
 
 files_read : (rs : List Rec) (payloads : List (List ℕ)) (es : List Entry) → each bytes_of rs ≡ Some payloads → AreFilesOf payloads es
     → each (spread descriptor_shape (inner_at descriptor_shape 101) (kind.Message 1)) rs ≡ Some (map (λ e. value_of e ∷ []) es)
@@ -130,6 +131,12 @@ got_first : (v : Option Val) → v ≡ get 1 (with_field 1 v no_fields)
 got_first None = refl
 got_first (Some v) = refl
 
+all_exact : (payloads : List (List ℕ)) (es : List Entry) → AreFilesOf payloads es → are_exact is_exact_file (records_of es) ≡ true
+all_exact [] [] h = refl
+all_exact [] (e ∷ es) h = absurd h
+all_exact (p ∷ ps) [] h = absurd h
+all_exact (p ∷ ps) (e ∷ es) h = rw (h.0.1.1) (all_exact ps es h.1)
+
 -- the whole set decodes to the records
 pub decodes_files : (bytes : List ℕ) (es : List Entry) → AreFilesIn bytes es → DecodesFiles bytes (records_of es)
 decodes_files bytes es h =
@@ -140,7 +147,9 @@ decodes_files bytes es h =
     let all : AreTaken set_fields (of_records file_content (records_of es) ∷ []) (true ∷ []) kept (set_of es kept) =
     record { values = ((λ may. own), tt); exact = ((λ may. refl), tt); unread = refl } in
     let made = whole 0 set_fields (of_records file_content (records_of es) ∷ []) (true ∷ []) kept (set_of es kept) file_set_type refl all sound in
-    (record { file = records_of es; unknown = kept }, means ∙ ap (λ (c : Content). Some c) (sym made.0), refl)
+    let exact : is_exact_with (are_exact is_exact_file (records_of es) ∷ []) set_fields kept ≡ true =
+    subst (λ (x : Bool). is_exact_with (x ∷ []) set_fields kept ≡ true) (sym (all_exact h.payloads es h.files)) made.1 in
+    (record { file = records_of es; unknown = kept }, means ∙ ap (λ (c : Content). Some c) (sym made.0), exact, refl)
 
 -- ---- record by record
 

@@ -9,7 +9,7 @@ mod standard;
 
 pub use chain::ChainFileResolver;
 pub use descriptor_set::DescriptorSetFileResolver;
-pub use laws::{chains_join, no_members_have_nothing};
+pub use laws::{chains_join, no_members_have_nothing, sets_are_read_once};
 pub use protox_file_sources::{
     Disk, DiskAnswer, DiskError, Error, ErrorKind, File, FileMetadata, FileResolver,
     GoogleFileResolver, IncludeFileResolver, MemoryDisk, MemoryResolver, RealDisk, join_path,
