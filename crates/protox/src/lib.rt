@@ -23,5 +23,5 @@ pub use protox_io;
 pub use protox_run::{Ran, Refusal, done_is_determined, run, stopped_run_leaves};
 pub use protox_transcode::{
     Attempt, TopError, Transcoded, compile_and_transcode, refused_is_determined,
-    transcoded_is_determined,
+    transcoded_is_determined, transcodes_again,
 };

@@ -3,3 +3,5 @@ pub mod Standard
 pub mod Kept
 pub mod Repeats
 pub mod Among
+pub mod SetAgain
+pub mod RepeatsAgain

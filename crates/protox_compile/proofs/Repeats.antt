@@ -1,6 +1,6 @@
 -- Paths that are given again.
 use Rattle.std.proofs.Common.{◌≡◌, ◌+◌, ◌<◌, ◌∷◌, ◌++◌, ◌∙◌, [], ℕ, zero, suc, List, Bool, true, false, refl, sym, ap, ap₂, length, take, drop, get_or, add-one, arith}
-use Rattle.std.specs.Prelude.{◌||◌, nat_lt, option_map, if◌then◌else◌, reverse, Option, Some, None}
+use Rattle.std.specs.Prelude.{◌||◌, nat_lt, option_map, option_and_then, if◌then◌else◌, reverse, Option, Some, None}
 use Rattle.std.specs.Str.{bytes_eq}
 use Rattle.std.proofs.lemmas.List.{length_push, append-nil, append_assoc, drop_more, take_more, length-take-le}
 use Rattle.std.proofs.lemmas.List.Folds.{list_any-append}
@@ -13,7 +13,7 @@ use Rattle.protox_compile_walk.specs.Walk.{Done, Fault, Limit, Mismatch, Shadowe
 use Rattle.protox_compile_walk.specs.Opening.{Ended, Accepted, NotIncluded, Refused, mark, is_opened, path_in, open_done, open_root, open_name, root_by, root_of, opening, after_opening, closure, report_in, report_of}
 use Rattle.protox_compile_walk.specs.declared.root.Opened.{Opened}
 use Rattle.protox_compile_walk.specs.declared.root.Opened.TheVariants.{Compiled, Import, Again}
-use Rattle.protox_compile_walk.proofs.Closures.{closure_push}
+use Rattle.protox_compile_walk.proofs.Closures.{closure_push, first_accepted}
 use Rattle.protox_compile_walk.proofs.Right.{same_bytes, bytes_are}
 use Rattle.protox_compile.specs.Repeats.{is_root, is_asked, is_asked_by, index_if, repeats_behind, repeats, is_again, opened_again, RepeatsAreAgain}
 
@@ -175,12 +175,6 @@ module _ (lookups : List ℕ → Lookup) (limit : ℕ) where
           root_marked root.0 m done new (visits lookups limit [] root.1 root.0 done) (visit_root lookups limit _ [] root.1 root.0 done)
           (visit_marks lookups limit _ [] root.1 root.0 done) k
 
-  -- what accepted openings begin with
-  first_accepted : (o : List Done × Ended) (rest : List Done → List Done × Ended) (later : List Done) → after_opening o rest ≡ (later, Accepted) → (d : List Done) × (o ≡ (d, Accepted)) × (rest d ≡ (later, Accepted))
-  first_accepted (d, Accepted) rest later h = (d, refl, h)
-  first_accepted (d, NotIncluded) rest later h = let no : NotIncluded ≡ Accepted = ap (λ o. o.1) h in absurd (cc)
-  first_accepted (d, Refused fault) rest later h = let no : Refused fault ≡ Accepted = ap (λ o. o.1) h in absurd (cc)
-
   module _ (resolves : List ℕ → Option (List ℕ)) where
     swapped : (a b c : Bool) → ((a || b) || c) ≡ (b || (a || c))
     swapped true true c = refl
@@ -249,7 +243,7 @@ index_apart false i found rest = ap (λ xs. xs ++ rest) (append-nil found)
 
 module _ (f g : List ℕ → Option (List ℕ)) (same : (path : List ℕ) → f path ≡ g path) where
   root_alike : (path : List ℕ) → root_of f path ≡ root_of g path
-  root_alike path = ap (λ name. root_by name path (name_of path)) (same path)
+  root_alike path = ap (λ name. root_by (option_and_then name_of name) path (name_of path)) (same path)
 
   asked_alike : (paths : List (List ℕ)) (name : List ℕ) → is_asked f paths name ≡ is_asked g paths name
   asked_alike [] name = refl

@@ -2,8 +2,10 @@
 use Rattle.std.specs.Prelude.{◌≡◌, ◌∷◌, ◌++◌, [], ℕ, suc, List, length, Bool, true, false, Option, Some, None}
 use Rattle.std.specs.List.{list_any}
 use Rattle.std.specs.Str.{bytes_eq}
+use Rattle.protox_file_sources.specs.Library.{resolves_nothing}
 use Rattle.protox_file_sources.specs.Told.{Lookup}
 use Rattle.protox_compile_walk.specs.Walk.{Done}
+use Rattle.protox_compile_walk.specs.Again.{AskFor}
 use Rattle.protox_compile_walk.specs.Opening.{Accepted, closure, opening, report_of, root_of}
 use Rattle.protox_compile_walk.specs.declared.root.Opened.{Opened}
 use Rattle.protox_compile_walk.specs.declared.root.Opened.TheVariants.{Again}
@@ -57,3 +59,9 @@ abbrev pub RepeatsAreAgain : Type 0
 RepeatsAreAgain =
     (lookups : List ℕ → Lookup) (resolves : List ℕ → Option (List ℕ)) (limit : ℕ) (paths : List (List ℕ)) (later : List Done)
     → closure lookups resolves limit paths [] ≡ (later, Accepted) → opened_again lookups resolves limit 0 paths [] ≡ repeats resolves paths
+
+-- The names that paths ask for are given again where the paths are, by a resolver that knows no path.
+abbrev pub NamesRepeatAsPaths : Type 0
+NamesRepeatAsPaths =
+    (resolves : List ℕ → Option (List ℕ)) (paths names : List (List ℕ)) → AskFor resolves paths names
+    → repeats resolves_nothing names ≡ repeats resolves paths

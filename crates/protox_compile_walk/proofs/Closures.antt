@@ -12,6 +12,13 @@ use Rattle.protox_compile_walk.specs.Closures.{StopsAt}
 use Rattle.protox_compile_walk.specs.Opens.{Opens, OpensTimes}
 use Rattle.protox_compile_walk.proofs.Joined.{Once, joined, right_joined, more_first, more_second, opens_more, closes_more, refuses_more}
 
+-- what accepted openings begin with
+pub first_accepted : (o : List Done × Ended) (rest : List Done → List Done × Ended) (later : List Done) → after_opening o rest ≡ (later, Accepted)
+    → (d : List Done) × (o ≡ (d, Accepted)) × (rest d ≡ (later, Accepted))
+first_accepted (d, Accepted) rest later h = (d, refl, h)
+first_accepted (d, NotIncluded) rest later h = let no : NotIncluded ≡ Accepted = ap (λ o. o.1) h in absurd (cc)
+first_accepted (d, Refused fault) rest later h = let no : Refused fault ≡ Accepted = ap (λ o. o.1) h in absurd (cc)
+
 module _ (lookups : List ℕ → Lookup) (resolves : List ℕ → Option (List ℕ)) (limit : ℕ) where
   then_push : (opened : List Done × Ended) (longer rest one : List Done → List Done × Ended) → ((d : List Done) → longer d ≡ after_opening (rest d) one) → after_opening opened longer ≡ after_opening (after_opening opened rest) one
   then_push (d, Accepted) longer rest one e = e d

@@ -14,8 +14,11 @@ pub mod Joined
 pub mod Lookups
 pub mod Closures
 pub mod Recorded
+pub mod Pooled
 pub mod Arrows
 pub mod Causes
 pub mod Walks
 pub mod Again
+pub mod Rooted
 pub mod WalkAgain
+pub mod PostOrder

@@ -19,10 +19,11 @@ use Rattle.protox_compile_walk.specs.Opening.{open_done, open_root, open_name, o
 use Rattle.protox_compile_walk.specs.Refusals.{Extends}
 use Rattle.protox_compile_walk.specs.Again.{without_path, without_paths, AsksFor, AskFor, LinksTo, ClosesAgain}
 use Rattle.protox_compile_walk.proofs.Extends.{imports_extend, visit_extends}
+use Rattle.protox_compile_walk.proofs.Rooted.{roots_named}
 
 -- ---- files without their paths
 
-records_kept : (done : List Done) → records (without_paths done) ≡ records done
+pub records_kept : (done : List Done) → records (without_paths done) ≡ records done
 records_kept [] = refl
 records_kept (d ∷ ds) = ap (λ fs. d.file ∷ fs) (records_kept ds)
 
@@ -308,7 +309,7 @@ opening_ends lookups others resolves limit path name done asks =
     let first : opening lookups resolves limit path done ≡ open_name lookups limit (Some (name, asks.asked)) done =
     ap (λ root. open_name lookups limit root done) asks.root_is in
     let second : opening others resolves_nothing limit name (without_paths done) ≡ open_name others limit (Some (name, None)) (without_paths done) =
-    ap (λ own. open_name others limit (root_by None name own) (without_paths done)) asks.named in
+    ap (λ own. open_name others limit (root_by None name own) (without_paths done)) (roots_named resolves path name asks.asked asks.root_is) in
     let P : List Done × Ended → Type 0 = λ o. EndsAgain others o (opening others resolves_nothing limit name (without_paths done)) in
     let Q : List Done × Ended → Type 0 = λ o. EndsAgain others (open_name lookups limit (Some (name, asks.asked)) done) o in
     subst P (sym first) (subst Q (sym second) (name_ends lookups others limit name asks.asked done))

@@ -4,7 +4,6 @@ use Rattle.std.specs.Str.{bytes_eq}
 use Rattle.pbx_desc_records.specs.declared.file.FileDescriptorProto.{FileDescriptorProto}
 use Rattle.pbx_link_record.specs.Linked.{linked_record}
 use Rattle.pbx_link_rules.specs.Breaches.{keeps_rules}
-use Rattle.protox_io.specs.FileNames.{name_of}
 use Rattle.protox_file_sources.specs.Told.{Entry, Lookup, IsFile}
 use Rattle.protox_file_sources.specs.Library.{resolves_nothing}
 use Rattle.protox_compile_walk.specs.Walk.{Done, records, declared_name}
@@ -18,11 +17,10 @@ without_path d = record d { path = None }
 abbrev pub without_paths : List Done → List Done
 without_paths done = map without_path done
 
--- the path asks for this name, which names itself
+-- the path asks for this name
 pub record AsksFor (resolves : List ℕ → Option (List ℕ)) (path name : List ℕ) : Type 0 where
   pub asked : Option (List ℕ)
   pub root_is : root_of resolves path ≡ Some (name, asked)
-  pub named : name_of name ≡ Some name
 
 -- the paths ask for these names, in their order
 abbrev pub AskFor : (List ℕ → Option (List ℕ)) → List (List ℕ) → List (List ℕ) → Type 0
@@ -30,6 +28,12 @@ AskFor resolves [] [] = Unit {0}
 AskFor resolves [] (name ∷ names) = ⊥
 AskFor resolves (path ∷ paths) [] = ⊥
 AskFor resolves (path ∷ paths) (name ∷ names) = AsksFor resolves path name × AskFor resolves paths names
+
+-- Each of paths that are accepted asks for a name.
+abbrev pub AcceptedAskFor : Type 0
+AcceptedAskFor =
+    (lookups : List ℕ → Lookup) (resolves : List ℕ → Option (List ℕ)) (limit : ℕ) (paths : List (List ℕ)) (done later : List Done)
+    → closure lookups resolves limit paths done ≡ (later, Accepted) → (names : List (List ℕ)) × AskFor resolves paths names
 
 -- The look-up is a file from no path that declares this name: among the records before, it keeps the rules and is linked to this record.
 -- So it has the imports of that record too, since linking keeps them.

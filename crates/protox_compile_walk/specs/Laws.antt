@@ -1,11 +1,26 @@
 -- What holds of openings.
-use Rattle.std.specs.Prelude.{◌≡◌, ◌⊎◌, ℕ, List, true, Option, Some}
+use Rattle.std.specs.Prelude.{◌≡◌, ◌⊎◌, [], ℕ, List, true, Option, Some}
+use Rattle.pbx_link_rules.specs.Pool.{ArePooled}
+use Rattle.protox_io.specs.FileNames.{name_of}
 use Rattle.protox_file_sources.specs.Told.{Told, Lookup, AreLookups, AreComplete, ByLookups}
 use Rattle.protox_file_error.specs.declared.error.ErrorKind.{ErrorKind}
-use Rattle.protox_compile_walk.specs.Walk.{Done, Fault, is_done}
+use Rattle.protox_compile_walk.specs.Walk.{Done, Fault, is_done, records}
 use Rattle.protox_compile_walk.specs.Opening.{Ended, Accepted, Refused, IsDecided, mark, opening, closure, root_of}
 use Rattle.protox_compile_walk.specs.Refusals.{RefusesOpening}
 use Rattle.protox_compile_walk.specs.Closures.{StopsAt}
+use Rattle.protox_compile_walk.specs.Compiled.{IsOrdered}
+
+-- The name that a path asks for names itself.
+abbrev pub RootsAreNames : Type 0
+RootsAreNames =
+    (resolves : List ℕ → Option (List ℕ)) (path name : List ℕ) (asked : Option (List ℕ)) → root_of resolves path ≡ Some (name, asked)
+    → name_of name ≡ Some name
+
+-- A path that a resolver knows by a name that names itself asks for this name.
+abbrev pub KnownAreRoots : Type 0
+KnownAreRoots =
+    (resolves : List ℕ → Option (List ℕ)) (path name : List ℕ) → resolves path ≡ Some name → name_of name ≡ Some name
+    → root_of resolves path ≡ Some (name, Some path)
 
 -- The opening was accepted, and changes the mark of the name alone, or it was refused, and changes nothing.
 abbrev pub IsOpenedAgain : List ℕ → List Done → List Done × Ended → Type 0
@@ -59,3 +74,9 @@ StopsByAll =
     (files : List ℕ → Told) (resolves : List ℕ → Option (List ℕ)) (limit : ℕ) (paths : List (List ℕ)) (done later : List Done) (error : ErrorKind)
     (all : List ℕ → Lookup) → AreLookups files all → AreComplete all
     → ByLookups files (λ some. StopsAt some resolves limit paths done later error) → StopsAt all resolves limit paths done later error
+
+-- What openings finish, from nothing on, is in order, each file once and behind its imports, and its records are a pool, however they end.
+abbrev pub ClosedAreOrdered : Type 0
+ClosedAreOrdered =
+    (lookups : List ℕ → Lookup) (resolves : List ℕ → Option (List ℕ)) (limit : ℕ) (paths : List (List ℕ)) (later : List Done) (end : Ended)
+    → closure lookups resolves limit paths [] ≡ (later, end) → IsOrdered [] later × ArePooled [] (records later)

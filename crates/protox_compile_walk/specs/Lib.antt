@@ -9,3 +9,5 @@ pub mod Opens
 pub mod Indexes
 pub mod Laws
 pub mod Again
+pub mod PostOrder
+pub mod Order

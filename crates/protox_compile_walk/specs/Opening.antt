@@ -1,5 +1,5 @@
 -- What opening a path does to the finished files and their marks.
-use Rattle.std.specs.Prelude.{◌∷◌, [], ℕ, List, Bool, true, false, if◌then◌else◌, Option, Some, None, option_map}
+use Rattle.std.specs.Prelude.{◌∷◌, [], ℕ, List, Bool, true, false, if◌then◌else◌, Option, Some, None, option_map, option_and_then}
 use Rattle.std.specs.Str.{bytes_eq}
 use Rattle.protox_io.specs.FileNames.{name_of, path_equal}
 use Rattle.protox_file_sources.specs.Told.{Lookup}
@@ -39,9 +39,10 @@ root_by (Some name) path own = Some (name, Some path)
 root_by None path None = None
 root_by None path (Some name) = Some (name, None)
 
--- the same, of a resolver and the name that the path has of itself
+-- The same, of a resolver and the name that the path has of itself. What a resolver knows a path by is taken as a name, which changes
+-- nothing over any resolver: it resolves paths to names alone, and a name names itself.
 abbrev pub root_of : (List ℕ → Option (List ℕ)) → List ℕ → Option (List ℕ × Option (List ℕ))
-root_of resolves path = root_by (resolves path) path (name_of path)
+root_of resolves path = root_by (option_and_then name_of (resolves path)) path (name_of path)
 
 -- the path that was asked, where it was resolved
 abbrev pub asked_path : Bool → List ℕ → Option (List ℕ)

@@ -15,5 +15,8 @@ mod step;
 mod walk;
 
 pub use finished::FinishedFiles;
-pub use laws::{closes_again, opening_again_marks, opens_by_all, opens_once};
+pub use laws::{
+    closed_are_ordered, closes_again, closure_is_post_order, opening_again_marks, opens_by_all,
+    opens_once, roots_name_themselves,
+};
 pub use root::{Opened, open_path};

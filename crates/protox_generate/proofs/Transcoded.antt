@@ -1,5 +1,5 @@
 -- What the files of a number and their tree come to.
-use Rattle.std.proofs.Common.{◌≡◌, ◌∷◌, ◌++◌, ◌⊎◌, inl, inr, [], ℕ, ◌+◌, List, true, false, IsTrue, Some, refl, subst, add-one}
+use Rattle.std.proofs.Common.{◌≡◌, ◌∷◌, ◌++◌, ◌⊎◌, [], ℕ, ◌+◌, List, true, false, Some, refl, subst, add-one}
 use Rattle.serde_json.specs.Data.{Data}
 use Rattle.serde_json.specs.Read.{read as read_text}
 use Rattle.serde_json.specs.Written.{has_float, compact_text}
@@ -7,12 +7,12 @@ use Rattle.pbx_link_meaning.specs.Shapes.{shape_of, place_of}
 use Rattle.pbx_json_meaning.specs.Laws.{CanonicalIsPlain}
 use Rattle.pbx_json_meaning.specs.Options.{default_writing}
 use Rattle.protox_io.specs.Count.{Count}
-use Rattle.protox_file_error.specs.declared.error.ErrorKind.TheVariants as kinds
 use Rattle.protox_file_sources.specs.Causes.{FaultCause}
 use Rattle.protox_compile_walk.specs.Walk.{records}
 use Rattle.protox_transcode.specs.Top.{ForFiles, IsCaused, IsTranscoded, Refuses, is_refusal}
 use Rattle.protox_transcode.specs.declared.error.TopError.{TopError}
 use Rattle.protox_transcode.specs.declared.error.TopError.TheVariants as top
+use Rattle.protox_transcode.proofs.Again.{unfailing}
 use Rattle.protox_generate.specs.Sources.{file_name, type_name, source, tree_text, files_to}
 use Rattle.protox_generate.specs.Files.{sources}
 use Rattle.protox_generate.specs.Summary.{summary, Summarizes, RefusesNumber}
@@ -41,32 +41,7 @@ module _ (number : ℕ) (files : List (List ℕ × List ℕ)) (tree : Data) (all
   refused top.TooDeep h = (tree, read, (let P : List (List ℕ × List ℕ) → Type 0 = λ fs. Refuses (sources fs).files (sources fs).resolves (file_name number ∷ []) (type_name number) tree top.TooDeep in subst P all h))
   refused top.NoMemory h = tt
 
-none : IsTrue false → ⊥
-none h = cc
-
 -- files that never fail to open have no fault
 pub settled : (files : List (List ℕ × List ℕ)) (before later : Count) (error : TopError) → IsCaused (FaultCause (sources files) before later) error
     → (is_refusal error ≡ true) ⊎ (error ≡ top.NoMemory)
-settled files before later (top.File (kinds.Parse e)) h = inl refl
-settled files before later (top.File (kinds.Check e)) h = inl refl
-settled files before later (top.File (kinds.OpenFile a b c)) h = absurd (none h.1)
-settled files before later (top.File (kinds.FileTooLarge a)) h = inl refl
-settled files before later (top.File (kinds.FileInvalidUtf8 a)) h = inl refl
-settled files before later (top.File (kinds.FileNotFound a)) h = inl refl
-settled files before later (top.File (kinds.ImportNotFound a b c d)) h = inl refl
-settled files before later (top.File (kinds.CircularImport a b)) h = inl refl
-settled files before later (top.File (kinds.FileNotIncluded a)) h = inl refl
-settled files before later (top.File (kinds.FileShadowed a b c)) h = inl refl
-settled files before later (top.File (kinds.DuplicateImport a b c d)) h = inl refl
-settled files before later (top.File (kinds.ImportEscapes a b c d)) h = inl refl
-settled files before later (top.File (kinds.Custom a b)) h = absurd (none h.1.1)
-settled files before later (top.File (kinds.NameMismatch a b)) h = inl refl
-settled files before later (top.File (kinds.FileLimit a)) h = inl refl
-settled files before later (top.File (kinds.Undecodable a)) h = inl refl
-settled files before later (top.File kinds.NoMemory) h = absurd h
-settled files before later (top.JsonNames m k) h = inl refl
-settled files before later (top.WellKnownShape m) h = inl refl
-settled files before later (top.TypeNotFound n) h = inl refl
-settled files before later (top.Json e) h = inl refl
-settled files before later top.TooDeep h = inl refl
-settled files before later top.NoMemory h = inr refl
+settled files before later error h = unfailing (sources files) refl before later error h

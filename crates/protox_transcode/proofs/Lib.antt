@@ -3,3 +3,4 @@ pub mod SetOf
 pub mod Transcoding
 pub mod Determined
 pub mod Refused
+pub mod Again

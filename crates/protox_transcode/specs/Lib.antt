@@ -3,3 +3,4 @@ pub mod Top
 pub mod Input
 pub mod Parts
 pub mod Laws
+pub mod Again

@@ -1,7 +1,9 @@
+ghost use Rattle.protox_compile.specs.Repeats.{NamesRepeatAsPaths};
+ghost use Rattle.protox_transcode.specs.Again.{TranscodesAgain, TranscodedIsRead, TranscodedAskFor};
 ghost use Rattle.protox_transcode.specs.Laws.{KindsAreBroken, RefusedOnce, TranscodedAlone, TranscodedOnce};
 
 use pbx_json_meaning::first_fault_is_one_place;
-use protox_compile::opens_once;
+use protox_compile::{names_repeat_as_paths, opens_once, roots_name_themselves, set_opens_again};
 
 /// Of any paths, any options, and any resolver that tells its files: where `compile_and_transcode` gives a set, wire bytes
 /// and a tree, it refuses the paths, the type's name and the tree for no reason, want of memory and faults aside, and the
@@ -24,4 +26,21 @@ pub fn refused_is_determined()
     opens_once();
     // The place of a tree's fault is one.
     first_fault_is_one_place();
+}
+
+/// The fixpoint: of any paths, any options, and any resolver that tells its files, where `compile_and_transcode` gives a set,
+/// wire bytes and a tree, it gives the same three, or wants memory, over `DescriptorSetFileResolver::decode` of the set, by
+/// the names that the paths ask for, with the same type's name and options, and the same tree or the written one; the same
+/// of the names are given again as of the paths. The set is read, want of memory aside, and each path asks for a name.
+pub fn transcodes_again()
+    ensures again { TranscodesAgain }
+    ensures read { TranscodedIsRead }
+    ensures asked { TranscodedAskFor }
+    // The same paths are given again.
+    ensures repeated { NamesRepeatAsPaths }
+{
+    opens_once();
+    roots_name_themselves();
+    set_opens_again();
+    names_repeat_as_paths();
 }
