@@ -4,8 +4,13 @@ use Rattle.serde_json.specs.Data.{Data}
 use Rattle.serde_json.specs.Written.{compact_text}
 use Rattle.pbx_desc_records.specs.declared.file.FileDescriptorProto.{FileDescriptorProto}
 use Rattle.pbx_json_meaning.specs.Options.{default_writing}
-use Rattle.protox_io.specs.Disk.{Volume}
+use Rattle.protox_io.specs.Disk.{Volume, Held, Missing, Oversized, Stored}
+use Rattle.pbx_desc_encoding.specs.Content.{file_set_content}
 use Rattle.protox_file_sources.specs.Library.{Library}
+use Rattle.protox_file_sources.specs.Told.{Entry}
+use Rattle.protox_file.specs.Listed.{listed_files}
+use Rattle.protox_file.specs.Laws.{SetsReadOnce}
+use Rattle.protox_file.proofs.Sets.{decodes_files}
 use Rattle.protox_compile_walk.specs.Walk.{Done}
 use Rattle.protox_compile_walk.specs.Opening.{closure}
 use Rattle.protox_compile_walk.specs.Laws.{ClosesOnce}
@@ -22,7 +27,8 @@ use Rattle.protox_generate.specs.Files.{generated}
 use Rattle.protox_generate.specs.Summary.{ForTreeOf, RefusesNumber, summary}
 use Rattle.serde_json.specs.Read.{read as read_text}
 use Rattle.protox_words.specs.Words.{Args}
-use Rattle.protox_run.specs.Class.{limit, json_of, library_of, options_of, Write, write_to, Ready, Refusing, Transcoding, Compiling, WritesSet, set_of, Generated, Generating, Task, Generate, Transcode, Compile, task, ComesTo, Judges}
+use Rattle.protox_run.specs.Class.{limit, json_of, IsLibrary, LacksSet, IsStoredSet, IsNoSet, set_at, RefusedWith, RefusedSet, Transcoded, Compiled, options_of, Write, write_to, Ready, Refusing, Transcoding, Compiling, WritesSet, set_of, Generated, Generating, Task, Generate, Transcode, Compile, task, ComesTo, Judges}
+use Rattle.protox_run.specs.Laws.{NoSetAlone}
 use Rattle.protox_run.specs.declared.stop.Refusal.{Refusal}
 use Rattle.protox_run.specs.declared.stop.Refusal.TheVariants.{TooLong, NotJson, Top}
 
@@ -49,41 +55,87 @@ writes_once (Some path) files writes later h k =
     let set : h.1.0 ≡ k.1.0 = h.1.1.0 ∙ sym k.1.1.0 in
     h.1.2 ∙ ap (λ bytes. record { path = path; bytes = bytes } ∷ []) set ∙ sym k.1.2
 
-module _ (once : ClosesOnce) (a : Args) (disk : Volume) where
-  compiled_alone : (writes : List Write) (text : List ℕ) (refusal : Refusal) → Compiling a disk (Ready writes text) → Compiling a disk (Refusing refusal) → ⊥
-  compiled_alone writes text TooLong h r = r
-  compiled_alone writes text NotJson h r = r
-  compiled_alone writes text (Top line) h r = elim r.2 [
-    | inl walk ↦ accepted_alone once (library_of a disk).files (library_of a disk).resolves a.files (λ files. Unit {0}) r.0 r.1 (h.0.0, h.0.1, (h.0.2.0, h.0.2.1, tt)) walk
-    | inr deep ↦ (let both = among once (library_of a disk) a.files (λ done. WritesSet a.output (set_of a done) writes) (λ done. (is_some a.output ≡ true) × IsUndecodable (set_of a done) r.0) h.0 deep in
+-- where the files come from is one library
+same_stored : SetsReadOnce → (held : Held) (es fs : List Entry) → IsStoredSet held es → IsStoredSet held fs → es ≡ fs
+same_stored read Missing es fs h k = absurd h
+same_stored read Oversized es fs h k = absurd h
+same_stored read (Stored bytes) es fs h k = read bytes es fs h k
+
+one_library : SetsReadOnce → (o : Option (List ℕ)) (a : Args) (disk : Volume) (some other : Library) → IsLibrary o a disk some → IsLibrary o a disk other → some ≡ other
+one_library read None a disk some other h k = h ∙ sym k
+one_library read (Some path) a disk some other h k = h.2 ∙ ap listed_files (same_stored read (set_at disk path) h.0 k.0 h.1 k.1) ∙ sym k.2
+
+-- and then no set is lacking
+stored_is_set : (held : Held) (es : List Entry) (path line : List ℕ) → IsStoredSet held es → IsNoSet path held line → ⊥
+stored_is_set Missing es path line h n = h
+stored_is_set Oversized es path line h n = h
+stored_is_set (Stored bytes) es path line h n = let decodes = decodes_files bytes es h in let none : None ≡ Some (file_set_content decodes.0) = sym n.0 ∙ decodes.1 in cc
+
+lacks_none : (o : Option (List ℕ)) (a : Args) (disk : Volume) (library : Library) (line : List ℕ) → IsLibrary o a disk library → LacksSet o disk line → ⊥
+lacks_none None a disk library line h n = n
+lacks_none (Some path) a disk library line h n = stored_is_set (set_at disk path) h.0 path line h.1 n
+
+pub no_set_alone : NoSetAlone
+no_set_alone a disk line n h = lacks_none a.descriptor_set_in a disk h.0 line h.1 n
+
+module _ (once : ClosesOnce) (a : Args) where
+  -- over one library
+  compiled_not : (library : Library) (writes : List Write) (text line : List ℕ) → Compiled a library writes text → RefusedSet a library line → ⊥
+  compiled_not library writes text line h r = elim r.3 [
+    | inl walk ↦ accepted_alone once library.files library.resolves a.files (λ files. Unit {0}) r.0 r.1 (h.0.0, h.0.1, (h.0.2.0, h.0.2.1, tt)) walk
+    | inr deep ↦ (let both = among once library a.files (λ done. WritesSet a.output (set_of a done) writes) (λ done. (is_some a.output ≡ true) × IsUndecodable (set_of a done) r.0) h.0 deep in
         decodable (set_of a h.0.2.0) r.0 (writes_decodable a.output (set_of a h.0.2.0) writes both.0 h.0.2.2) both.1)
   ]
 
+  compiled_same : (library : Library) (writes later : List Write) (text other : List ℕ) → Compiled a library writes text → Compiled a library later other → (writes ≡ later) × (text ≡ other)
+  compiled_same library writes later text other h k =
+      let both = among once library a.files (λ done. WritesSet a.output (set_of a done) writes) (λ done. WritesSet a.output (set_of a done) later) h.0 k.0 in
+      (writes_once a.output (set_of a h.0.2.0) writes later h.0.2.2 both, h.1 ∙ sym k.1)
+
+  transcoded_not : (library : Library) (name : List ℕ) (tree : Data) (writes : List Write) (text line : List ℕ) → Transcoded a name library tree writes text → RefusedWith a name library tree line → ⊥
+  transcoded_not library name tree writes text line h r =
+      refuses_not once library.files library.resolves a.files name tree (options_of a) h.0 h.1 h.2 r.0 r.1 h.3 r.3
+
+  transcoded_same : (library : Library) (name : List ℕ) (tree : Data) (writes later : List Write) (text other : List ℕ) → Transcoded a name library tree writes text → Transcoded a name library tree later other
+      → (writes ≡ later) × (text ≡ other)
+  transcoded_same library name tree writes later text other x y =
+      let both = files_once once library.files library.resolves a.files name tree (options_of a) x.0 x.1 x.2 y.0 y.1 y.2 x.3 y.3 in (
+        x.4 ∙ ap (λ set. write_to a.output set ++ write_to a.wire x.1) both.0 ∙ ap (λ wire. write_to a.output y.0 ++ write_to a.wire wire) both.1 ∙ sym y.4,
+        x.5 ∙ ap (λ d. compact_text d ++ codes "\n") both.2 ∙ sym y.5,
+      )
+
+module _ (once : ClosesOnce) (read : SetsReadOnce) (a : Args) (disk : Volume) where
+  one : (some other : Library) → IsLibrary a.descriptor_set_in a disk some → IsLibrary a.descriptor_set_in a disk other → some ≡ other
+  one some other h k = one_library read a.descriptor_set_in a disk some other h k
+
+  compiled_alone : (writes : List Write) (text : List ℕ) (refusal : Refusal) → Compiling a disk (Ready writes text) → Compiling a disk (Refusing refusal) → ⊥
+  compiled_alone writes text TooLong h r = r
+  compiled_alone writes text NotJson h r = r
+  compiled_alone writes text (Top line) h (inl n) = lacks_none a.descriptor_set_in a disk h.0 line h.1 n
+  compiled_alone writes text (Top line) h (inr r) =
+      let P : Library → Type 0 = λ l. RefusedSet a l line in compiled_not once a h.0 writes text line h.2 (subst P (one r.0 h.0 r.1 h.1) r.2)
+
   compiled_once : (writes : List Write) (text : List ℕ) (later : List Write) (other : List ℕ) → Compiling a disk (Ready writes text) → Compiling a disk (Ready later other) → (writes ≡ later) × (text ≡ other)
   compiled_once writes text later other h k =
-      let both = among once (library_of a disk) a.files (λ done. WritesSet a.output (set_of a done) writes) (λ done. WritesSet a.output (set_of a done) later) h.0 k.0 in
-      (writes_once a.output (set_of a h.0.2.0) writes later h.0.2.2 both, h.1 ∙ sym k.1)
+      let P : Library → Type 0 = λ l. Compiled a l later other in compiled_same once a h.0 writes later text other h.2 (subst P (one k.0 h.0 k.1 h.1) k.2)
 
   transcoded_alone : (name input : List ℕ) (writes : List Write) (text : List ℕ) (refusal : Refusal) → Transcoding a name disk input (Ready writes text) → Transcoding a name disk input (Refusing refusal) → ⊥
   transcoded_alone name input writes text TooLong h r = let short : length input ≤ limit = h.0 in omega (arith, short, r)
   transcoded_alone name input writes text NotJson h r = let e : None ≡ Some h.1.0 = sym r.1 ∙ h.1.1 in cc
-  transcoded_alone name input writes text (Top line) h r =
-      let same : r.1.0 ≡ h.1.0 = same_tree input r.1.0 h.1.0 r.1.1 h.1.1 in
+  transcoded_alone name input writes text (Top line) h (len, (tree, is, inl n)) = lacks_none a.descriptor_set_in a disk h.1.2.0 line h.1.2.1 n
+  transcoded_alone name input writes text (Top line) h (len, (tree, is, inr r)) =
       let given = h.1.2 in
-      let refused = r.1.2 in
-      let Q : Data → Type 0 = λ d. Refuses (library_of a disk).files (library_of a disk).resolves a.files name d refused.0 in
-      refuses_not once (library_of a disk).files (library_of a disk).resolves a.files name h.1.0 (options_of a) given.0 given.1 given.2 refused.0 refused.1 given.3 (subst Q same refused.2)
+      let P : Library → Type 0 = λ l. RefusedWith a name l h.1.0 line in
+      let Q : Data → Type 0 = λ d. RefusedWith a name r.0 d line in
+      transcoded_not once a given.0 name h.1.0 writes text line given.2 (subst P (one r.0 given.0 r.1 given.1) (subst Q (same_tree input tree h.1.0 is h.1.1) r.2))
 
   transcoded_once : (name input : List ℕ) (writes : List Write) (text : List ℕ) (later : List Write) (other : List ℕ) → Transcoding a name disk input (Ready writes text) → Transcoding a name disk input (Ready later other) → (writes ≡ later) × (text ≡ other)
   transcoded_once name input writes text later other h k =
-      let same : k.1.0 ≡ h.1.0 = same_tree input k.1.0 h.1.0 k.1.1 h.1.1 in
       let x = h.1.2 in
       let y = k.1.2 in
-      let P : Data → Type 0 = λ d. ForFiles (library_of a disk).files (library_of a disk).resolves a.files (λ fs. IsTranscoded name d (options_of a) fs y.0 y.1 y.2) in
-      let both = files_once once (library_of a disk).files (library_of a disk).resolves a.files name h.1.0 (options_of a) x.0 x.1 x.2 y.0 y.1 y.2 x.3 (subst P same y.3) in (
-        x.4 ∙ ap (λ set. write_to a.output set ++ write_to a.wire x.1) both.0 ∙ ap (λ wire. write_to a.output y.0 ++ write_to a.wire wire) both.1 ∙ sym y.4,
-        x.5 ∙ ap (λ d. compact_text d ++ codes "\n") both.2 ∙ sym y.5,
-      )
+      let P : Library → Type 0 = λ l. Transcoded a name l h.1.0 later other in
+      let Q : Data → Type 0 = λ d. Transcoded a name y.0 d later other in
+      transcoded_same once a x.0 name h.1.0 writes later text other x.2 (subst P (one y.0 x.0 y.1 x.1) (subst Q (same_tree input k.1.0 h.1.0 k.1.1 h.1.1) y.2))
 
 -- a number
 number_tree : (number : ℕ) (error : TopError) → is_refusal error ≡ true → RefusesNumber number error → ForTreeOf number (λ tree.
@@ -122,18 +174,18 @@ generated_once once number writes text later other h k =
     g.4 ∙ ap (λ s. summary number s g.1 (compact_text g.2)) both.0 ∙ ap (λ w. summary number l.0 w (compact_text g.2)) both.1 ∙ ap (λ d. summary number l.0 l.1 (compact_text d)) both.2 ∙ sym l.4 in
     (h.0 ∙ sym k.0, h.1.2 ∙ ap (λ n. n ++ codes "\n") line ∙ sym k.1.2)
 
-pub done_alone : ClosesOnce → (args : Args) (disk : Volume) (input : List ℕ) (writes : List Write) (text : List ℕ) (refusal : Refusal) → Judges args disk input (Ready writes text) → Judges args disk input (Refusing refusal) → ⊥
-done_alone once args disk input writes text refusal h r = at (task args) h r
+pub done_alone : ClosesOnce → SetsReadOnce → (args : Args) (disk : Volume) (input : List ℕ) (writes : List Write) (text : List ℕ) (refusal : Refusal) → Judges args disk input (Ready writes text) → Judges args disk input (Refusing refusal) → ⊥
+done_alone once read args disk input writes text refusal h r = at (task args) h r
   where
     at : (o : Task) → ComesTo o args disk input (Ready writes text) → ComesTo o args disk input (Refusing refusal) → ⊥
     at (Generate number) h r = generated_alone once number writes text refusal h r
-    at Compile h r = compiled_alone once args disk writes text refusal h r
-    at (Transcode name) h r = transcoded_alone once args disk name input writes text refusal h r
+    at Compile h r = compiled_alone once read args disk writes text refusal h r
+    at (Transcode name) h r = transcoded_alone once read args disk name input writes text refusal h r
 
-pub done_once : ClosesOnce → (args : Args) (disk : Volume) (input : List ℕ) (writes : List Write) (text : List ℕ) (later : List Write) (other : List ℕ) → Judges args disk input (Ready writes text) → Judges args disk input (Ready later other) → (writes ≡ later) × (text ≡ other)
-done_once once args disk input writes text later other h k = at (task args) h k
+pub done_once : ClosesOnce → SetsReadOnce → (args : Args) (disk : Volume) (input : List ℕ) (writes : List Write) (text : List ℕ) (later : List Write) (other : List ℕ) → Judges args disk input (Ready writes text) → Judges args disk input (Ready later other) → (writes ≡ later) × (text ≡ other)
+done_once once read args disk input writes text later other h k = at (task args) h k
   where
     at : (o : Task) → ComesTo o args disk input (Ready writes text) → ComesTo o args disk input (Ready later other) → (writes ≡ later) × (text ≡ other)
     at (Generate number) h k = generated_once once number writes text later other h k
-    at Compile h k = compiled_once once args disk writes text later other h k
-    at (Transcode name) h k = transcoded_once once args disk name input writes text later other h k
+    at Compile h k = compiled_once once read args disk writes text later other h k
+    at (Transcode name) h k = transcoded_once once read args disk name input writes text later other h k

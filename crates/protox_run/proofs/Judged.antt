@@ -1,5 +1,5 @@
 -- From the answers of the parts to what a run comes to.
-use Rattle.std.proofs.Common.{◌≡◌, ◌∷◌, ◌++◌, ◌∙◌, [], ◌≤◌, ◌⊎◌, Bool, true, false, inl, inr, if◌then◌else◌, IsTrue, Result, Ok, Err, IfOk, IfErr, ℕ, List, length, map, refl, Some, is_some, ap, sym, subst, codes}
+use Rattle.std.proofs.Common.{◌≡◌, ◌∷◌, ◌++◌, ◌∙◌, [], ◌≤◌, ◌⊎◌, Bool, true, false, inl, inr, if◌then◌else◌, IsTrue, Result, Ok, Err, IfOk, IfErr, ℕ, List, length, map, refl, Option, Some, None, is_some, ap, sym, subst, codes}
 use Rattle.std.specs.Prelude.{◌||◌}
 use Rattle.std.specs.List.{list_any}
 use Rattle.serde_json.specs.Data.{Data}
@@ -15,9 +15,10 @@ use Rattle.protox_file_error.specs.Errors.{IsWhole}
 use Rattle.protox_file_error.specs.declared.error.ErrorKind.{ErrorKind}
 use Rattle.protox_file_error.specs.declared.error.ErrorKind.TheVariants as kinds
 use Rattle.protox_file_sources.specs.Causes.{IsNamedFault, FaultCause}
-use Rattle.protox_file_sources.specs.Library.{Library, below, pooled, may_fail_at}
+use Rattle.protox_file_sources.specs.Library.{Library, below, pooled, may_fail_at, never}
 use Rattle.protox_io.specs.FileNames.{joined, resolved}
-use Rattle.protox_file_sources.specs.Told.{ByLookups}
+use Rattle.protox_file_sources.specs.Told.{ByLookups, Entry}
+use Rattle.protox_file.specs.Listed.{listed_files}
 use Rattle.std.specs.Option.{option_or}
 use Rattle.protox_file.specs.Chained.{first_resolved}
 use Rattle.protox_file.specs.Standard.{Folders, standard}
@@ -36,9 +37,11 @@ use Rattle.protox_transcode.proofs.Determined.{no_fault}
 use Rattle.protox_transcode.proofs.Judged.{compiling_caused}
 use Rattle.protox_generate.specs.Summary.{RefusesNumber}
 use Rattle.protox_words.specs.Words.{Args, folders}
-use Rattle.protox_run.specs.Class.{limit, json_of, library_of, options_of, Write, Refusing, write_to, Ending, Transcoded, RefusesSet, set_of, Task, Generate, Transcode, Compile, task, ComesTo, Judges, is_transcode, reads_input, repeated_by, repeated_of, resolves_of}
-use Rattle.protox_run.specs.Stops.{Input, Reading, Writing, Printing}
-use Rattle.protox_run.specs.Parts.{IsInputStop, IsStopOf, IsTreeStop, IsTranscodingStop, IsSetRefusal, IsSetStop, IsFileCause, IsGeneratedStop, PlanStops}
+use Rattle.protox_run.specs.Class.{limit, json_of, folder_files, set_at, IsStoredSet, IsLibrary, LacksSet, options_of, Write, Refusing, write_to, Ending, Transcoded, RefusedWith, IsWholeError, RefusesSet, RefusedSet, set_of, Task, Generate, Transcode, Compile, task, ComesTo, Judges, is_transcode, reads_input, repeated_by, repeated_of, resolves_by, resolves_of}
+use Rattle.protox_run.specs.Stops.{Input, Reading, Writing, Printing, IsFaultLineBy, IsToldFaultLineBy}
+use Rattle.protox_run.specs.Parts.{IsInputStop, IsStopOf, IsTranscodingStop, IsSetRefusal, IsJobRefusal, RefusesJob, IsFileStop, IsFileCause, IsReadStop, IsReadCause, IsGeneratedStop, PlanStops}
+use Rattle.protox_run.specs.declared.files.Job.{Job}
+use Rattle.protox_run.specs.declared.files.Job.TheVariants as jobs
 use Rattle.protox_run.specs.Told.{Stop, Words, Refused, Broken, NoMemory}
 use Rattle.protox_run.specs.declared.stop.Refusal.TheVariants.{TooLong, NotJson, Top}
 
@@ -90,96 +93,211 @@ faulted files (kinds.FileLimit n) f h = h
 faulted files (kinds.Undecodable file) f h = cc
 faulted files kinds.NoMemory f h = h
 
-fault_of : (rose : Type 0) (args : Args) (error : ErrorKind) → is_fault error ≡ true → IsCaused (λ e. rose × IsNamedFault (library_of args untold).may_fail e) (top.File error)
-    → rose × IsNamedFault (library_of args untold).may_fail error
-fault_of rose args (kinds.Parse e) f c = absurd (cc)
-fault_of rose args (kinds.Check e) f c = absurd (cc)
-fault_of rose args (kinds.OpenFile name path words) f c = c
-fault_of rose args (kinds.FileTooLarge name) f c = absurd (cc)
-fault_of rose args (kinds.FileInvalidUtf8 name) f c = absurd (cc)
-fault_of rose args (kinds.FileNotFound name) f c = absurd (cc)
-fault_of rose args (kinds.ImportNotFound file index place name) f c = absurd (cc)
-fault_of rose args (kinds.CircularImport name cycle) f c = absurd (cc)
-fault_of rose args (kinds.FileNotIncluded path) f c = absurd (cc)
-fault_of rose args (kinds.FileShadowed name path shadow) f c = absurd (cc)
-fault_of rose args (kinds.DuplicateImport file index place name) f c = absurd (cc)
-fault_of rose args (kinds.ImportEscapes file index place name) f c = absurd (cc)
-fault_of rose args (kinds.Custom text is_io) f c = c
-fault_of rose args (kinds.NameMismatch asked declared) f c = absurd (cc)
-fault_of rose args (kinds.FileLimit n) f c = absurd (cc)
-fault_of rose args (kinds.Undecodable file) f c = absurd (cc)
-fault_of rose args kinds.NoMemory f c = absurd c
+fault_of : (rose : Type 0) (may : List ℕ → ErrorKind → Bool) (error : ErrorKind) → is_fault error ≡ true → IsCaused (λ e. rose × IsNamedFault may e) (top.File error)
+    → rose × IsNamedFault may error
+fault_of rose may (kinds.Parse e) f c = absurd (cc)
+fault_of rose may (kinds.Check e) f c = absurd (cc)
+fault_of rose may (kinds.OpenFile name path words) f c = c
+fault_of rose may (kinds.FileTooLarge name) f c = absurd (cc)
+fault_of rose may (kinds.FileInvalidUtf8 name) f c = absurd (cc)
+fault_of rose may (kinds.FileNotFound name) f c = absurd (cc)
+fault_of rose may (kinds.ImportNotFound file index place name) f c = absurd (cc)
+fault_of rose may (kinds.CircularImport name cycle) f c = absurd (cc)
+fault_of rose may (kinds.FileNotIncluded path) f c = absurd (cc)
+fault_of rose may (kinds.FileShadowed name path shadow) f c = absurd (cc)
+fault_of rose may (kinds.DuplicateImport file index place name) f c = absurd (cc)
+fault_of rose may (kinds.ImportEscapes file index place name) f c = absurd (cc)
+fault_of rose may (kinds.Custom text is_io) f c = c
+fault_of rose may (kinds.NameMismatch asked declared) f c = absurd (cc)
+fault_of rose may (kinds.FileLimit n) f c = absurd (cc)
+fault_of rose may (kinds.Undecodable file) f c = absurd (cc)
+fault_of rose may kinds.NoMemory f c = absurd c
 
 walked : (library : Library) (paths : List (List ℕ)) (error : ErrorKind) → is_fault error ≡ true → RefusesFiles library.files library.resolves paths error → StopsWalk library paths error
 walked library paths error f (inl h) = h
 walked library paths error f (inr h) = absurd (faulted (records h.2.0) error f h.2.2)
-
-pub tree_stop : (args : Args) (name : List ℕ) (disk : Volume) (tree : Data) (error : TopError) (rose : Type 0) (stop : Stop) → IsStopOf error stop → IsCaused (λ e. rose × IsNamedFault (library_of args untold).may_fail e) error
-    → Refuses (library_of args disk).files (library_of args disk).resolves args.files name tree error → IsTreeStop args name disk tree stop
-tree_stop args name disk tree error rose (Words fault) s k h = absurd s
-tree_stop args name disk tree error rose (Refused TooLong) s k h = absurd s
-tree_stop args name disk tree error rose (Refused NotJson) s k h = absurd s
-tree_stop args name disk tree error rose (Refused (Top line)) s k h = (error, s.0, h, s.1)
-tree_stop args name disk tree error rose (Broken Input) s k h = absurd s
-tree_stop args name disk tree (top.File error) rose (Broken (Reading line)) s k h =
-    (error, (fault_of rose args error s.0 k).1, walked (library_of args disk) args.files error s.0 h, s.1)
-tree_stop args name disk tree (top.JsonNames message key) rose (Broken (Reading line)) s k h = absurd s
-tree_stop args name disk tree (top.WellKnownShape message) rose (Broken (Reading line)) s k h = absurd s
-tree_stop args name disk tree (top.TypeNotFound n) rose (Broken (Reading line)) s k h = absurd s
-tree_stop args name disk tree top.TooDeep rose (Broken (Reading line)) s k h = absurd s
-tree_stop args name disk tree top.NoMemory rose (Broken (Reading line)) s k h = absurd s
-tree_stop args name disk tree (top.Json e) rose (Broken (Reading line)) s k h = absurd s
-tree_stop args name disk tree error rose (Broken (Writing path)) s k h = absurd s
-tree_stop args name disk tree error rose (Broken Printing) s k h = absurd s
-tree_stop args name disk tree error rose NoMemory s k h = tt
-
-pub file_caused : (args : Args) (error : TopError) (rose : Type 0) (stop : Stop) → IsStopOf error stop → IsCaused (λ e. rose × IsNamedFault (library_of args untold).may_fail e) error
-    → IsFileCause args rose stop
-file_caused args error rose (Words fault) s k = absurd s
-file_caused args error rose (Refused TooLong) s k = absurd s
-file_caused args error rose (Refused NotJson) s k = absurd s
-file_caused args error rose (Refused (Top line)) s k = tt
-file_caused args error rose (Broken Input) s k = absurd s
-file_caused args (top.File error) rose (Broken (Reading line)) s k = let f = fault_of rose args error s.0 k in (f.0, (error, f.1, s.1))
-file_caused args (top.JsonNames message key) rose (Broken (Reading line)) s k = absurd s
-file_caused args (top.WellKnownShape message) rose (Broken (Reading line)) s k = absurd s
-file_caused args (top.TypeNotFound n) rose (Broken (Reading line)) s k = absurd s
-file_caused args top.TooDeep rose (Broken (Reading line)) s k = absurd s
-file_caused args top.NoMemory rose (Broken (Reading line)) s k = absurd s
-file_caused args (top.Json e) rose (Broken (Reading line)) s k = absurd s
-file_caused args error rose (Broken (Writing path)) s k = absurd s
-file_caused args error rose (Broken Printing) s k = absurd s
-file_caused args error rose NoMemory s k = tt
 
 -- without a type
 set_walked : (args : Args) (library : Library) (error : ErrorKind) → is_fault error ≡ true → RefusesSet args library error → StopsWalk library args.files error
 set_walked args library error f (inl h) = h
 set_walked args library error f (inr h) = absurd (faulted (set_of args h.2.0) error f h.2.2.1)
 
-pub set_stop : (args : Args) (disk : Volume) (error : TopError) (rose : Type 0) (stop : Stop) → IsStopOf error stop → IsCaused (λ e. rose × IsNamedFault (library_of args untold).may_fail e) error
-    → IsSetRefusal args (library_of args disk) error → IsSetStop args disk stop
-set_stop args disk error rose (Words fault) s k h = absurd s
-set_stop args disk error rose (Refused TooLong) s k h = absurd s
-set_stop args disk error rose (Refused NotJson) s k h = absurd s
-set_stop args disk (top.File error) rose (Refused (Top line)) s k h = (error, no_fault error s.0, h, s.1)
-set_stop args disk (top.JsonNames message key) rose (Refused (Top line)) s k h = absurd h
-set_stop args disk (top.WellKnownShape message) rose (Refused (Top line)) s k h = absurd h
-set_stop args disk (top.TypeNotFound n) rose (Refused (Top line)) s k h = absurd h
-set_stop args disk top.TooDeep rose (Refused (Top line)) s k h = absurd h
-set_stop args disk top.NoMemory rose (Refused (Top line)) s k h = absurd (cc)
-set_stop args disk (top.Json e) rose (Refused (Top line)) s k h = absurd h
-set_stop args disk error rose (Broken Input) s k h = absurd s
-set_stop args disk (top.File error) rose (Broken (Reading line)) s k h =
-    (error, (fault_of rose args error s.0 k).1, set_walked args (library_of args disk) error s.0 h, s.1)
-set_stop args disk (top.JsonNames message key) rose (Broken (Reading line)) s k h = absurd s
-set_stop args disk (top.WellKnownShape message) rose (Broken (Reading line)) s k h = absurd s
-set_stop args disk (top.TypeNotFound n) rose (Broken (Reading line)) s k h = absurd s
-set_stop args disk top.TooDeep rose (Broken (Reading line)) s k h = absurd s
-set_stop args disk top.NoMemory rose (Broken (Reading line)) s k h = absurd s
-set_stop args disk (top.Json e) rose (Broken (Reading line)) s k h = absurd s
-set_stop args disk error rose (Broken (Writing path)) s k h = absurd s
-set_stop args disk error rose (Broken Printing) s k h = absurd s
-set_stop args disk error rose NoMemory s k h = tt
+-- a fault of the walk ends a job
+job_walked : (job : Job) (args : Args) (library : Library) (error : ErrorKind) → is_fault error ≡ true → IsJobRefusal job args library (top.File error)
+    → StopsWalk library args.files error
+job_walked (jobs.Transcode name tree) args library error f h = walked library args.files error f h
+job_walked jobs.Compile args library error f h = set_walked args library error f h
+
+-- an error with a cause is whole
+whole_of : (fault : ErrorKind → Type 0) (error : TopError) → IsCaused fault error → IsWholeError error
+whole_of fault (top.File (kinds.OpenFile name path words)) h = tt
+whole_of fault (top.File (kinds.Custom text is_io)) h = tt
+whole_of fault (top.File (kinds.Parse x)) h = h
+whole_of fault (top.File (kinds.Check x)) h = h
+whole_of fault (top.File (kinds.FileTooLarge name)) h = tt
+whole_of fault (top.File (kinds.FileInvalidUtf8 name)) h = tt
+whole_of fault (top.File (kinds.FileNotFound name)) h = tt
+whole_of fault (top.File (kinds.ImportNotFound file index place name)) h = tt
+whole_of fault (top.File (kinds.CircularImport name cycle)) h = tt
+whole_of fault (top.File (kinds.FileNotIncluded path)) h = tt
+whole_of fault (top.File (kinds.FileShadowed name path shadow)) h = tt
+whole_of fault (top.File (kinds.DuplicateImport file index place name)) h = tt
+whole_of fault (top.File (kinds.ImportEscapes file index place name)) h = tt
+whole_of fault (top.File (kinds.NameMismatch asked declared)) h = tt
+whole_of fault (top.File (kinds.FileLimit n)) h = tt
+whole_of fault (top.File (kinds.Undecodable file)) h = tt
+whole_of fault (top.File kinds.NoMemory) h = tt
+whole_of fault (top.JsonNames message key) h = tt
+whole_of fault (top.WellKnownShape message) h = tt
+whole_of fault (top.TypeNotFound n) h = tt
+whole_of fault (top.Json e) h = h
+whole_of fault top.TooDeep h = tt
+whole_of fault top.NoMemory h = tt
+
+-- ---- over the folders
+
+module _ (args : Args) (none : args.descriptor_set_in ≡ None) where
+  pub folder_library : (disk : Volume) → IsLibrary args.descriptor_set_in args disk (folder_files args disk)
+  folder_library disk = let P : Option (List ℕ) → Type 0 = λ o. IsLibrary o args disk (folder_files args disk) in subst P (sym none) refl
+
+  pub folder_stop : (job : Job) (disk : Volume) (error : TopError) (rose : Type 0) (stop : Stop) → IsStopOf error stop
+      → IsCaused (λ e. rose × IsNamedFault (folder_files args untold).may_fail e) error → IsJobRefusal job args (folder_files args disk) error
+      → IsFileStop job args disk stop
+  folder_stop job disk error rose (Words fault) s k h = absurd s
+  folder_stop job disk error rose (Refused TooLong) s k h = absurd s
+  folder_stop job disk error rose (Refused NotJson) s k h = absurd s
+  folder_stop job disk error rose (Refused (Top line)) s k h =
+      inr (folder_files args disk, folder_library disk, (error, s.0, whole_of (λ e. rose × IsNamedFault (folder_files args untold).may_fail e) error k, h, s.1))
+  folder_stop job disk error rose (Broken Input) s k h = absurd s
+  folder_stop job disk (top.File error) rose (Broken (Reading line)) s k h =
+      let P : Option (List ℕ) → Type 0 = λ o. IsToldFaultLineBy o args disk line in
+      subst P (sym none) (error, (fault_of rose (folder_files args untold).may_fail error s.0 k).1, job_walked job args (folder_files args disk) error s.0 h, s.1)
+  folder_stop job disk (top.JsonNames message key) rose (Broken (Reading line)) s k h = absurd s
+  folder_stop job disk (top.WellKnownShape message) rose (Broken (Reading line)) s k h = absurd s
+  folder_stop job disk (top.TypeNotFound n) rose (Broken (Reading line)) s k h = absurd s
+  folder_stop job disk top.TooDeep rose (Broken (Reading line)) s k h = absurd s
+  folder_stop job disk top.NoMemory rose (Broken (Reading line)) s k h = absurd s
+  folder_stop job disk (top.Json e) rose (Broken (Reading line)) s k h = absurd s
+  folder_stop job disk error rose (Broken (Writing path)) s k h = absurd s
+  folder_stop job disk error rose (Broken Printing) s k h = absurd s
+  folder_stop job disk error rose NoMemory s k h = tt
+
+  pub folder_caused : (error : TopError) (rose : Type 0) (stop : Stop) → IsStopOf error stop
+      → IsCaused (λ e. rose × IsNamedFault (folder_files args untold).may_fail e) error → IsFileCause args rose stop
+  folder_caused error rose (Words fault) s k = absurd s
+  folder_caused error rose (Refused TooLong) s k = absurd s
+  folder_caused error rose (Refused NotJson) s k = absurd s
+  folder_caused error rose (Refused (Top line)) s k = tt
+  folder_caused error rose (Broken Input) s k = absurd s
+  folder_caused (top.File error) rose (Broken (Reading line)) s k =
+      let f = fault_of rose (folder_files args untold).may_fail error s.0 k in
+      let P : Option (List ℕ) → Type 0 = λ o. IsFaultLineBy o args line in
+      (f.0, subst P (sym none) (error, f.1, s.1))
+  folder_caused (top.JsonNames message key) rose (Broken (Reading line)) s k = absurd s
+  folder_caused (top.WellKnownShape message) rose (Broken (Reading line)) s k = absurd s
+  folder_caused (top.TypeNotFound n) rose (Broken (Reading line)) s k = absurd s
+  folder_caused top.TooDeep rose (Broken (Reading line)) s k = absurd s
+  folder_caused top.NoMemory rose (Broken (Reading line)) s k = absurd s
+  folder_caused (top.Json e) rose (Broken (Reading line)) s k = absurd s
+  folder_caused error rose (Broken (Writing path)) s k = absurd s
+  folder_caused error rose (Broken Printing) s k = absurd s
+  folder_caused error rose NoMemory s k = tt
+
+-- ---- over a set
+
+-- a set never fails
+no_named : (error : ErrorKind) → IsNamedFault never error → ⊥
+no_named (kinds.OpenFile name path words) h = absurd (cc)
+no_named (kinds.Custom text is_io) h = let no = h.1 in absurd (cc)
+no_named (kinds.Parse e) h = h
+no_named (kinds.Check e) h = h
+no_named (kinds.FileTooLarge name) h = h
+no_named (kinds.FileInvalidUtf8 name) h = h
+no_named (kinds.FileNotFound name) h = h
+no_named (kinds.ImportNotFound file index place name) h = h
+no_named (kinds.CircularImport name cycle) h = h
+no_named (kinds.FileNotIncluded path) h = h
+no_named (kinds.FileShadowed name path shadow) h = h
+no_named (kinds.DuplicateImport file index place name) h = h
+no_named (kinds.ImportEscapes file index place name) h = h
+no_named (kinds.NameMismatch asked declared) h = h
+no_named (kinds.FileLimit n) h = h
+no_named (kinds.Undecodable file) h = h
+no_named kinds.NoMemory h = h
+
+never_faults : (rose : Type 0) (error : ErrorKind) → is_fault error ≡ true → IsCaused (λ e. rose × IsNamedFault never e) (top.File error) → ⊥
+never_faults rose error f c = no_named error (fault_of rose never error f c).1
+
+pub set_caused_by : (args : Args) (entries : List Entry) (before now : Count) (error : TopError) (rose : Type 0) (stop : Stop) → IsStopOf error stop
+    → IsCaused (FaultCause (listed_files entries) before now) error → IsFileCause args rose stop
+set_caused_by args entries before now error rose (Words fault) s k = absurd s
+set_caused_by args entries before now error rose (Refused TooLong) s k = absurd s
+set_caused_by args entries before now error rose (Refused NotJson) s k = absurd s
+set_caused_by args entries before now error rose (Refused (Top line)) s k = tt
+set_caused_by args entries before now error rose (Broken Input) s k = absurd s
+set_caused_by args entries before now (top.File error) rose (Broken (Reading line)) s k = absurd (never_faults (Rose before now) error s.0 k)
+set_caused_by args entries before now (top.JsonNames message key) rose (Broken (Reading line)) s k = absurd s
+set_caused_by args entries before now (top.WellKnownShape message) rose (Broken (Reading line)) s k = absurd s
+set_caused_by args entries before now (top.TypeNotFound n) rose (Broken (Reading line)) s k = absurd s
+set_caused_by args entries before now top.TooDeep rose (Broken (Reading line)) s k = absurd s
+set_caused_by args entries before now top.NoMemory rose (Broken (Reading line)) s k = absurd s
+set_caused_by args entries before now (top.Json e) rose (Broken (Reading line)) s k = absurd s
+set_caused_by args entries before now error rose (Broken (Writing path)) s k = absurd s
+set_caused_by args entries before now error rose (Broken Printing) s k = absurd s
+set_caused_by args entries before now error rose NoMemory s k = tt
+
+module _ (args : Args) (path : List ℕ) (some : args.descriptor_set_in ≡ Some path) where
+  pub set_library : (disk : Volume) (entries : List Entry) → IsStoredSet (set_at disk path) entries
+      → IsLibrary args.descriptor_set_in args disk (listed_files entries)
+  set_library disk entries stored =
+      let P : Option (List ℕ) → Type 0 = λ o. IsLibrary o args disk (listed_files entries) in subst P (sym some) (entries, stored, refl)
+
+  pub set_stop : (job : Job) (disk : Volume) (entries : List Entry) (before now : Count) (error : TopError) (stop : Stop) → IsStoredSet (set_at disk path) entries
+      → IsStopOf error stop → IsCaused (FaultCause (listed_files entries) before now) error → IsJobRefusal job args (listed_files entries) error
+      → IsFileStop job args disk stop
+  set_stop job disk entries before now error (Words fault) i s k h = absurd s
+  set_stop job disk entries before now error (Refused TooLong) i s k h = absurd s
+  set_stop job disk entries before now error (Refused NotJson) i s k h = absurd s
+  set_stop job disk entries before now error (Refused (Top line)) i s k h =
+      inr (listed_files entries, set_library disk entries i, (error, s.0, whole_of (FaultCause (listed_files entries) before now) error k, h, s.1))
+  set_stop job disk entries before now error (Broken Input) i s k h = absurd s
+  set_stop job disk entries before now (top.File error) (Broken (Reading line)) i s k h = absurd (never_faults (Rose before now) error s.0 k)
+  set_stop job disk entries before now (top.JsonNames message key) (Broken (Reading line)) i s k h = absurd s
+  set_stop job disk entries before now (top.WellKnownShape message) (Broken (Reading line)) i s k h = absurd s
+  set_stop job disk entries before now (top.TypeNotFound n) (Broken (Reading line)) i s k h = absurd s
+  set_stop job disk entries before now top.TooDeep (Broken (Reading line)) i s k h = absurd s
+  set_stop job disk entries before now top.NoMemory (Broken (Reading line)) i s k h = absurd s
+  set_stop job disk entries before now (top.Json e) (Broken (Reading line)) i s k h = absurd s
+  set_stop job disk entries before now error (Broken (Writing to)) i s k h = absurd s
+  set_stop job disk entries before now error (Broken Printing) i s k h = absurd s
+  set_stop job disk entries before now error NoMemory i s k h = tt
+
+  -- what was read there is no set
+  pub read_stop : (job : Job) (disk : Volume) (stop : Stop) → IsReadStop path (set_at disk path) stop → IsFileStop job args disk stop
+  read_stop job disk (Words fault) h = absurd h
+  read_stop job disk (Refused TooLong) h = absurd h
+  read_stop job disk (Refused NotJson) h = absurd h
+  read_stop job disk (Refused (Top line)) h = let P : Option (List ℕ) → Type 0 = λ o. LacksSet o disk line in inl (subst P (sym some) h)
+  read_stop job disk (Broken Input) h = absurd h
+  read_stop job disk (Broken (Reading line)) h = let P : Option (List ℕ) → Type 0 = λ o. IsToldFaultLineBy o args disk line in subst P (sym some) h
+  read_stop job disk (Broken (Writing to)) h = absurd h
+  read_stop job disk (Broken Printing) h = absurd h
+  read_stop job disk NoMemory h = tt
+
+  pub read_caused : (rose : Type 0) (stop : Stop) → IsReadCause path rose stop → IsFileCause args rose stop
+  read_caused rose (Words fault) h = absurd h
+  read_caused rose (Refused TooLong) h = absurd h
+  read_caused rose (Refused NotJson) h = absurd h
+  read_caused rose (Refused (Top line)) h = tt
+  read_caused rose (Broken Input) h = absurd h
+  read_caused rose (Broken (Reading line)) h = let P : Option (List ℕ) → Type 0 = λ o. IsFaultLineBy o args line in (h.0, subst P (sym some) h.1)
+  read_caused rose (Broken (Writing to)) h = absurd h
+  read_caused rose (Broken Printing) h = absurd h
+  read_caused rose NoMemory h = tt
+
+  -- a set resolves no path
+  pub set_repeats : repeats (listed_files []).resolves args.files ≡ repeats (resolves_of args) args.files
+  set_repeats = let P : Option (List ℕ) → Type 0 = λ o. repeats (listed_files []).resolves args.files ≡ repeats (resolves_by o args) args.files in subst P (sym some) refl
 
 -- an error of compiling
 pub set_refused : (args : Args) (library : Library) (error : ErrorKind) → StopsCompiling library args.files error → IsSetRefusal args library (of_error error)
@@ -240,7 +358,7 @@ same_faults : (d e : Volume) (names : List (List ℕ)) (others : List Library) (
 same_faults d e [] others name error = refl
 same_faults d e (n ∷ ns) others name error = ap (λ b. may_fail_at (joined n name) error || b) (same_faults d e ns others name error)
 
-named_alike : (d e : Volume) (args : Args) (error : ErrorKind) → IsNamedFault (library_of args d).may_fail error → IsNamedFault (library_of args e).may_fail error
+named_alike : (d e : Volume) (args : Args) (error : ErrorKind) → IsNamedFault (folder_files args d).may_fail error → IsNamedFault (folder_files args e).may_fail error
 named_alike d e args (kinds.OpenFile name path words) h = subst IsTrue (same_faults d e (folders args) (pooled wkt_files ∷ []) name (kinds.OpenFile name path words)) h
 named_alike d e args (kinds.Custom text is_io) h = (h.0, subst IsTrue (same_faults d e (folders args) (pooled wkt_files ∷ []) h.0 (kinds.Custom text is_io)) h.1)
 named_alike d e args (kinds.Parse x) h = h
@@ -266,8 +384,11 @@ same_resolves d e [] others path = refl
 same_resolves d e (n ∷ ns) others path = ap (λ r. option_or (resolved n path) r) (same_resolves d e ns others path)
 
 -- so which paths are given again does not depend on it
-pub repeats_told : (args : Args) (disk : Volume) → repeats (library_of args disk).resolves args.files ≡ repeats (resolves_of args) args.files
-repeats_told args disk = repeats_alike (library_of args disk).resolves (resolves_of args) (same_resolves disk untold (folders args) (pooled wkt_files ∷ [])) args.files
+pub folder_repeats : (args : Args) (disk : Volume) → args.descriptor_set_in ≡ None → repeats (folder_files args disk).resolves args.files ≡ repeats (resolves_of args) args.files
+folder_repeats args disk none =
+    let P : Option (List ℕ) → Type 0 = λ o. repeats (folder_files args disk).resolves args.files ≡ repeats (resolves_by o args) args.files in
+    subst P (sym none)
+    (repeats_alike (folder_files args disk).resolves (folder_files args untold).resolves (same_resolves disk untold (folders args) (pooled wkt_files ∷ [])) args.files)
 
 -- one cause gives another
 caused_then : (f g : ErrorKind → Type 0) (error : TopError) → ((e : ErrorKind) → f e → g e) → IsCaused f error → IsCaused g error
@@ -299,10 +420,10 @@ caused_then f g top.NoMemory k h = tt
 pub of_disk : {D : Type 0} (volume : D → Volume) (count : D → Count) (args : Args) (r s : Folders D) (disk later : D) (error : TopError)
     → r ≡ record { folders = folders args; disk = disk } → later ≡ s.disk
     → IsCaused (FaultCause (standard wkt_files (volume r.disk) r.folders) (count r.disk) (count s.disk)) error
-    → IsCaused (λ e. Rose (count disk) (count later) × IsNamedFault (library_of args untold).may_fail e) error
+    → IsCaused (λ e. Rose (count disk) (count later) × IsNamedFault (folder_files args untold).may_fail e) error
 of_disk volume count args r s disk later error is k h =
-    let f : ErrorKind → Type 0 = FaultCause (library_of args (volume disk)) (count disk) (count later) in
-    let g : ErrorKind → Type 0 = λ e. Rose (count disk) (count later) × IsNamedFault (library_of args untold).may_fail e in
+    let f : ErrorKind → Type 0 = FaultCause (folder_files args (volume disk)) (count disk) (count later) in
+    let g : ErrorKind → Type 0 = λ e. Rose (count disk) (count later) × IsNamedFault (folder_files args untold).may_fail e in
     let each : (e : ErrorKind) → f e → g e = λ e c. (c.0, named_alike (volume disk) untold args e c.1) in
     caused_then f g error each (of_counts volume count r s disk later (folders args) (λ l before after. IsCaused (FaultCause l before after) error) is k h)
 
@@ -326,16 +447,19 @@ input_judged args name disk input (Broken (Writing path)) h = absurd h
 input_judged args name disk input (Broken Printing) h = absurd h
 input_judged args name disk input NoMemory h = tt
 
-pub tree_judged : (args : Args) (name : List ℕ) (disk : Volume) (input : List ℕ) (tree : Data) (stop : Stop) → length input ≤ limit → json_of input ≡ Some tree → IsTreeStop args name disk tree stop → IsTranscodingStop args name disk input stop
-tree_judged args name disk input tree (Words fault) short is h = absurd h
-tree_judged args name disk input tree (Refused TooLong) short is h = absurd h
-tree_judged args name disk input tree (Refused NotJson) short is h = absurd h
-tree_judged args name disk input tree (Refused (Top line)) short is h = (short, (tree, is, h))
-tree_judged args name disk input tree (Broken Input) short is h = absurd h
-tree_judged args name disk input tree (Broken (Reading line)) short is h = (short, (tree, is, h))
-tree_judged args name disk input tree (Broken (Writing path)) short is h = absurd h
-tree_judged args name disk input tree (Broken Printing) short is h = absurd h
-tree_judged args name disk input tree NoMemory short is h = tt
+pub tree_judged : (args : Args) (job : Job) (name : List ℕ) (disk : Volume) (input : List ℕ) (tree : Data) (stop : Stop) → length input ≤ limit → json_of input ≡ Some tree
+    → ((library : Library) (line : List ℕ) → RefusesJob job args library line → RefusedWith args name library tree line) → IsFileStop job args disk stop
+    → IsTranscodingStop args name disk input stop
+tree_judged args job name disk input tree (Words fault) short is same h = absurd h
+tree_judged args job name disk input tree (Refused TooLong) short is same h = absurd h
+tree_judged args job name disk input tree (Refused NotJson) short is same h = absurd h
+tree_judged args job name disk input tree (Refused (Top line)) short is same (inl lacks) = (short, (tree, is, inl lacks))
+tree_judged args job name disk input tree (Refused (Top line)) short is same (inr h) = (short, (tree, is, inr (h.0, h.1, same h.0 line h.2)))
+tree_judged args job name disk input tree (Broken Input) short is same h = absurd h
+tree_judged args job name disk input tree (Broken (Reading line)) short is same h = (short, (tree, is, h))
+tree_judged args job name disk input tree (Broken (Writing path)) short is same h = absurd h
+tree_judged args job name disk input tree (Broken Printing) short is same h = absurd h
+tree_judged args job name disk input tree NoMemory short is same h = tt
 
 pub as_repeated : (a : Args) (t : Task) (found : List ℕ) → task a ≡ t → found ≡ repeated_by t a → found ≡ repeated_of a
 as_repeated a t found is h = let P : Task → Type 0 = λ o. found ≡ repeated_by o a in subst P (sym is) h
@@ -361,11 +485,21 @@ transcoding_stops a name disk input (Broken (Writing path)) is h = absurd h
 transcoding_stops a name disk input (Broken Printing) is h = absurd h
 transcoding_stops a name disk input NoMemory is h = tt
 
-pub compiling_stops : (a : Args) (disk : Volume) (input : List ℕ) (stop : Stop) → task a ≡ Compile → IsSetStop a disk stop → PlanStops a disk input stop
+refused_set : (a : Args) (library : Library) (line : List ℕ) → RefusesJob jobs.Compile a library line → RefusedSet a library line
+refused_set a library line (top.File error, k, w, h, l) = (error, no_fault error k, w, h, l)
+refused_set a library line (top.JsonNames message key, k, w, h, l) = absurd h
+refused_set a library line (top.WellKnownShape message, k, w, h, l) = absurd h
+refused_set a library line (top.TypeNotFound n, k, w, h, l) = absurd h
+refused_set a library line (top.Json e, k, w, h, l) = absurd h
+refused_set a library line (top.TooDeep, k, w, h, l) = absurd h
+refused_set a library line (top.NoMemory, k, w, h, l) = absurd (cc)
+
+pub compiling_stops : (a : Args) (disk : Volume) (input : List ℕ) (stop : Stop) → task a ≡ Compile → IsFileStop jobs.Compile a disk stop → PlanStops a disk input stop
 compiling_stops a disk input (Words fault) is h = absurd h
 compiling_stops a disk input (Refused TooLong) is h = absurd h
 compiling_stops a disk input (Refused NotJson) is h = absurd h
-compiling_stops a disk input (Refused (Top line)) is h = as_task a Compile disk input (Refusing (Top line)) is h
+compiling_stops a disk input (Refused (Top line)) is (inl lacks) = as_task a Compile disk input (Refusing (Top line)) is (inl lacks)
+compiling_stops a disk input (Refused (Top line)) is (inr h) = as_task a Compile disk input (Refusing (Top line)) is (inr (h.0, h.1, refused_set a h.0 line h.2))
 compiling_stops a disk input (Broken Input) is h = absurd h
 compiling_stops a disk input (Broken (Reading line)) is h = ((λ t. absurd (not_asked a is t)), h)
 compiling_stops a disk input (Broken (Writing path)) is h = absurd h

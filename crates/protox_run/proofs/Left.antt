@@ -74,12 +74,12 @@ written_paths args disk input writes text h path i = at (task args) h
   where
     at : (o : Task) → ComesTo o args disk input (Ready writes text) → (args.output ≡ Some path) ⊎ (args.wire ≡ Some path)
     at (Generate number) g = absurd (no_write path writes g.0 i)
-    at Compile c = inl (set_path path args.output (set_of args c.0.2.0) writes c.0.2.2 i)
-    at (Transcode name) t = parts (in_parts path (write_to args.output t.1.2.0) (write_to args.wire t.1.2.1) (let P : List Write → Type 0 = λ ws. IsWriteTo path ws in subst P t.1.2.4 i))
+    at Compile c = inl (set_path path args.output (set_of args c.2.0.2.0) writes c.2.0.2.2 i)
+    at (Transcode name) t = parts (in_parts path (write_to args.output t.1.2.2.0) (write_to args.wire t.1.2.2.1) (let P : List Write → Type 0 = λ ws. IsWriteTo path ws in subst P t.1.2.2.4 i))
       where
-        parts : IsWriteTo path (write_to args.output t.1.2.0) ⊎ IsWriteTo path (write_to args.wire t.1.2.1) → (args.output ≡ Some path) ⊎ (args.wire ≡ Some path)
-        parts (inl k) = inl (given_path path args.output t.1.2.0 k)
-        parts (inr k) = inr (given_path path args.wire t.1.2.1 k)
+        parts : IsWriteTo path (write_to args.output t.1.2.2.0) ⊎ IsWriteTo path (write_to args.wire t.1.2.2.1) → (args.output ≡ Some path) ⊎ (args.wire ≡ Some path)
+        parts (inl k) = inl (given_path path args.output t.1.2.2.0 k)
+        parts (inr k) = inr (given_path path args.wire t.1.2.2.1 k)
 
 -- ---- what writes leave at a key
 

@@ -5,13 +5,20 @@ use Rattle.std.specs.Str.{is_utf8}
 use Rattle.serde_json.specs.Data.{Data}
 use Rattle.serde_json.specs.Read.{read as read_text}
 use Rattle.serde_json.specs.Written.{compact_text}
+use Rattle.pbx_desc_encoding.specs.Sets.{set_meaning_of}
 use Rattle.pbx_desc_records.specs.declared.file.FileDescriptorProto.{FileDescriptorProto}
+use Rattle.pbx_json_meaning.specs.declared.kind.JsonKind.TheVariants as json
 use Rattle.pbx_json_meaning.specs.declared.options.SerializeOptions.{SerializeOptions}
 use Rattle.pbx_wkt_files.specs.Files.{wkt_files}
-use Rattle.protox_io.specs.Disk.{Volume, untold}
+use Rattle.protox_io.specs.Disk.{Volume, Held, Missing, Oversized, Stored, found, untold}
+use Rattle.protox_io.specs.Paths.{disk_key}
+use Rattle.protox_file_error.specs.Errors.{IsWhole}
 use Rattle.protox_file_error.specs.Lines.{long_line_of}
 use Rattle.protox_file_error.specs.declared.error.ErrorKind.{ErrorKind}
-use Rattle.protox_file_sources.specs.Library.{Library}
+use Rattle.protox_file_sources.specs.Library.{Library, resolves_nothing}
+use Rattle.protox_file_sources.specs.Told.{Entry}
+use Rattle.protox_file.specs.Listed.{listed_files}
+use Rattle.protox_file.specs.Sets.{AreFilesIn}
 use Rattle.protox_file.specs.Standard.{standard}
 use Rattle.protox_compile_walk.specs.Walk.{Done}
 use Rattle.protox_compile.specs.Repeats.{repeats}
@@ -19,6 +26,7 @@ use Rattle.protox_compile.specs.Sets.{listed, IsSet, AreDecodable, IsUndecodable
 use Rattle.protox_compile.specs.Compiling.{Compiles, StopsWalk}
 use Rattle.protox_transcode.specs.Top.{ForFiles, IsTranscoded, Refuses, is_fault, is_refusal, top_line}
 use Rattle.protox_transcode.specs.declared.error.TopError.{TopError}
+use Rattle.protox_transcode.specs.declared.error.TopError.TheVariants as top
 use Rattle.protox_generate.specs.Summary.{Summarizes, RefusesNumber}
 use Rattle.protox_words.specs.Words.{Args, folders}
 use Rattle.protox_run.specs.declared.stop.Refusal.{Refusal}
@@ -28,13 +36,46 @@ use Rattle.protox_run.specs.declared.stop.Refusal.TheVariants.{TooLong, NotJson,
 abbrev pub limit : ℕ
 limit = 1073741824
 
--- where the files come from: the folders, and behind them the built-in files
-abbrev pub library_of : Args → Volume → Library
-library_of a disk = standard wkt_files disk (folders a)
+-- the files of the folders, and behind them the built-in files
+abbrev pub folder_files : Args → Volume → Library
+folder_files a disk = standard wkt_files disk (folders a)
 
--- the name of each path that a folder resolves, which does not depend on what the disk holds
+-- what is read at the path of the set
+abbrev pub set_at : Volume → List ℕ → Held
+set_at disk path = found (disk.holds (disk_key path))
+
+-- what was read are the bytes of a set of these files (Protocol Buffers `descriptor.proto`: FileDescriptorSet)
+abbrev pub IsStoredSet : Held → List Entry → Type 0
+IsStoredSet (Stored bytes) entries = AreFilesIn bytes entries
+IsStoredSet held entries = ⊥
+
+-- why what was read at the path is no set, with its line
+abbrev pub IsNoSet : List ℕ → Held → List ℕ → Type 0
+IsNoSet path Missing line = line ≡ concat (codes "file '" ∷ path ∷ codes "' not found" ∷ [])
+IsNoSet path Oversized line = line ≡ concat (codes "file '" ∷ path ∷ codes "' is too large" ∷ [])
+IsNoSet path (Stored bytes) line = (set_meaning_of bytes ≡ None) × (line ≡ concat (codes "'" ∷ path ∷ codes "' is not a descriptor set" ∷ []))
+
+-- where the files come from: the folders and the built-in files, or the set whose path is given (`--descriptor_set_in` of protoc)
+abbrev pub IsLibrary : Option (List ℕ) → Args → Volume → Library → Type 0
+IsLibrary None a disk library = library ≡ folder_files a disk
+IsLibrary (Some path) a disk library = (entries : List Entry) × IsStoredSet (set_at disk path) entries × (library ≡ listed_files entries)
+
+-- this holds of where the files come from
+abbrev pub ForLibrary : Args → Volume → (Library → Type 0) → Type 0
+ForLibrary a disk P = (library : Library) × IsLibrary a.descriptor_set_in a disk library × P library
+
+-- the line of a set that is asked for and is none
+abbrev pub LacksSet : Option (List ℕ) → Volume → List ℕ → Type 0
+LacksSet None disk line = ⊥
+LacksSet (Some path) disk line = IsNoSet path (set_at disk path) line
+
+-- the name of each path that a folder resolves, which does not depend on what the disk holds; a set resolves none
+abbrev pub resolves_by : Option (List ℕ) → Args → List ℕ → Option (List ℕ)
+resolves_by None a = (folder_files a untold).resolves
+resolves_by (Some path) a = resolves_nothing
+
 abbrev pub resolves_of : Args → List ℕ → Option (List ℕ)
-resolves_of a = (library_of a untold).resolves
+resolves_of a = resolves_by a.descriptor_set_in a
 
 -- how the message is written as JSON: as by default, but for what the flags change
 abbrev pub options_of : Args → SerializeOptions
@@ -75,17 +116,25 @@ Transcoded a name library tree writes text =
     × ForFiles library.files library.resolves a.files (λ files. IsTranscoded name tree (options_of a) files set wire written)
     × (writes ≡ write_to a.output set ++ write_to a.wire wire) × (text ≡ compact_text written ++ codes "\n")
 
+-- no want of memory stands inside of an error
+abbrev pub IsWholeError : TopError → Type 0
+IsWholeError (top.File error) = IsWhole error
+IsWholeError (top.Json error) = ¬ (error.kind ≡ json.NoMemory)
+IsWholeError error = Unit {0}
+
 -- the line of a refusal of the files, the type's name or the tree
 abbrev pub RefusedWith : Args → List ℕ → Library → Data → List ℕ → Type 0
 RefusedWith a name library tree line =
-    (error : TopError) × (is_refusal error ≡ true) × Refuses library.files library.resolves a.files name tree error × (line ≡ concat (top_line error))
+    (error : TopError) × (is_refusal error ≡ true) × IsWholeError error
+    × Refuses library.files library.resolves a.files name tree error × (line ≡ concat (top_line error))
 
--- with `--type`, in the order of refusals
+-- with `--type`, in the order of refusals: the set is read behind the input
 abbrev pub Transcoding : Args → List ℕ → Volume → List ℕ → Ending → Type 0
 Transcoding a name disk input (Refusing TooLong) = limit < length input
 Transcoding a name disk input (Refusing NotJson) = (length input ≤ limit) × (json_of input ≡ None)
-Transcoding a name disk input (Refusing (Top line)) = ForTree input (λ tree. RefusedWith a name (library_of a disk) tree line)
-Transcoding a name disk input (Ready writes text) = ForTree input (λ tree. Transcoded a name (library_of a disk) tree writes text)
+Transcoding a name disk input (Refusing (Top line)) =
+    ForTree input (λ tree. LacksSet a.descriptor_set_in disk line ⊎ ForLibrary a disk (λ library. RefusedWith a name library tree line))
+Transcoding a name disk input (Ready writes text) = ForTree input (λ tree. ForLibrary a disk (λ library. Transcoded a name library tree writes text))
 
 -- the set that the flags ask for
 abbrev pub set_of : Args → List Done → List FileDescriptorProto
@@ -105,12 +154,16 @@ RefusesSet a library error =
 abbrev pub Compiled : Args → Library → List Write → List ℕ → Type 0
 Compiled a library writes text = Compiles library a.files (λ done. WritesSet a.output (set_of a done) writes) × (text ≡ [])
 
+-- the line of a refusal of the files without `--type`
+abbrev pub RefusedSet : Args → Library → List ℕ → Type 0
+RefusedSet a library line =
+    (error : ErrorKind) × (is_fault error ≡ false) × IsWhole error × RefusesSet a library error × (line ≡ concat (long_line_of error))
+
 abbrev pub Compiling : Args → Volume → Ending → Type 0
 Compiling a disk (Refusing TooLong) = ⊥
 Compiling a disk (Refusing NotJson) = ⊥
-Compiling a disk (Refusing (Top line)) =
-    (error : ErrorKind) × (is_fault error ≡ false) × RefusesSet a (library_of a disk) error × (line ≡ concat (long_line_of error))
-Compiling a disk (Ready writes text) = Compiled a (library_of a disk) writes text
+Compiling a disk (Refusing (Top line)) = LacksSet a.descriptor_set_in disk line ⊎ ForLibrary a disk (λ library. RefusedSet a library line)
+Compiling a disk (Ready writes text) = ForLibrary a disk (λ library. Compiled a library writes text)
 
 -- with `--generate` the summary is printed as a line
 abbrev pub Generated : ℕ → List Write → List ℕ → Type 0

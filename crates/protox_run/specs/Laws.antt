@@ -3,7 +3,7 @@ use Rattle.std.specs.Prelude.{◌≡◌, ◌⊎◌, ◌≤◌, ◌∷◌, [], �
 use Rattle.protox_io.specs.Disk.{Volume, Stands}
 use Rattle.protox_io.specs.Paths.{Component, disk_key}
 use Rattle.protox_words.specs.Words.{Args, WordFault, args_of}
-use Rattle.protox_run.specs.Class.{Write, Ready, Refusing, Judges}
+use Rattle.protox_run.specs.Class.{Write, Ready, Refusing, Judges, ForLibrary, LacksSet}
 use Rattle.protox_run.specs.Run.{Run, AllTell, Raised, Runs}
 use Rattle.protox_run.specs.Stops.{ForArgs, ForReady, StoppedAt}
 use Rattle.protox_run.specs.declared.stop.Refusal.{Refusal}
@@ -20,6 +20,11 @@ DoneOnce =
     (args : Args) (disk : Volume) (input : List ℕ) (writes : List Write) (text : List ℕ) (later_writes : List Write) (later_text : List ℕ)
     → Judges args disk input (Ready writes text) → Judges args disk input (Ready later_writes later_text)
     → (writes ≡ later_writes) × (text ≡ later_text)
+
+-- Where a set is asked for and there is none, no files are read.
+abbrev pub NoSetAlone : Type 0
+NoSetAlone =
+    (args : Args) (disk : Volume) (line : List ℕ) → LacksSet args.descriptor_set_in disk line → ForLibrary args disk (λ library. Unit {0}) → ⊥
 
 -- the path of the set or of the wire bytes
 abbrev pub IsWritePath : Result Args WordFault → List ℕ → Type 0

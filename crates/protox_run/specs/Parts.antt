@@ -1,20 +1,22 @@
 -- What the parts of a run answer.
 use Rattle.std.specs.Prelude.{◌≡◌, ◌⊎◌, ◌≤◌, ◌<◌, ℕ, List, length, true, IsTrue, Option, Some, None, Result, Ok, Err}
 use Rattle.std.specs.List.{concat}
-use Rattle.serde_json.specs.Data.{Data}
-use Rattle.protox_io.specs.Disk.{Volume}
+use Rattle.serde_json.specs.View.{view}
+use Rattle.protox_io.specs.Disk.{Volume, Held}
 use Rattle.protox_file_error.specs.Lines.{long_line_of}
 use Rattle.protox_file_sources.specs.Library.{Library}
-use Rattle.protox_transcode.specs.Top.{is_fault, is_refusal, top_line}
+use Rattle.protox_transcode.specs.Top.{Refuses, is_fault, is_refusal, top_line}
 use Rattle.protox_transcode.specs.declared.error.TopError.{TopError}
 use Rattle.protox_transcode.specs.declared.error.TopError.TheVariants as top
 use Rattle.protox_words.specs.Words.{Args, WordFault}
-use Rattle.protox_run.specs.Class.{limit, json_of, ForTree, Write, Refusing, Judges, RefusedWith}
-use Rattle.protox_run.specs.Class.{RefusesSet, Transcoding, Compiling, Generating, library_of, reads_input}
+use Rattle.protox_run.specs.Class.{limit, json_of, ForTree, Write, Refusing, Judges, Transcoded, Compiled}
+use Rattle.protox_run.specs.Class.{RefusesSet, IsWholeError, Transcoding, Generating, IsNoSet, ForLibrary, LacksSet, reads_input}
 use Rattle.protox_run.specs.Outcome.{Wrote, notes_of}
-use Rattle.protox_run.specs.Stops.{Input, Reading, Writing, Printing, IsToldFaultLine, IsFaultLine, IsWriteTo}
+use Rattle.protox_run.specs.Stops.{Input, Reading, Writing, Printing, IsToldFaultLine, IsFaultLine, IsWriteTo, set_line}
 use Rattle.protox_run.specs.Stops.{RoseOf, Reached, StoppedAt, Untouched, Carrying, ForReady, StopsWriting, StopsPrinting}
 use Rattle.protox_run.specs.Told.{Stop, Words, Refused, Broken, NoMemory, stop_told}
+use Rattle.protox_run.specs.declared.files.Job.{Job}
+use Rattle.protox_run.specs.declared.files.Job.TheVariants.{Transcode, Compile}
 use Rattle.protox_run.specs.declared.stop.Refusal.TheVariants.{TooLong, NotJson, Top}
 use Rattle.protox_run.specs.declared.stop.Stop.{Stop as StopHeld}
 
@@ -56,33 +58,67 @@ IsStopOf error (Broken (Reading line)) = TellsFault error line
 IsStopOf error NoMemory = Unit {0}
 IsStopOf error stop = ⊥
 
--- the files, the type's name or the tree ended the run
-abbrev pub IsTreeStop : Args → List ℕ → Volume → Data → Stop → Type 0
-IsTreeStop args name disk tree (Refused (Top line)) = RefusedWith args name (library_of args disk) tree line
-IsTreeStop args name disk tree (Broken (Reading line)) = IsToldFaultLine args disk line
-IsTreeStop args name disk tree NoMemory = Unit {0}
-IsTreeStop args name disk tree stop = ⊥
-
--- the same, or the input
-abbrev pub IsTranscodingStop : Args → List ℕ → Volume → List ℕ → Stop → Type 0
-IsTranscodingStop args name disk input (Refused refusal) = Transcoding args name disk input (Refusing refusal)
-IsTranscodingStop args name disk input (Broken Input) = Unit {0}
-IsTranscodingStop args name disk input (Broken (Reading line)) = ForTree input (λ tree. IsToldFaultLine args disk line)
-IsTranscodingStop args name disk input NoMemory = Unit {0}
-IsTranscodingStop args name disk input stop = ⊥
-
 -- why there is no set: the files are refused, or want of memory
 abbrev pub IsSetRefusal : Args → Library → TopError → Type 0
 IsSetRefusal args library (top.File error) = RefusesSet args library error
 IsSetRefusal args library top.NoMemory = Unit {0}
 IsSetRefusal args library error = ⊥
 
--- the files ended the run without `--type`
-abbrev pub IsSetStop : Args → Volume → Stop → Type 0
-IsSetStop args disk (Refused (Top line)) = Compiling args disk (Refusing (Top line))
-IsSetStop args disk (Broken (Reading line)) = IsToldFaultLine args disk line
-IsSetStop args disk NoMemory = Unit {0}
-IsSetStop args disk stop = ⊥
+-- what a job makes of the files: they are compiled, and a tree is transcoded if there is one
+abbrev pub Makes : Job → Args → Library → List Write → List ℕ → Type 0
+Makes (Transcode name tree) args library writes text = Transcoded args name.now library (view tree) writes text
+Makes Compile args library writes text = Compiled args library writes text
+
+-- why a job is refused over the files, or want of memory
+abbrev pub IsJobRefusal : Job → Args → Library → TopError → Type 0
+IsJobRefusal (Transcode name tree) args library error = Refuses library.files library.resolves args.files name.now (view tree) error
+IsJobRefusal Compile args library error = IsSetRefusal args library error
+
+-- the line of a job's refusal
+abbrev pub RefusesJob : Job → Args → Library → List ℕ → Type 0
+RefusesJob job args library line =
+    (error : TopError) × (is_refusal error ≡ true) × IsWholeError error × IsJobRefusal job args library error × (line ≡ concat (top_line error))
+
+-- the set, or the files, ended the run
+abbrev pub IsFileStop : Job → Args → Volume → Stop → Type 0
+IsFileStop job args disk (Refused (Top line)) = LacksSet args.descriptor_set_in disk line ⊎ ForLibrary args disk (λ library. RefusesJob job args library line)
+IsFileStop job args disk (Broken (Reading line)) = IsToldFaultLine args disk line
+IsFileStop job args disk NoMemory = Unit {0}
+IsFileStop job args disk stop = ⊥
+
+-- a refusal with this line, or want of memory
+abbrev pub IsStopWith : List ℕ → Stop → Type 0
+IsStopWith wanted (Refused (Top line)) = line ≡ wanted
+IsStopWith wanted NoMemory = Unit {0}
+IsStopWith wanted stop = ⊥
+
+-- the set at the path could not be read, or want of memory
+abbrev pub IsUnreadSet : List ℕ → Stop → Type 0
+IsUnreadSet path (Broken (Reading line)) = line ≡ set_line path
+IsUnreadSet path NoMemory = Unit {0}
+IsUnreadSet path stop = ⊥
+
+-- what was read at the path of the set is none, or reading failed, or want of memory
+abbrev pub IsReadStop : List ℕ → Held → Stop → Type 0
+IsReadStop path held (Refused (Top line)) = IsNoSet path held line
+IsReadStop path held (Broken (Reading line)) = line ≡ set_line path
+IsReadStop path held NoMemory = Unit {0}
+IsReadStop path held stop = ⊥
+
+-- a stop while the set is read has the disk's count as its cause
+abbrev pub IsReadCause : List ℕ → Type 0 → Stop → Type 0
+IsReadCause path rose (Refused (Top line)) = Unit {0}
+IsReadCause path rose (Broken (Reading line)) = rose × (line ≡ set_line path)
+IsReadCause path rose NoMemory = Unit {0}
+IsReadCause path rose stop = ⊥
+
+-- with `--type`, the same or the input
+abbrev pub IsTranscodingStop : Args → List ℕ → Volume → List ℕ → Stop → Type 0
+IsTranscodingStop args name disk input (Refused refusal) = Transcoding args name disk input (Refusing refusal)
+IsTranscodingStop args name disk input (Broken Input) = Unit {0}
+IsTranscodingStop args name disk input (Broken (Reading line)) = ForTree input (λ tree. IsToldFaultLine args disk line)
+IsTranscodingStop args name disk input NoMemory = Unit {0}
+IsTranscodingStop args name disk input stop = ⊥
 
 -- a stop while files are read has the disk's count as its cause
 abbrev pub IsFileCause : Args → Type 0 → Stop → Type 0

@@ -1,5 +1,5 @@
 -- Why a run was stopped from outside or for want of memory, and what stands then.
-use Rattle.std.specs.Prelude.{◌≡◌, ◌⊎◌, ◌∷◌, ◌++◌, [], ℕ, List, IsTrue, Result, Ok, Err, codes}
+use Rattle.std.specs.Prelude.{◌≡◌, ◌⊎◌, ◌∷◌, ◌++◌, [], ℕ, List, IsTrue, Option, Some, None, Result, Ok, Err, codes}
 use Rattle.std.specs.List.{concat}
 use Rattle.protox_io.specs.Disk.{Volume, SameBut, IsOpen, untold}
 use Rattle.protox_io.specs.Paths.{disk_key}
@@ -9,10 +9,10 @@ use Rattle.protox_file_error.specs.declared.error.ErrorKind.{ErrorKind}
 use Rattle.protox_file_sources.specs.Causes.{IsNamedFault}
 use Rattle.protox_compile.specs.Compiling.{StopsWalk}
 use Rattle.protox_words.specs.Words.{Args, WordFault}
-use Rattle.protox_run.specs.Class.{Write, Ready, Judges, ForTree, library_of, reads_input}
+use Rattle.protox_run.specs.Class.{Write, Ready, Judges, ForTree, folder_files, reads_input}
 use Rattle.protox_run.specs.Outcome.{Pieces, Wrote}
 
--- what stands outside and failed: the input, reading a file, with its line, writing under a path, out
+-- what stands outside and failed: the input, reading a file or the set, with its line, writing under a path, out
 pub data Object : Type 0 where
   Input : Object
   Reading : List ℕ → Object
@@ -34,18 +34,29 @@ abbrev pub ForArgs : Result Args WordFault → (Args → Type 0) → Type 0
 ForArgs (Err fault) P = ⊥
 ForArgs (Ok args) P = P args
 
--- The line of a fault of reading a file: of a name, at its path in one of the folders. The path does not depend on what the disk holds.
+-- the line of a set that could not be read
+abbrev pub set_line : List ℕ → List ℕ
+set_line path = concat (codes "reading '" ∷ path ∷ codes "' failed" ∷ [])
+
+-- The line of a fault of reading: of a name, at its path in one of the folders, or of the set. No path depends on what the disk holds.
+abbrev pub IsFaultLineBy : Option (List ℕ) → Args → List ℕ → Type 0
+IsFaultLineBy None args line = (error : ErrorKind) × IsNamedFault (folder_files args untold).may_fail error × (line ≡ concat (long_line_of error))
+IsFaultLineBy (Some path) args line = line ≡ set_line path
+
 abbrev pub IsFaultLine : Args → List ℕ → Type 0
-IsFaultLine args line =
-    (error : ErrorKind) × IsNamedFault (library_of args untold).may_fail error × (line ≡ concat (long_line_of error))
+IsFaultLine args line = IsFaultLineBy args.descriptor_set_in args line
 
--- the same, where the walk over the files and what they import is refused with that fault
-abbrev pub IsToldFaultLine : Args → Volume → List ℕ → Type 0
-IsToldFaultLine args disk line =
-    (error : ErrorKind) × IsNamedFault (library_of args untold).may_fail error × StopsWalk (library_of args disk) args.files error
+-- the same, where the walk over the files of the folders and what they import is refused with that fault
+abbrev pub IsToldFaultLineBy : Option (List ℕ) → Args → Volume → List ℕ → Type 0
+IsToldFaultLineBy None args disk line =
+    (error : ErrorKind) × IsNamedFault (folder_files args untold).may_fail error × StopsWalk (folder_files args disk) args.files error
     × (line ≡ concat (long_line_of error))
+IsToldFaultLineBy (Some path) args disk line = line ≡ set_line path
 
--- the count of the object rose; a fault of reading says which file could not be read, and why
+abbrev pub IsToldFaultLine : Args → Volume → List ℕ → Type 0
+IsToldFaultLine args disk line = IsToldFaultLineBy args.descriptor_set_in args disk line
+
+-- the count of the object rose; a fault of reading says which file could not be read, and why, or that the set could not be
 abbrev pub RoseOf : Type 0 → Type 0 → Type 0 → Object → Args → Type 0
 RoseOf disk input out Input args = input
 RoseOf disk input out (Reading line) args = disk × IsFaultLine args line
@@ -61,7 +72,7 @@ IsWriteTo path (w ∷ ws) = (path ≡ w.path) ⊎ IsWriteTo path ws
 abbrev pub ForReady : Args → Volume → List ℕ → (List Write → List ℕ → Type 0) → Type 0
 ForReady args disk input P = (writes : List Write) × (text : List ℕ) × Judges args disk input (Ready writes text) × P writes text
 
--- How far the run had come. Files are read behind the input, where that is read and is a tree; a write and a print come only where all was read and
+-- How far the run had come. Files and the set are read behind the input, where that is read and is a tree; a write and a print come only where all was read and
 -- accepted.
 abbrev pub Reached : Volume → List ℕ → Object → Args → Type 0
 Reached disk input Input args = IsTrue (reads_input args)

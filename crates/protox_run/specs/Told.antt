@@ -17,7 +17,7 @@ use Rattle.protox_run.specs.declared.stop.Stop.TheVariants as stops
 
 abbrev pub object_told : ObjectHeld → Object
 object_told objects.Input = Input
-object_told (objects.File line) = Reading line
+object_told (objects.Reading line) = Reading line
 object_told (objects.Path path) = Writing path.now
 object_told objects.Output = Printing
 

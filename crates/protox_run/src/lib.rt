@@ -2,6 +2,7 @@
 #![tactic(auto)]
 
 mod carry;
+mod files;
 mod laws;
 mod plan;
 mod report;

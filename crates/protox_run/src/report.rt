@@ -65,6 +65,7 @@ fn say_fault<E: Sink>(err: &mut E, fault: &WordFault<'_>)
         WordFault::NotAlone => say(err, "--generate stands alone"),
         WordFault::NoFile => say(err, "no file given"),
         WordFault::NeedsType { option } => say_behind(err, option, " needs --type"),
+        WordFault::ExcludesInclude => say(err, "--descriptor_set_in excludes -I"),
     }
 }
 
@@ -87,7 +88,7 @@ fn say_object<E: Sink>(err: &mut E, object: &Object<'_>)
 {
     match object {
         Object::Input => say(err, "reading input failed"),
-        Object::File(line) => say(err, line.as_str()),
+        Object::Reading(line) => say(err, line.as_str()),
         Object::Path(path) => say_between(err, "writing '", path, "' failed"),
         Object::Output => say(err, "writing output failed"),
     }

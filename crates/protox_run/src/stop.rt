@@ -11,7 +11,7 @@ pub enum Refusal {
     TooLong,
     /// The input is no JSON text in UTF-8, or nests deeper than 127.
     NotJson,
-    /// A file, the type's name or the tree is refused, with this line.
+    /// The set, a file, the type's name or the tree is refused, with this line.
     Top(Text),
 }
 
@@ -20,8 +20,8 @@ pub enum Refusal {
 pub(crate) enum Object<'w> {
     /// Reading the input.
     Input,
-    /// Reading a file, with the line that says which and why.
-    File(Text),
+    /// Reading a file or the set, with the line that says which and why.
+    Reading(Text),
     /// Writing under a path.
     Path(&'w str),
     /// Printing the text.

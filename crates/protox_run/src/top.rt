@@ -9,7 +9,8 @@ ghost use Rattle.protox_run.specs.Run.{Runs, ReadsInput};
 ghost use Rattle.protox_run.specs.Told.{ended, notes_told, Lasts};
 
 use crate::carry::carry;
-use crate::plan::{Planned, plan};
+use crate::files::Planned;
+use crate::plan::plan;
 use crate::report::report;
 use crate::stop::{Notes, Stop};
 use pbx_wire::{List, Texts};
@@ -137,12 +138,15 @@ fn obey<'w, D: Disk, S: Source, K: Sink>(
 /// The whole program: reads the words, the input and the files, writes the set and the wire bytes, and prints the tree.
 /// What out and err hold is what this call appended.
 ///
-/// The words are `[-I PATH]* [-o PATH] [--include_imports] [--include_source_info] [--type NAME [--wire PATH]
+/// The words are `[-I PATH]* [-o PATH] [--include_imports] [--include_source_info] [--descriptor_set_in PATH] [--type NAME [--wire PATH]
 /// [--json_int64_numbers] [--json_enum_numbers] [--json_proto_names] [--json_defaults]] FILE+`, or `--generate N`.
 /// Without `--type` the files are compiled, and their set is written with `-o`. With `--type` the input is read as JSON of a
 /// message of that type; the set, with all imports and source information, is written with `-o` and the wire bytes are
 /// written with `--wire`, and the message is printed as JSON: canonical, but for what the four flags change. `--generate N` transcodes a tree over N files in
 /// memory, and prints the lengths of what comes of it.
+///
+/// With `--descriptor_set_in` the files come from the descriptor set at its path, and from nowhere else; it is read behind the input and
+/// before any file.
 ///
 /// With status 0 err has a note for each path whose name an earlier path has, which is compiled once.
 ///

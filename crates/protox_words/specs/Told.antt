@@ -10,8 +10,8 @@ use Rattle.protox_words.specs.declared.fault.WordsError.TheVariants.{Fault, NoMe
 use Rattle.protox_words.specs.declared.options.Given.{Given as GivenHeld}
 use Rattle.protox_words.specs.declared.scan.Place.{Place}
 use Rattle.protox_words.specs.declared.scan.Place.TheVariants.{Options, Value, Files}
-use Rattle.protox_words.specs.Words.{Args, JsonFlags, WordFault, Unknown, Twice, NeedsValue, TakesNoValue, NeedsNumber, NotAlone, NoFile, NeedsType}
-use Rattle.protox_words.specs.Words.{Given, Scan, Reading, Wanting, Filing, Faulty}
+use Rattle.protox_words.specs.Words.{Args, JsonFlags, Given, Scan, Reading, Wanting, Filing, Faulty}
+use Rattle.protox_words.specs.Words.{WordFault, Unknown, Twice, NeedsValue, TakesNoValue, NeedsNumber, NotAlone, NoFile, NeedsType, ExcludesInclude}
 
 -- the flags with the bytes of the first
 abbrev pub json_told : FlagsHeld → JsonFlags
@@ -30,6 +30,7 @@ args_told a = record {
   output = option_copied a.output;
   include_imports = a.include_imports;
   include_source_info = a.include_source_info;
+  descriptor_set_in = option_copied a.descriptor_set_in;
   type_name = option_copied a.type_name;
   wire = option_copied a.wire;
   json = json_told a.json;
@@ -47,6 +48,7 @@ fault_told (faults.NeedsNumber option) = NeedsNumber option.now
 fault_told faults.NotAlone = NotAlone
 fault_told faults.NoFile = NoFile
 fault_told (faults.NeedsType option) = NeedsType option.now
+fault_told faults.ExcludesInclude = ExcludesInclude
 
 -- the option with the bytes of its texts
 abbrev pub given_told : GivenHeld → Given

@@ -4,7 +4,8 @@ use Rattle.std.specs.Prelude.{Bool, true, false, Option, Some, None, is_some, op
 use Rattle.std.specs.List.{fold, list_all, concat, before_first}
 use Rattle.std.specs.Str.{bytes_eq}
 use Rattle.protox_words.specs.declared.options.Flag.{Flag}
-use Rattle.protox_words.specs.declared.options.Flag.TheVariants.{Include, Output, IncludeImports, IncludeSourceInfo, TypeName, Wire, Generate, Json}
+use Rattle.protox_words.specs.declared.options.Flag.TheVariants.{Include, Output, IncludeImports, IncludeSourceInfo, DescriptorSetIn}
+use Rattle.protox_words.specs.declared.options.Flag.TheVariants.{TypeName, Wire, Generate, Json}
 use Rattle.protox_words.specs.declared.json.JsonFlag.{JsonFlag}
 use Rattle.protox_words.specs.declared.json.JsonFlag.TheVariants.{Int64Numbers, EnumNumbers, ProtoNames, Defaults}
 
@@ -16,20 +17,21 @@ pub record JsonFlags : Type 0 where
   pub proto_names : Bool
   pub defaults : Bool
 
--- what the words ask for: folders, the path of the set, what the set includes, a type, the path of the wire bytes, how the JSON is written, the number
--- of a schema to generate, and files
+-- what the words ask for: folders, the path of the set, what the set includes, the path of a set that files come from, a type, the path of the wire
+-- bytes, how the JSON is written, the number of a schema to generate, and files
 pub record Args : Type 0 where
   pub includes : List (List ℕ)
   pub output : Option (List ℕ)
   pub include_imports : Bool
   pub include_source_info : Bool
+  pub descriptor_set_in : Option (List ℕ)
   pub type_name : Option (List ℕ)
   pub wire : Option (List ℕ)
   pub json : JsonFlags
   pub generate : Option ℕ
   pub files : List (List ℕ)
 
--- why words are refused; the first five name a word, the last three are of all of them
+-- why words are refused; the first five name a word, the last four are of all of them
 pub data WordFault : Type 0 where
   Unknown : List ℕ → WordFault
   Twice : List ℕ → WordFault
@@ -39,6 +41,7 @@ pub data WordFault : Type 0 where
   NotAlone : WordFault
   NoFile : WordFault
   NeedsType : List ℕ → WordFault
+  ExcludesInclude : WordFault
 
 abbrev pub no_json_flags : JsonFlags
 no_json_flags = record { first = None; int64_numbers = false; enum_numbers = false; proto_names = false; defaults = false }
@@ -50,6 +53,7 @@ nothing = record {
   output = None;
   include_imports = false;
   include_source_info = false;
+  descriptor_set_in = None;
   type_name = None;
   wire = None;
   json = no_json_flags;
@@ -67,6 +71,7 @@ long_spellings =
     ∷ (codes "--output", Output) ∷ (codes "--descriptor_set_out", Output)
     ∷ (codes "--include_imports", IncludeImports) ∷ (codes "--include-imports", IncludeImports)
     ∷ (codes "--include_source_info", IncludeSourceInfo) ∷ (codes "--include-source-info", IncludeSourceInfo)
+    ∷ (codes "--descriptor_set_in", DescriptorSetIn) ∷ (codes "--descriptor-set-in", DescriptorSetIn)
     ∷ (codes "--type", TypeName) ∷ (codes "--wire", Wire) ∷ (codes "--generate", Generate)
     ∷ (codes "--json_int64_numbers", Json Int64Numbers) ∷ (codes "--json_enum_numbers", Json EnumNumbers)
     ∷ (codes "--json_proto_names", Json ProtoNames) ∷ (codes "--json_defaults", Json Defaults) ∷ []
@@ -135,6 +140,7 @@ is_given Include a = false
 is_given Output a = is_some a.output
 is_given IncludeImports a = a.include_imports
 is_given IncludeSourceInfo a = a.include_source_info
+is_given DescriptorSetIn a = is_some a.descriptor_set_in
 is_given TypeName a = is_some a.type_name
 is_given Wire a = is_some a.wire
 is_given Generate a = is_some a.generate
@@ -191,6 +197,7 @@ set Include written value a = Reading (record a { includes = a.includes ++ value
 set Output written value a = Reading (record a { output = Some value })
 set IncludeImports written value a = Reading (record a { include_imports = true })
 set IncludeSourceInfo written value a = Reading (record a { include_source_info = true })
+set DescriptorSetIn written value a = Reading (record a { descriptor_set_in = Some value })
 set TypeName written value a = Reading (record a { type_name = Some value })
 set Wire written value a = Reading (record a { wire = Some value })
 set (Json flag) written value a = Reading (record a { json = with_json flag written a.json })
@@ -241,20 +248,21 @@ step (Faulty fault) word = Faulty fault
 -- nothing but `--generate` was given
 abbrev pub is_alone : Args → Bool
 is_alone a =
-    (length a.includes == 0) && not (is_some a.output) && not a.include_imports && not a.include_source_info && not (is_some a.type_name)
-    && not (is_some a.wire) && not (is_some a.json.first) && (length a.files == 0)
+    (length a.includes == 0) && not (is_some a.output) && not a.include_imports && not a.include_source_info && not (is_some a.descriptor_set_in)
+    && not (is_some a.type_name) && not (is_some a.wire) && not (is_some a.json.first) && (length a.files == 0)
 
--- the option that is not to stand without `--type`: `--wire`, or else the first flag of the JSON
-abbrev pub needing_type : Args → Option (List ℕ)
-needing_type a = if is_some a.wire then Some (codes "--wire") else a.json.first
+-- the flag of the JSON that stands without `--type`, if there is one: the first
+abbrev pub flag_without_type : Args → Option (List ℕ)
+flag_without_type a = if is_some a.type_name then None else a.json.first
 
 -- the first fault of all words together
 abbrev pub fault_in : Args → Option WordFault
 fault_in a =
     if is_some a.generate then (if is_alone a then None else Some NotAlone)
     else if length a.files == 0 then Some NoFile
-    else if is_some a.type_name then None
-    else option_map NeedsType (needing_type a)
+    else if is_some a.wire && not (is_some a.type_name) then Some (NeedsType (codes "--wire"))
+    else if is_some a.descriptor_set_in && not (length a.includes == 0) then Some ExcludesInclude
+    else option_map NeedsType (flag_without_type a)
 
 abbrev pub judged : Args → Option WordFault → Result Args WordFault
 judged a None = Ok a
@@ -287,6 +295,7 @@ fault_pieces (NeedsNumber option) = codes "option '" ∷ option ∷ codes "' nee
 fault_pieces NotAlone = codes "--generate stands alone" ∷ []
 fault_pieces NoFile = codes "no file given" ∷ []
 fault_pieces (NeedsType option) = option ∷ codes " needs --type" ∷ []
+fault_pieces ExcludesInclude = codes "--descriptor_set_in excludes -I" ∷ []
 
 -- the same in one
 abbrev pub fault_line : WordFault → List ℕ

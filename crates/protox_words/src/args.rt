@@ -1,6 +1,7 @@
 ghost use Rattle.std.specs.Prelude.{◌≡◌, ◌++◌, ◌∷◌, [], IfOk, OnOk, option_map};
 ghost use Rattle.std.specs.Option.{option_copied};
-ghost use Rattle.protox_words.specs.Words.{nothing, folders as folders_of, folders_among, fault_in as fault_in_of, is_alone as is_alone_of, needing_type};
+ghost use Rattle.protox_words.specs.Words.{nothing, folders as folders_of, folders_among};
+ghost use Rattle.protox_words.specs.Words.{fault_in as fault_in_of, is_alone as is_alone_of, flag_without_type};
 ghost use Rattle.protox_words.specs.Told.{args_told, fault_told};
 
 use crate::fault::WordFault;
@@ -21,6 +22,8 @@ pub struct Args<'w> {
     pub include_imports: bool,
     /// Whether the set keeps the places of what it declares.
     pub include_source_info: bool,
+    /// The path of the set that the files come from, in place of folders.
+    pub descriptor_set_in: Option<&'w str>,
     /// The name of the type of a message on the input.
     pub type_name: Option<&'w str>,
     /// The path that the wire bytes of the message are written to.
@@ -43,6 +46,7 @@ impl<'w> Args<'w> {
             output: None,
             include_imports: false,
             include_source_info: false,
+            descriptor_set_in: None,
             type_name: None,
             wire: None,
             json: JsonFlags::new(),
@@ -68,18 +72,19 @@ impl<'w> Args<'w> {
             && self.output.is_none()
             && !self.include_imports
             && !self.include_source_info
+            && self.descriptor_set_in.is_none()
             && self.type_name.is_none()
             && self.wire.is_none()
             && self.json.first.is_none()
             && self.files.is_empty()
     }
 
-    /// The option that is not to stand without `--type`, if there is one: `--wire`, or else the first flag of the JSON.
-    fn needing_type(&self) -> Option<&'w str>
-        ensures { option_copied result ≡ needing_type (args_told self.now) }
+    /// The flag of the JSON that stands without `--type`, if there is one: the first.
+    fn flag_without_type(&self) -> Option<&'w str>
+        ensures { option_copied result ≡ flag_without_type (args_told self.now) }
     {
-        if self.wire.is_some() {
-            return Some("--wire");
+        if self.type_name.is_some() {
+            return None;
         }
         self.json.first
     }
@@ -98,10 +103,13 @@ impl<'w> Args<'w> {
         if self.files.is_empty() {
             return Some(WordFault::NoFile);
         }
-        if self.type_name.is_some() {
-            return None;
+        if self.wire.is_some() && self.type_name.is_none() {
+            return Some(WordFault::NeedsType { option: "--wire" });
         }
-        match self.needing_type() {
+        if self.descriptor_set_in.is_some() && !self.includes.is_empty() {
+            return Some(WordFault::ExcludesInclude);
+        }
+        match self.flag_without_type() {
             Some(option) => Some(WordFault::NeedsType { option }),
             None => None,
         }

@@ -43,6 +43,8 @@ pub enum WordFault<'w> {
         /// The option.
         option: &'w str,
     },
+    /// A folder stands beside `--descriptor_set_in`.
+    ExcludesInclude,
 }
 
 impl WordFault<'_> {
@@ -68,6 +70,9 @@ impl WordFault<'_> {
             WordFault::NotAlone => Text::joined(alloc, &["--generate stands alone"]),
             WordFault::NoFile => Text::joined(alloc, &["no file given"]),
             WordFault::NeedsType { option } => Text::joined(alloc, &[option, " needs --type"]),
+            WordFault::ExcludesInclude => {
+                Text::joined(alloc, &["--descriptor_set_in excludes -I"])
+            }
         }
     }
 }

@@ -44,6 +44,7 @@ fn set<'w>(
         Flag::Output => args.output = Some(value),
         Flag::IncludeImports => args.include_imports = true,
         Flag::IncludeSourceInfo => args.include_source_info = true,
+        Flag::DescriptorSetIn => args.descriptor_set_in = Some(value),
         Flag::TypeName => args.type_name = Some(value),
         Flag::Wire => args.wire = Some(value),
         Flag::Json(flag) => args.json.add(flag, written),

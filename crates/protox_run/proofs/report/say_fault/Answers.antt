@@ -17,3 +17,6 @@ returns-in-NeedsNumber-clause-said g c = rw c.in-NeedsNumber.is c.say_between-in
 
 pub returns-in-NeedsType-clause-said : goal.returns-in-NeedsType-clause-said
 returns-in-NeedsType-clause-said g c = rw c.in-NeedsType.is c.say_behind.ensures.said
+
+pub returns-in-ExcludesInclude-clause-said : goal.returns-in-ExcludesInclude-clause-said
+returns-in-ExcludesInclude-clause-said g c = rw c.in-ExcludesInclude.is c.say-in-ExcludesInclude.ensures.said

@@ -3,7 +3,7 @@ use Rattle.protox_transcode.specs.declared.error.TopError.{TopError}
 use Rattle.protox_words.specs.Told.{args_told}
 use Rattle.protox_run.specs.Parts.{IsSetRefusal}
 use Rattle.protox_run.proofs.Judged.{set_refused}
-use Rattle.protox_run.proofs.plan.compile_files.Goals as goal
+use Rattle.protox_run.proofs.files.compile_files.Goals as goal
 
 pub returns-in-Err-clause-err : goal.returns-in-Err-clause-err
 returns-in-Err-clause-err g c tells =
