@@ -117,16 +117,29 @@ def as_ours(folder, file):
     return file
 
 
-def written_by(program, folder, name):
-    """The set of the file as the program writes it, or what it says."""
+def written(program, folder, *words):
+    """The set that the program writes in the folder by these words, with all imports and source information, or what it says."""
     with tempfile.TemporaryDirectory() as room:
         path = os.path.join(room, "set")
-        words = [program, "-I.", "--include_imports", "--include_source_info", f"--descriptor_set_out={path}", name]
+        words = [program, "--include_imports", "--include_source_info", f"--descriptor_set_out={path}", *words]
         ran = subprocess.run(words, cwd=folder, stdin=subprocess.DEVNULL, capture_output=True, text=True)
         if ran.returncode:
             return ran.stderr.strip() or f"status {ran.returncode}"
         with open(path, "rb") as file:
             return file.read()
+
+
+def written_by(program, folder, name):
+    """The set of the file that the program writes, or what it says."""
+    return written(program, folder, "-I.", name)
+
+
+def written_again(program, stored, name):
+    """The set of the file that the program writes of a stored set, or what it says."""
+    with tempfile.TemporaryDirectory() as room:
+        with open(os.path.join(room, "stored"), "wb") as file:
+            file.write(stored)
+        return written(program, room, "--descriptor_set_in=stored", name)
 
 
 def spans_of(file):

@@ -59,6 +59,7 @@ fn add_args(alloc: Global, line: &mut String, args: &Args<'_>) -> Result<(), NoM
     add_value(line, " -o", args.output)?;
     add_switch(line, " --include_imports", args.include_imports)?;
     add_switch(line, " --include_source_info", args.include_source_info)?;
+    add_value(line, " --descriptor_set_in", args.descriptor_set_in)?;
     add_value(line, " --type", args.type_name)?;
     add_value(line, " --wire", args.wire)?;
     add_json(line, &args.json)?;
