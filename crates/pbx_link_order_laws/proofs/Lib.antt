@@ -1,0 +1,9 @@
+pub mod Searched
+pub mod Behind
+pub mod Bound
+pub mod Carried
+pub mod Defined
+pub mod Sight
+pub mod Apart
+pub mod Parts
+pub mod Orders
