@@ -1,6 +1,6 @@
 -- What an answer of a resolver says of what it tells, and why it was refused.
 use Rattle.std.specs.Prelude.{◌≡◌, ℕ, List, Bool, IsTrue, Result, Ok, Err, Some}
-use Rattle.protox_io.specs.Count.{Count, Rose}
+use Rattle.protox_io.specs.Count.{Count, Rose, RoseTimes}
 use Rattle.pbx_parse.specs.Errors.{error_file}
 use Rattle.protox_file_error.specs.declared.error.ErrorKind.{ErrorKind}
 use Rattle.protox_file_error.specs.declared.error.ErrorKind.TheVariants.{Parse, OpenFile, FileTooLarge, FileInvalidUtf8, FileNotFound, Custom, NoMemory}
@@ -28,6 +28,10 @@ IsNamedFault may_fail kind = ⊥
 -- why there is a fault of opening a name: the count rose, and the name may have it
 abbrev pub FaultCause : Library → Count → Count → ErrorKind → Type 0
 FaultCause library before now error = Rose before now × IsNamedFault library.may_fail error
+
+-- the same of a fault that each of so many openings met: the count rose as often
+abbrev pub FaultsCause : ℕ → Library → Count → Count → ErrorKind → Type 0
+FaultsCause times library before now error = RoseTimes times before now × IsNamedFault library.may_fail error
 
 -- The refusal is told of the name. A fault, or want of memory, may come in place of what is told.
 abbrev pub IsToldRefusal : List ℕ → Told → ErrorKind → Type 0
