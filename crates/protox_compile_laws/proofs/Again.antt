@@ -20,13 +20,13 @@ use Rattle.protox_compile_walk.specs.Opening.{Ended, IsDecided, Accepted, NotInc
 use Rattle.protox_compile_walk.specs.Opening.{open_done, open_root, open_name, opening, after_opening, closure}
 use Rattle.protox_compile_walk.specs.Compiled.{IsOrdered, AllDone}
 use Rattle.protox_compile_walk.proofs.Right.{same_bytes, bytes_are}
-use Rattle.protox_compile_order_laws.specs.PathOrder.{StandAmong, StandAlike, ClosesAlike, ClosesInEachOrder, OpensInEachOrder}
+use Rattle.protox_compile_laws.specs.PathOrder.{StandAmong, StandAlike, ClosesAlike, ClosesInEachOrder, OpensInEachOrder}
 use Rattle.protox_compile_walk.specs.Laws.{ClosesOnce}
-use Rattle.protox_compile_order_laws.proofs.Settled.{plain, plain_one, records_plain, is_done_plain, path_plain, plain_marked, AllSettle}
-use Rattle.protox_compile_order_laws.proofs.First.{by_test, done_more, IsClear}
-use Rattle.protox_compile_order_laws.proofs.Second.{AreNamed, has_named, named_joined, stands, done_second, not_both, no_more, by_true}
-use Rattle.protox_compile_order_laws.proofs.Second.{free, free_alike, free_few, Base, IsPart, VisitCame, visit_came}
-use Rattle.protox_compile_order_laws.proofs.Openings.{done_alike, First, Closed, IsOpen, asks, accepted_first}
+use Rattle.protox_compile_laws.proofs.Settled.{plain, plain_one, records_plain, is_done_plain, path_plain, plain_marked, AllSettle}
+use Rattle.protox_compile_laws.proofs.First.{by_test, done_more, IsClear}
+use Rattle.protox_compile_laws.proofs.Second.{AreNamed, has_named, named_joined, stands, done_second, not_both, no_more, by_true}
+use Rattle.protox_compile_laws.proofs.Second.{free, free_alike, free_few, Base, IsPart, VisitCame, visit_came}
+use Rattle.protox_compile_laws.proofs.Openings.{done_alike, First, Closed, IsOpen, asks, accepted_first}
 
 -- ---- no name stands twice
 

@@ -28,8 +28,8 @@ use Rattle.protox_compile_walk.specs.Walk.{Visited, Finished, Missing, Faulted, 
 use Rattle.protox_compile_walk.specs.Walk.{after_visit, visit_imports, finish, unless_shadowed, visit_lookup, visit}
 use Rattle.protox_compile_walk.proofs.Right.{same_bytes, bytes_are}
 use Rattle.protox_compile_walk.proofs.Fresh.{is_done_push}
-use Rattle.protox_compile_order_laws.proofs.Settled.{plain, plain_one, records_plain, is_done_plain, AreTaken, Settles, AllSettle, one_settles, all_pooled}
-use Rattle.protox_compile_order_laws.proofs.First.{by_test, differ, done_more, done_last, IsClear}
+use Rattle.protox_compile_laws.proofs.Settled.{plain, plain_one, records_plain, is_done_plain, AreTaken, Settles, AllSettle, one_settles, all_pooled}
+use Rattle.protox_compile_laws.proofs.First.{by_test, differ, done_more, done_last, IsClear}
 
 abbrev File : Type 0
 File = FileDescriptorProto

@@ -14,8 +14,8 @@ use Rattle.protox_compile_walk.specs.Opening.{Ended, Accepted, NotIncluded, Refu
 use Rattle.protox_compile_walk.specs.Opening.{open_done, open_root, open_name, after_opening, closure}
 use Rattle.protox_compile_walk.proofs.Right.{bytes_are}
 use Rattle.protox_compile_walk.proofs.Fresh.{apart}
-use Rattle.protox_compile_order_laws.proofs.Settled.{plain, plain_one, is_done_plain, path_plain, plain_marked, AllSettle, all_plain, all_joined}
-use Rattle.protox_compile_order_laws.proofs.First.{by_test, done_more, IsClear, Grew, VisitGrew, visit_grew}
+use Rattle.protox_compile_laws.proofs.Settled.{plain, plain_one, is_done_plain, path_plain, plain_marked, AllSettle, all_plain, all_joined}
+use Rattle.protox_compile_laws.proofs.First.{by_test, done_more, IsClear, Grew, VisitGrew, visit_grew}
 
 -- ---- files that differ in their marks at most
 

@@ -19,7 +19,7 @@ use Rattle.protox_compile_walk.proofs.Fresh.{is_done_push}
 use Rattle.protox_compile_walk.proofs.Recorded.{linked_name}
 use Rattle.pbx_link_rules.proofs.Lists.{or_left, or_right, neither}
 use Rattle.protox_compile_walk.specs.Opening.{path_in}
-use Rattle.protox_compile_order_laws.proofs.Settled.{AreTaken, Settles, AllSettle, all_joined}
+use Rattle.protox_compile_laws.proofs.Settled.{AreTaken, Settles, AllSettle, all_joined}
 
 -- one of two, by a test
 pub by_test : {A : Type 0} (P : A → Type 0) (b : Bool) (x y : A) → (b ≡ true → P x) → (b ≡ false → P y) → P (if b then x else y)

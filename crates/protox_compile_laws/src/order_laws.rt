@@ -1,5 +1,5 @@
 // Laws that callers use in their proofs. They have no body, but that they call laws.
-ghost use Rattle.protox_compile_order_laws.specs.PathOrder.{ClosesInEachOrder, OpensInEachOrder};
+ghost use Rattle.protox_compile_laws.specs.PathOrder.{ClosesInEachOrder, OpensInEachOrder};
 
 use protox_file_sources::looked_up_once;
 

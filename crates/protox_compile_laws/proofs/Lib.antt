@@ -3,3 +3,8 @@ pub mod First
 pub mod Second
 pub mod Openings
 pub mod Again
+pub mod Fronts
+pub mod Kept
+pub mod Resumed
+pub mod Lacking
+pub mod Retried

@@ -1,1 +1,2 @@
 pub mod PathOrder
+pub mod Retry

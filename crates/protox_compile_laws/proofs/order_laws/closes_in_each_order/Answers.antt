@@ -1,6 +1,6 @@
 use Rattle.protox_compile_walk.proofs.Joined.{closes_once}
-use Rattle.protox_compile_order_laws.proofs.Again.{in_each_order, opens_in_each_order}
-use Rattle.protox_compile_order_laws.proofs.order_laws.closes_in_each_order.Goals as goal
+use Rattle.protox_compile_laws.proofs.Again.{in_each_order, opens_in_each_order}
+use Rattle.protox_compile_laws.proofs.order_laws.closes_in_each_order.Goals as goal
 
 pub returns-clause-closes : goal.returns-clause-closes
 returns-clause-closes c = in_each_order
