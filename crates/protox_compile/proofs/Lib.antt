@@ -5,3 +5,4 @@ pub mod Repeats
 pub mod Among
 pub mod SetAgain
 pub mod RepeatsAgain
+pub mod Tried

@@ -148,7 +148,7 @@ mark_opened n m (d ∷ ds) h = at (λ k. mark_opened n m ds k) (bytes_eq d.name 
         ap (λ r. if bytes_eq d.name m then d.opened else r) (rest k)
         ∙ other (bytes_eq d.name m) (bytes_eq n m) (apart (bytes_eq n m) refl e)
 
-done_marked : (n : List ℕ) (asked known : Option (List ℕ)) (done new : List Done) → open_done n asked known done ≡ (new, Accepted) → new ≡ mark n done
+pub done_marked : (n : List ℕ) (asked known : Option (List ℕ)) (done new : List Done) → open_done n asked known done ≡ (new, Accepted) → new ≡ mark n done
 done_marked n None known done new h = sym (ap (λ o. o.0) h)
 done_marked n (Some asked) None done new h = sym (ap (λ o. o.0) h)
 done_marked n (Some asked) (Some path) done new h = at (path_equal path asked) h

@@ -1,8 +1,8 @@
 //! The compiler: files and all that they import.
 
-ghost use Rattle.std.specs.Prelude.{◌≡◌, ◌≤◌, [], IfOk, IfErr, OnOk, OnErr, IsTrue, Some, length, map, min, true};
+ghost use Rattle.std.specs.Prelude.{◌≡◌, ◌≤◌, ◌+◌, [], IfOk, IfErr, OnOk, OnErr, IsTrue, Some, drop, length, map, min, true};
 ghost use Rattle.std.specs.Slice.Iter.{iter_rest};
-ghost use Rattle.protox_file_sources.specs.Causes.{FaultCause};
+ghost use Rattle.protox_file_sources.specs.Causes.{FaultCause, FaultsCause};
 ghost use Rattle.pbx_link_rules.specs.Pool.{ArePooled};
 ghost use Rattle.protox_file_sources.specs.Told.{ByLookups};
 ghost use Rattle.protox_compile_walk.specs.Walk.{is_done, records};
@@ -11,13 +11,17 @@ ghost use Rattle.protox_compile_walk.specs.Refusals.{RefusesOpening, HasOpeningC
 ghost use Rattle.protox_compile_walk.specs.Opens.{Opens, OpensTimes, StopsAmong, is_settled};
 ghost use Rattle.protox_compile_walk.specs.Closures.{StopsAt};
 ghost use Rattle.protox_compile_walk.specs.Compiled.{IsOrdered, metadata_of};
+ghost use Rattle.protox_compile_laws.specs.Retry.{RefusesTries};
 ghost use Rattle.protox_compile.specs.State.{KeepsSettings, fresh, most_files};
 ghost use Rattle.protox_compile.specs.Sets.{listed as listed_of, IsSet, AreDecodable, IsUnencodable};
+ghost use Rattle.protox_compile.specs.Tries.{told_before as told_before_of};
 
+use crate::retry::{Tries, told_before};
 use crate::sets::{encode_listed, listed};
 use pbx_desc_records::FileDescriptorSet;
 use pbx_link::DescriptorPool;
 use pbx_wire::{NoMemory, Recs, Texts};
+use protox_compile_laws::tries_are_one;
 use protox_compile_walk::{FinishedFiles, Opened, open_path};
 use protox_file::StandardResolver;
 use protox_file_sources::{Disk, Error, FileMetadata, FileResolver, looked_up_once};
@@ -165,6 +169,64 @@ impl<R: FileResolver> Compiler<R> {
             }
         }
         Ok(())
+    }
+
+    /// Opens the file at a path as `open_file` does, and at most `tries` times again where that is refused for what may pass: a fault of reading
+    /// (`OpenFile`), a fault of the resolver's own (`Custom`) or want of memory (`NoMemory`). Any other error is answered at once. The
+    /// imports that a refused try finished stay, so the next one reads only what is left.
+    ///
+    /// Where the last try is refused for such, its error is answered, but `NoMemory` where any of them was refused for want of memory. So a
+    /// fault is answered only where each of `tries + 1` openings met one.
+    ///
+    /// Answers what the name of the path was before the first try.
+    pub fn open_retry(&mut self, path: &str, tries: u32) -> Result<Opened, Error>
+        // Over a resolver that tells, what is accepted is what a single opening does, whatever was refused before.
+        ensures ok { IsTrue (R.library self.old.resolver).tells → OnOk result (ByLookups (R.library self.old.resolver).files
+            (λ lookups. opening lookups (R.library self.old.resolver).resolves self.old.limit path.now self.old.done ≡ (self.new.done, Accepted))) }
+        ensures report { IsTrue (R.library self.old.resolver).tells →
+            IfOk result (λ report. report_of (R.library self.old.resolver).resolves path.now self.old.done ≡ Some report) }
+
+        // A single opening may be refused with this error too, and is where it is none that may pass; what it finishes begins with what is left.
+        ensures err { IsTrue (R.library self.old.resolver).tells → IfErr result (λ error. ByLookups (R.library self.old.resolver).files
+            (λ lookups. RefusesTries lookups (R.library self.old.resolver).resolves self.old.limit path.now self.old.done self.new.done error)) }
+        ensures again { IsTrue (R.library self.old.resolver).tells → is_settled (root_of (R.library self.old.resolver).resolves path.now) self.old.done ≡ true →
+            self.new.resolver ≡ self.old.resolver }
+
+        // Over every resolver, as `open_file`; but a fault of the resolver comes only where its count rose at each opening.
+        ensures opens { IfOk result (Opens self.old.done self.new.done) }
+        ensures grows { OnErr result (Grows self.old.done self.new.done) }
+        ensures cause { IfErr result (HasOpeningCause self.old.limit path.now self.new.done
+            (FaultsCause (tries + 1) (R.library self.old.resolver) (R.count self.old.resolver) (R.count self.new.resolver))) }
+        ensures keeps { KeepsSettings R.library R.count self.old self.new }
+    {
+        tries_are_one();
+        let before = self.count();
+        let mut left = Tries::new(tries);
+        loop {
+            match self.open_file(path) {
+                Ok(report) => return Ok(self.told_before(before, report)),
+                Err(error) => {
+                    if let Err(answer) = left.next(error) {
+                        return Err(answer);
+                    }
+                }
+            }
+        }
+    }
+
+    /// How many files there are.
+    fn count(&self) -> usize
+        ensures { result ≡ length self.now.done }
+    {
+        self.finished.metadata().len()
+    }
+
+    /// What a name was when there were so many files, where an opening marked it and told this.
+    fn told_before(&self, before: usize, report: Opened) -> Opened
+        requires { before ≤ length self.now.done }
+        ensures { result ≡ told_before_of (drop before (map metadata_of self.now.done)) report }
+    {
+        told_before(self.finished.metadata(), before, report)
     }
 
     /// The set of the files: their linked records in order, without the files that are only imported and without source

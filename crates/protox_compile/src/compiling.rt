@@ -1,8 +1,8 @@
 //! Compiling the files at paths at once.
 
-ghost use Rattle.std.specs.Prelude.{◌≡◌, ◌++◌, [], length, IsTrue, IfOk, IfErr, OnOk, Some, List as ListOf};
+ghost use Rattle.std.specs.Prelude.{◌≡◌, ◌+◌, ◌++◌, [], length, IsTrue, IfOk, IfErr, OnOk, Some, List as ListOf};
 ghost use Rattle.pbx_wkt_files.specs.Files.{wkt_files};
-ghost use Rattle.protox_file_sources.specs.Causes.{FaultCause};
+ghost use Rattle.protox_file_sources.specs.Causes.{FaultCause, FaultsCause};
 ghost use Rattle.protox_file.specs.Standard.{standard};
 ghost use Rattle.protox_compile_walk.specs.Walk.{Done};
 ghost use Rattle.protox_compile_walk.specs.Opens.{OpensTimes};
@@ -51,6 +51,7 @@ fn note(repeated: &mut List<u64>, index: u64, report: Opened) -> Result<(), NoMe
 fn open_each<R: FileResolver>(
     compiler: &mut Compiler<R>,
     files: &Texts,
+    tries: u32,
     repeated: &mut List<u64>,
 ) -> Result<(), Error>
     requires empty { compiler.old ≡ fresh compiler.old.resolver }
@@ -62,25 +63,26 @@ fn open_each<R: FileResolver>(
     ensures err { IsTrue (R.library compiler.old.resolver).tells → IfErr result (StopsCompiling (R.library compiler.old.resolver) files.now) }
     ensures opens { OnOk result (OpensTimes (length files.now) [] compiler.new.done) }
     ensures cause { IfErr result (HasCompilingCause files.now
-        (FaultCause (R.library compiler.old.resolver) (R.count compiler.old.resolver) (R.count compiler.new.resolver))) }
+        (FaultsCause (tries + 1) (R.library compiler.old.resolver) (R.count compiler.old.resolver) (R.count compiler.new.resolver))) }
     ensures keeps { KeepsSettings R.library R.count compiler.old compiler.new }
 {
     // So the look-ups of all paths agree.
     looked_up_once();
     let paths = files.as_slice();
     for index in 0..paths.len() {
-        let report = compiler.open_file(paths[index].as_str())?;
+        let report = compiler.open_retry(paths[index].as_str(), tries)?;
         note(repeated, index as u64, report)?;
     }
     Ok(())
 }
 
 /// A compiler of the resolver, with the files at the paths opened in order, and which of them were given again; or the resolver, and
-/// why one is refused.
+/// why one is refused. Each path is opened as `Compiler::open_retry` does, again at most `tries` times.
 pub fn open_all<R: FileResolver>(
     alloc: Global,
     resolver: R,
     files: &Texts,
+    tries: u32,
 ) -> Result<OpenedAll<R>, (R, Error)>
     ensures ok { IsTrue (R.library resolver).tells → IfOk result (λ o. Compiles (R.library resolver) files.now (λ done. o.compiler.done ≡ done)) }
     ensures repeated { IsTrue (R.library resolver).tells → IfOk result (λ o. o.repeated ≡ repeats (R.library resolver).resolves files.now) }
@@ -88,7 +90,7 @@ pub fn open_all<R: FileResolver>(
 
     // Over every resolver, each path adds files as imports and then marks one of all.
     ensures opens { IfOk result (λ o. OpensTimes (length files.now) [] o.compiler.done) }
-    ensures cause { IfErr result (λ e. HasCompilingCause files.now (FaultCause (R.library resolver) (R.count resolver) (R.count e.0)) e.1) }
+    ensures cause { IfErr result (λ e. HasCompilingCause files.now (FaultsCause (tries + 1) (R.library resolver) (R.count resolver) (R.count e.0)) e.1) }
     ensures keeps { IfOk result (λ o. KeepsFiles R.library R.count resolver o.compiler.resolver) }
     ensures back { IfErr result (λ e. KeepsFiles R.library R.count resolver e.0) }
 {
@@ -97,14 +99,14 @@ pub fn open_all<R: FileResolver>(
         Err(resolver) => return Err((resolver, Error::from(NoMemory))),
     };
     let mut repeated = List::new(alloc);
-    match open_each(&mut compiler, files, &mut repeated) {
+    match open_each(&mut compiler, files, tries, &mut repeated) {
         Ok(()) => Ok(OpenedAll { compiler, repeated }),
         Err(error) => Err((compiler.into_resolver(), error)),
     }
 }
 
 /// The set of the files at the paths and all that they import. The resolver is handed back.
-#[tactic(auto, using(crate::proofs::Among::are_compiled))]
+#[tactic(auto, using(crate::proofs::Among::are_compiled, crate::proofs::Tried::compiling_once))]
 fn compile_with<R: FileResolver>(
     alloc: Global,
     resolver: R,
@@ -117,7 +119,7 @@ fn compile_with<R: FileResolver>(
     ensures keeps { KeepsFiles R.library R.count resolver result.0 }
 {
     linking_ends();
-    let mut compiler = match open_all(alloc, resolver, files) {
+    let mut compiler = match open_all(alloc, resolver, files, 0) {
         Ok(opened) => opened.compiler,
         Err((resolver, error)) => return (resolver, Err(error)),
     };

@@ -4,6 +4,7 @@
 mod compiler;
 mod compiling;
 mod laws;
+mod retry;
 mod sets;
 
 pub use compiler::{Compiler, Files};
