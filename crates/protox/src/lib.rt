@@ -22,6 +22,6 @@ pub use protox_file::Error;
 pub use protox_io;
 pub use protox_run::{Ran, Refusal, done_is_determined, run, stopped_run_leaves};
 pub use protox_transcode::{
-    Attempt, TopError, Transcoded, compile_and_transcode, refused_is_determined,
-    transcoded_is_determined, transcodes_again,
+    Attempt, TopError, Transcoded, compile_and_transcode, compile_and_transcode_retry,
+    refused_is_determined, transcoded_is_determined, transcodes_again,
 };

@@ -74,6 +74,7 @@ fn transcode(
         &paths,
         name.as_str(),
         InputTree::Owned(tree),
+        0,
         &options,
     )
     .result

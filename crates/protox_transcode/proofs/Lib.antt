@@ -4,3 +4,4 @@ pub mod Transcoding
 pub mod Determined
 pub mod Refused
 pub mod Again
+pub mod Tries

@@ -1,5 +1,5 @@
 -- What holds of transcodings.
-use Rattle.std.specs.Prelude.{◌≡◌, ℕ, List, [], Option, true, false}
+use Rattle.std.specs.Prelude.{◌≡◌, ◌≤◌, ℕ, List, [], Option, true, false}
 use Rattle.serde_json.specs.Data.{Data}
 use Rattle.pbx_parse.specs.declared.error.ParseError.TheVariants as parse
 use Rattle.pbx_link_definitions.specs.declared.error.DescriptorError.TheVariants as check
@@ -10,7 +10,7 @@ use Rattle.pbx_json_meaning.specs.declared.options.SerializeOptions.{SerializeOp
 use Rattle.protox_io.specs.Count.{Count}
 use Rattle.protox_file_error.specs.declared.error.ErrorKind.{ErrorKind}
 use Rattle.protox_file_error.specs.declared.error.ErrorKind.TheVariants as kinds
-use Rattle.protox_file_sources.specs.Causes.{FaultCause}
+use Rattle.protox_file_sources.specs.Causes.{FaultCause, FaultsCause}
 use Rattle.protox_file_sources.specs.Library.{Library}
 use Rattle.protox_file_sources.specs.Told.{Told}
 use Rattle.protox_transcode.specs.Top.{ForFiles, ForType, IsTranscoded, Refuses, IsCaused, is_refusal}
@@ -56,6 +56,12 @@ RefusedOnce =
     → is_refusal later ≡ true → IsCaused (FaultCause later_library later_before later_after) later
     → Refuses library.files library.resolves paths name tree later
     → fixed_error error ≡ fixed_error later
+
+-- A fault that each of several openings met is one that an opening met: an error of a call that opens paths again is told as of one that does not.
+abbrev pub CausesAreTold : Type 0
+CausesAreTold =
+    (times : ℕ) (library : Library) (before after : Count) (error : TopError) → 1 ≤ times
+    → IsCaused (FaultsCause times library before after) error → IsCaused (FaultCause library before after) error
 
 -- Of two faults of one tree both kinds are those of rules that it breaks at their one place: so they are one where it breaks one rule there.
 abbrev pub KindsAreBroken : Type 0

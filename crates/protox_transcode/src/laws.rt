@@ -1,6 +1,6 @@
 ghost use Rattle.protox_compile.specs.Repeats.{NamesRepeatAsPaths};
 ghost use Rattle.protox_transcode.specs.Again.{TranscodesAgain, TranscodedIsRead, TranscodedAskFor};
-ghost use Rattle.protox_transcode.specs.Laws.{KindsAreBroken, RefusedOnce, TranscodedAlone, TranscodedOnce};
+ghost use Rattle.protox_transcode.specs.Laws.{CausesAreTold, KindsAreBroken, RefusedOnce, TranscodedAlone, TranscodedOnce};
 
 use pbx_json_meaning::first_fault_is_one_place;
 use protox_compile::{names_repeat_as_paths, opens_once, roots_name_themselves, set_opens_again};
@@ -18,10 +18,12 @@ pub fn transcoded_is_determined()
 /// Of any paths and any resolver that tells its files: where `compile_and_transcode` refuses the same paths, type's name and
 /// tree twice, the two errors are one, want of memory and faults aside: of one class, and equal but for the place beside a
 /// broken rule, the place and the words of a fault of syntax, and the kind of a fault of the tree, which is one too where no
-/// two rules are broken at its place.
+/// two rules are broken at its place. What `compile_and_transcode_retry` tells of an error's cause implies what `compile_and_transcode`
+/// tells, so the law holds of both calls.
 pub fn refused_is_determined()
     ensures once { RefusedOnce }
     ensures kinds { KindsAreBroken }
+    ensures told { CausesAreTold }
 {
     opens_once();
     // The place of a tree's fault is one.

@@ -11,4 +11,6 @@ mod transcode;
 pub use error::{TopError, file_error};
 pub use input_tree::InputTree;
 pub use laws::{refused_is_determined, transcoded_is_determined, transcodes_again};
-pub use transcode::{Attempt, Transcoded, compile_and_transcode, transcode_files};
+pub use transcode::{
+    Attempt, Transcoded, compile_and_transcode, compile_and_transcode_retry, transcode_files,
+};

@@ -1,6 +1,6 @@
 //! From files, a type's name and a tree to the set of the files, the wire bytes and the tree under options.
 
-ghost use Rattle.std.specs.Prelude.{◌≡◌, ◌≤◌, ◌⊎◌, length, IfOk, IfErr, OnOk, IsTrue, List as ListOf};
+ghost use Rattle.std.specs.Prelude.{◌≡◌, ◌+◌, ◌≤◌, ◌⊎◌, length, IfOk, IfErr, OnOk, IsTrue, List as ListOf};
 ghost use Rattle.serde_json.specs.View.{view};
 ghost use Rattle.pbx_json_meaning.specs.Canonical.{canonical};
 ghost use Rattle.pbx_json_meaning.specs.Options.{default_reading};
@@ -8,7 +8,7 @@ ghost use Rattle.pbx_json_meaning.specs.Trees.{HasTexts};
 ghost use Rattle.pbx_link_meaning.specs.Descriptors.{message_of_name};
 ghost use Rattle.pbx_link_meaning.specs.Shapes.{shape_of, place_of};
 ghost use Rattle.pbx_message_dynamic.specs.Trees.{IsRead};
-ghost use Rattle.protox_file_sources.specs.Causes.{FaultCause};
+ghost use Rattle.protox_file_sources.specs.Causes.{FaultCause, FaultsCause};
 ghost use Rattle.protox_compile_walk.specs.Walk.{Done, records};
 ghost use Rattle.protox_compile.specs.Compiling.{AreCompiled};
 ghost use Rattle.protox_compile.specs.State.{KeepsFiles};
@@ -210,13 +210,14 @@ fn transcode_in(
     }
 }
 
-/// As `compile_and_transcode`; an own tree is let go once it is read.
+/// As `compile_and_transcode_retry`; an own tree is let go once it is read.
 pub fn transcode_files<R: FileResolver>(
     alloc: Global,
     resolver: R,
     paths: &Texts,
     type_name: &str,
     tree: InputTree<'_>,
+    tries: u32,
     options: &SerializeOptions,
 ) -> Attempt<R>
     // Over a resolver that tells, the files are the closure of the paths.
@@ -225,7 +226,7 @@ pub fn transcode_files<R: FileResolver>(
     ensures repeated { IsTrue (R.library resolver).tells → IfOk result.result (λ done. done.repeated ≡ repeats (R.library resolver).resolves paths.now) }
     ensures err { IsTrue (R.library resolver).tells → IfErr result.result
         (Refuses (R.library resolver).files (R.library resolver).resolves paths.now type_name.now (data_of tree.entry)) }
-    ensures cause { IfErr result.result (IsCaused (FaultCause (R.library resolver) (R.count resolver) (R.count result.resolver))) }
+    ensures cause { IfErr result.result (IsCaused (FaultsCause (tries + 1) (R.library resolver) (R.count resolver) (R.count result.resolver))) }
 
     // Over every resolver, each path adds files as imports and then marks one of all; they stand in order, each once and behind its
     // imports, and each is linked to itself among those before it. An error is one of the walk or of such files.
@@ -233,11 +234,11 @@ pub fn transcode_files<R: FileResolver>(
         (λ done. (files : ListOf Done) × AreCompiled (length paths.now) files
         × IsTranscoded type_name.now (data_of tree.entry) options.now (records files) done.set done.wire (view done.tree)) }
     ensures judged { IfErr result.result (IsJudged paths.now type_name.now (data_of tree.entry)
-        (FaultCause (R.library resolver) (R.count resolver) (R.count result.resolver))) }
+        (FaultsCause (tries + 1) (R.library resolver) (R.count resolver) (R.count result.resolver))) }
     ensures keeps { KeepsFiles R.library R.count resolver result.resolver }
 {
     linking_ends();
-    let OpenedAll { compiler, repeated } = match open_all(alloc, resolver, paths) {
+    let OpenedAll { compiler, repeated } = match open_all(alloc, resolver, paths, tries) {
         Ok(opened) => opened,
         Err((resolver, error)) => {
             return Attempt {
@@ -291,5 +292,38 @@ pub fn compile_and_transcode<R: FileResolver>(
     ensures keeps { KeepsFiles R.library R.count resolver result.resolver }
 {
     let input = InputTree::Borrowed(tree);
-    transcode_files(alloc, resolver, paths, type_name, input, options)
+    transcode_files(alloc, resolver, paths, type_name, input, 0, options)
+}
+
+/// As `compile_and_transcode`, but each path whose opening meets a fault of the resolver, or want of memory, is opened again, at most `tries`
+/// times, as `Compiler::open_retry` does. So a fault of the resolver is told only where for one path each of `tries + 1` openings met one, and
+/// faults in between change nothing of what is made.
+pub fn compile_and_transcode_retry<R: FileResolver>(
+    alloc: Global,
+    resolver: R,
+    paths: &Texts,
+    type_name: &str,
+    tree: &Value,
+    tries: u32,
+    options: &SerializeOptions,
+) -> Attempt<R>
+    // Over a resolver that tells, the files are the closure of the paths.
+    ensures ok { IsTrue (R.library resolver).tells → IfOk result.result (λ done. ForFiles (R.library resolver).files (R.library resolver).resolves paths.now
+        (λ files. IsTranscoded type_name.now (view tree.now) options.now files done.set done.wire (view done.tree))) }
+    ensures repeated { IsTrue (R.library resolver).tells → IfOk result.result (λ done. done.repeated ≡ repeats (R.library resolver).resolves paths.now) }
+    ensures err { IsTrue (R.library resolver).tells → IfErr result.result
+        (Refuses (R.library resolver).files (R.library resolver).resolves paths.now type_name.now (view tree.now)) }
+    ensures cause { IfErr result.result (IsCaused (FaultsCause (tries + 1) (R.library resolver) (R.count resolver) (R.count result.resolver))) }
+
+    // Over every resolver, each path adds files as imports and then marks one of all; they stand in order, each once and behind its
+    // imports, and each is linked to itself among those before it. An error is one of the walk or of such files.
+    ensures ordered { IfOk result.result
+        (λ done. (files : ListOf Done) × AreCompiled (length paths.now) files
+        × IsTranscoded type_name.now (view tree.now) options.now (records files) done.set done.wire (view done.tree)) }
+    ensures judged { IfErr result.result (IsJudged paths.now type_name.now (view tree.now)
+        (FaultsCause (tries + 1) (R.library resolver) (R.count resolver) (R.count result.resolver))) }
+    ensures keeps { KeepsFiles R.library R.count resolver result.resolver }
+{
+    let input = InputTree::Borrowed(tree);
+    transcode_files(alloc, resolver, paths, type_name, input, tries, options)
 }

@@ -1,6 +1,6 @@
 use Rattle.serde_json.specs.View.{view}
-use Rattle.std.proofs.Common.{◌∙◌, length, sym, subst}
-use Rattle.protox_file_sources.specs.Causes.{FaultCause}
+use Rattle.std.proofs.Common.{◌∙◌, ◌+◌, length, sym, subst}
+use Rattle.protox_file_sources.specs.Causes.{FaultsCause}
 use Rattle.protox_compile.proofs.Kept.{files_as}
 use Rattle.protox_compile.proofs.Among.{are_compiled}
 use Rattle.protox_transcode.specs.Input.{data_of}
@@ -18,15 +18,15 @@ returns-in-Err-clause-err g c tells =
 
 pub returns-in-Err-clause-cause : goal.returns-in-Err-clause-cause
 returns-in-Err-clause-cause g c =
-    let P : TopError → Type 0 = λ e. IsCaused (FaultCause (g.R.FileResolver.library c.args.resolver) (g.R.FileResolver.count c.args.resolver) (g.R.FileResolver.count c.in-Err.resolver)) e in
+    let P : TopError → Type 0 = λ e. IsCaused (FaultsCause (c.args.tries + 1) (g.R.FileResolver.library c.args.resolver) (g.R.FileResolver.count c.args.resolver) (g.R.FileResolver.count c.in-Err.resolver)) e in
     subst P (sym c.file_error.ensures.is) (compiling_caused c.args.paths.now
-    (FaultCause (g.R.FileResolver.library c.args.resolver) (g.R.FileResolver.count c.args.resolver) (g.R.FileResolver.count c.in-Err.resolver)) c.in-Err.error c.file_error.ensures.whole c.in-Err.ensures.cause)
+    (FaultsCause (c.args.tries + 1) (g.R.FileResolver.library c.args.resolver) (g.R.FileResolver.count c.args.resolver) (g.R.FileResolver.count c.in-Err.resolver)) c.in-Err.error c.file_error.ensures.whole c.in-Err.ensures.cause)
 
 pub returns-in-Err-clause-judged : goal.returns-in-Err-clause-judged
 returns-in-Err-clause-judged g c =
-    let P : TopError → Type 0 = λ e. IsJudged c.args.paths.now c.args.type_name.now (data_of c.args.tree) (FaultCause (g.R.FileResolver.library c.args.resolver) (g.R.FileResolver.count c.args.resolver) (g.R.FileResolver.count c.in-Err.resolver)) e in
+    let P : TopError → Type 0 = λ e. IsJudged c.args.paths.now c.args.type_name.now (data_of c.args.tree) (FaultsCause (c.args.tries + 1) (g.R.FileResolver.library c.args.resolver) (g.R.FileResolver.count c.args.resolver) (g.R.FileResolver.count c.in-Err.resolver)) e in
     subst P (sym c.file_error.ensures.is) (walk_judged c.args.paths.now c.args.type_name.now (data_of c.args.tree)
-    (FaultCause (g.R.FileResolver.library c.args.resolver) (g.R.FileResolver.count c.args.resolver) (g.R.FileResolver.count c.in-Err.resolver)) c.in-Err.error c.in-Err.ensures.cause)
+    (FaultsCause (c.args.tries + 1) (g.R.FileResolver.library c.args.resolver) (g.R.FileResolver.count c.args.resolver) (g.R.FileResolver.count c.in-Err.resolver)) c.in-Err.error c.in-Err.ensures.cause)
 
 pub returns-clause-ok : goal.returns-clause-ok
 returns-clause-ok g c tells =
@@ -50,7 +50,7 @@ returns-clause-repeated g c tells = ok_then c.transcode_in-result.result (λ don
 pub returns-clause-cause : goal.returns-clause-cause
 returns-clause-cause g c =
     err_then c.transcode_in-result.result
-    (λ error h. pool_caused (FaultCause (g.R.FileResolver.library c.args.resolver) (g.R.FileResolver.count c.args.resolver) (g.R.FileResolver.count c.into_resolver.result)) c.args.type_name.now (data_of c.args.tree) c.descriptor_pool-pool.result error h) c.transcode_in-result.ensures.err
+    (λ error h. pool_caused (FaultsCause (c.args.tries + 1) (g.R.FileResolver.library c.args.resolver) (g.R.FileResolver.count c.args.resolver) (g.R.FileResolver.count c.into_resolver.result)) c.args.type_name.now (data_of c.args.tree) c.descriptor_pool-pool.result error h) c.transcode_in-result.ensures.err
 
 pub returns-clause-ordered : goal.returns-clause-ordered
 returns-clause-ordered g c =
@@ -62,7 +62,7 @@ returns-clause-ordered g c =
 pub returns-clause-judged : goal.returns-clause-judged
 returns-clause-judged g c =
     err_then c.transcode_in-result.result
-    (λ error h. pool_judged c.args.paths.now (FaultCause (g.R.FileResolver.library c.args.resolver) (g.R.FileResolver.count c.args.resolver) (g.R.FileResolver.count c.into_resolver.result)) c.args.type_name.now (data_of c.args.tree) c.in-Ok.opened.compiler.done c.descriptor_pool-pool.result
+    (λ error h. pool_judged c.args.paths.now (FaultsCause (c.args.tries + 1) (g.R.FileResolver.library c.args.resolver) (g.R.FileResolver.count c.args.resolver) (g.R.FileResolver.count c.into_resolver.result)) c.args.type_name.now (data_of c.args.tree) c.in-Ok.opened.compiler.done c.descriptor_pool-pool.result
     error c.descriptor_pool-pool.ensures.pool
     (are_compiled c.linking_ends.ensures.each (length c.args.paths.now) c.in-Ok.opened.compiler.done c.in-Ok.ensures.opens c.descriptor_pool-pool.ensures.ordered c.descriptor_pool-pool.ensures.pooled) h)
     c.transcode_in-result.ensures.err
