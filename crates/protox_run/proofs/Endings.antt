@@ -234,13 +234,13 @@ module _ (read : Result Args WordFault) where
   pub words_memory : (disk : Volume) (input : List ℕ) (rose refused : Type 0) (old : List ℕ) → Appends old old (Comes read disk input disk rose refused (Some NoMemory))
   words_memory disk input rose refused old = record { added = []; is = nothing_more old; so = no_room disk input rose refused read }
 
-  pub ends_some : (args : Args) (disk input out : Type 0) (e : Option Stop) → read ≡ Ok args → CausedEnd args disk input out e → EndsFor read disk input out e
+  pub ends_some : (args : Args) (disk : ℕ → Type 0) (input out : Type 0) (e : Option Stop) → read ≡ Ok args → CausedEnd args disk input out e → EndsFor read disk input out e
   ends_some args disk input out e is h = let P : Result Args WordFault → Type 0 = λ x. EndsFor x disk input out e in subst P (sym is) h
 
-  pub ends_faulty : (fault : WordFault) (disk input out : Type 0) → read ≡ Err fault → EndsFor read disk input out (Some (Words fault))
+  pub ends_faulty : (fault : WordFault) (disk : ℕ → Type 0) (input out : Type 0) → read ≡ Err fault → EndsFor read disk input out (Some (Words fault))
   ends_faulty fault disk input out is = let P : Result Args WordFault → Type 0 = λ x. EndsFor x disk input out (Some (Words fault)) in subst P (sym is) refl
 
-  pub ends_memory : (disk input out : Type 0) → EndsFor read disk input out (Some NoMemory)
+  pub ends_memory : (disk : ℕ → Type 0) (input out : Type 0) → EndsFor read disk input out (Some NoMemory)
   ends_memory disk input out = at read
     where
       at : (x : Result Args WordFault) → EndsFor x disk input out (Some NoMemory)
@@ -264,7 +264,7 @@ on_done (Ok x) h e = h
 on_done (Err stop) h e = absurd (cc)
 
 -- the cause of a stop is that of the end
-pub causes_end : {T : Type 0} {P : StopHeld → Type 0} (args : Args) (disk input out : Type 0) (r : Result T StopHeld) → ((stop : StopHeld) → P stop → Caused args disk input out (stop_told stop)) → IfErr r P
+pub causes_end : {T : Type 0} {P : StopHeld → Type 0} (args : Args) (disk : ℕ → Type 0) (input out : Type 0) (r : Result T StopHeld) → ((stop : StopHeld) → P stop → Caused args disk input out (stop_told stop)) → IfErr r P
     → CausedEnd args disk input out (ended r)
 causes_end args disk input out (Ok x) f h = tt
 causes_end args disk input out (Err stop) f h = f stop h
@@ -303,7 +303,7 @@ abbrev pub WordStatus : ℕ → (List ℕ → Type 0) → Result Args WordFault 
 WordStatus status T (Err fault) = ((status ≡ 2) × T (error_line (fault_pieces fault))) ⊎ (status ≡ 4)
 WordStatus status T (Ok args) = ¬ (status ≡ 2)
 
-pub ran_words : (read : Result Args WordFault) (disk input out : Type 0) (e : Option Stop) (status : ℕ) (notes : List ℕ) (T : List ℕ → Type 0) → status ≡ status_of e → EndsFor read disk input out e → T (line_of notes e) → WordStatus status T read
+pub ran_words : (read : Result Args WordFault) (disk : ℕ → Type 0) (input out : Type 0) (e : Option Stop) (status : ℕ) (notes : List ℕ) (T : List ℕ → Type 0) → status ≡ status_of e → EndsFor read disk input out e → T (line_of notes e) → WordStatus status T read
 ran_words (Err fault) disk input out None status notes T h ends t = absurd ends
 ran_words (Err fault) disk input out (Some (Words f)) status notes T h ends t = let P : WordFault → Type 0 = λ x. T (error_line (fault_pieces x)) in inl (h, subst P ends t)
 ran_words (Err fault) disk input out (Some (Refused r)) status notes T h ends t = absurd ends
@@ -333,11 +333,11 @@ failed (Some (Refused r)) status h three = absurd (omega arith)
 failed (Some (Broken object)) status h three = (object, refl)
 failed (Some NoMemory) status h three = absurd (omega arith)
 
-by_object : (read : Result Args WordFault) (disk input out : Type 0) (object : Object) → EndsFor read disk input out (Some (Broken object)) → ForArgs read (RoseOf disk input out object)
+by_object : (read : Result Args WordFault) (disk : ℕ → Type 0) (input out : Type 0) (object : Object) → EndsFor read disk input out (Some (Broken object)) → ForArgs read (RoseOf disk input out object)
 by_object (Err fault) disk input out object h = absurd h
 by_object (Ok args) disk input out object h = h
 
-pub rose_of : (read : Result Args WordFault) (disk input out : Type 0) (object : Object) (e : Option Stop) → IsObject e object → EndsFor read disk input out e → ForArgs read (RoseOf disk input out object)
+pub rose_of : (read : Result Args WordFault) (disk : ℕ → Type 0) (input out : Type 0) (object : Object) (e : Option Stop) → IsObject e object → EndsFor read disk input out e → ForArgs read (RoseOf disk input out object)
 rose_of read disk input out object e is h = let P : Option Stop → Type 0 = λ x. EndsFor read disk input out x in by_object read disk input out object (subst P is h)
 
 pub line_is : (object : Object) (e : Option Stop) (notes : List ℕ) (T : List ℕ → Type 0) → IsObject e object → T (line_of notes e) → T (error_line (object_line object))

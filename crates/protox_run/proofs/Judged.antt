@@ -1,5 +1,5 @@
 -- From the answers of the parts to what a run comes to.
-use Rattle.std.proofs.Common.{◌≡◌, ◌∷◌, ◌++◌, ◌∙◌, [], ◌≤◌, ◌⊎◌, Bool, true, false, inl, inr, if◌then◌else◌, IsTrue, Result, Ok, Err, IfOk, IfErr, ℕ, List, length, map, refl, Option, Some, None, is_some, ap, sym, subst, codes}
+use Rattle.std.proofs.Common.{◌≡◌, ◌∷◌, ◌+◌, ◌++◌, ◌∙◌, [], ◌≤◌, ◌⊎◌, Bool, true, false, inl, inr, if◌then◌else◌, IsTrue, Result, Ok, Err, IfOk, IfErr, ℕ, List, length, map, refl, Option, Some, None, is_some, ap, sym, subst, codes}
 use Rattle.std.specs.Prelude.{◌||◌}
 use Rattle.std.specs.List.{list_any}
 use Rattle.serde_json.specs.Data.{Data}
@@ -9,12 +9,12 @@ use Rattle.pbx_json_meaning.specs.Laws.{CanonicalIsPlain}
 use Rattle.pbx_json_meaning.specs.declared.options.SerializeOptions.{SerializeOptions}
 use Rattle.pbx_link_meaning.specs.Shapes.{shape_of, place_of}
 use Rattle.pbx_wkt_files.specs.Files.{wkt_files}
-use Rattle.protox_io.specs.Count.{Count, Rose}
+use Rattle.protox_io.specs.Count.{Count, RoseTimes}
 use Rattle.protox_io.specs.Disk.{Volume, untold}
 use Rattle.protox_file_error.specs.Errors.{IsWhole}
 use Rattle.protox_file_error.specs.declared.error.ErrorKind.{ErrorKind}
 use Rattle.protox_file_error.specs.declared.error.ErrorKind.TheVariants as kinds
-use Rattle.protox_file_sources.specs.Causes.{IsNamedFault, FaultCause}
+use Rattle.protox_file_sources.specs.Causes.{IsNamedFault, FaultsCause}
 use Rattle.protox_file_sources.specs.Library.{Library, below, pooled, may_fail_at, never}
 use Rattle.protox_io.specs.FileNames.{joined, resolved}
 use Rattle.protox_file_sources.specs.Told.{ByLookups, Entry}
@@ -36,13 +36,15 @@ use Rattle.protox_compile.proofs.Standard.{of_counts}
 use Rattle.protox_transcode.proofs.Determined.{no_fault}
 use Rattle.protox_transcode.proofs.Judged.{compiling_caused}
 use Rattle.protox_generate.specs.Summary.{RefusesNumber}
-use Rattle.protox_words.specs.Words.{Args, folders}
+use Rattle.protox_words.specs.Words.{Args, folders, retries_of}
 use Rattle.protox_run.specs.Class.{limit, json_of, folder_files, set_at, IsStoredSet, IsLibrary, LacksSet, options_of, Write, Refusing, write_to, Ending, Transcoded, RefusedWith, IsWholeError, RefusesSet, RefusedSet, set_of, Task, Generate, Transcode, Compile, task, ComesTo, Judges, is_transcode, reads_input, repeated_by, repeated_of, resolves_by, resolves_of}
-use Rattle.protox_run.specs.Stops.{Input, Reading, Writing, Printing, IsFaultLineBy, IsToldFaultLineBy}
-use Rattle.protox_run.specs.Parts.{IsInputStop, IsStopOf, IsTranscodingStop, IsSetRefusal, IsJobRefusal, RefusesJob, IsFileStop, IsFileCause, IsReadStop, IsReadCause, IsGeneratedStop, PlanStops}
+use Rattle.protox_run.specs.Stops.{Input, Reading, Writing, Printing, IsFaultLineBy, IsToldFaultLineBy, openings_by}
+use Rattle.protox_run.specs.Parts.{IsInputStop, IsStopOf, IsTranscodingStop, IsSetRefusal, IsJobRefusal, RefusesJob, HandsOn, IsFileStop, IsFileCause, IsReadStop, IsReadCause, IsGeneratedStop, PlanStops}
 use Rattle.protox_run.specs.declared.files.Job.{Job}
 use Rattle.protox_run.specs.declared.files.Job.TheVariants as jobs
-use Rattle.protox_run.specs.Told.{Stop, Words, Refused, Broken, NoMemory}
+use Rattle.protox_run.specs.Told.{Stop, Words, Refused, Broken, NoMemory, stop_told}
+use Rattle.protox_run.specs.declared.carry.Ready.{Ready as ReadyHeld}
+use Rattle.protox_run.specs.declared.stop.Stop.{Stop as StopHeld}
 use Rattle.protox_run.specs.declared.stop.Refusal.TheVariants.{TooLong, NotJson, Top}
 
 pub ok_of : {X E : Type 0} (P : X → Type 0) (r : Result X E) (x : X) → r ≡ Ok x → IfOk r P → P x
@@ -63,6 +65,26 @@ err_then (Err e) f p = f e p
 pub ok_then : {X E : Type 0} {P Q : X → Type 0} (r : Result X E) → ((x : X) → P x → Q x) → IfOk r P → IfOk r Q
 ok_then (Ok x) f p = f x p
 ok_then (Err e) f p = tt
+
+-- what holds of what was made holds of what is handed on
+pub handed : {P Q : ReadyHeld → Type 0} (made : Result ReadyHeld TopError) (r : Result ReadyHeld StopHeld) → HandsOn made r → ((ready : ReadyHeld) → P ready → Q ready) → IfOk made P → IfOk r Q
+handed {P = P} (Ok x) (Ok y) h f p = f y (subst P (sym h) p)
+handed (Ok x) (Err stop) h f p = absurd h
+handed (Err error) (Ok y) h f p = absurd h
+handed (Err error) (Err stop) h f p = tt
+
+-- what holds of an error gives what holds of its stop
+pub stopped_by : {P : TopError → Type 0} {Q : Stop → Type 0} (made : Result ReadyHeld TopError) (r : Result ReadyHeld StopHeld) → HandsOn made r
+    → ((error : TopError) (stop : Stop) → IsStopOf error stop → P error → Q stop) → IfErr made P → IfErr r (λ stop. Q (stop_told stop))
+stopped_by (Ok x) (Ok y) h f p = tt
+stopped_by (Ok x) (Err stop) h f p = absurd h
+stopped_by (Err error) (Ok y) h f p = absurd h
+stopped_by (Err error) (Err stop) h f p = f error (stop_told stop) h p
+
+-- two facts of an error are one
+pub err_both : {X E : Type 0} (P Q : E → Type 0) (r : Result X E) → IfErr r P → IfErr r Q → IfErr r (λ e. P e × Q e)
+err_both P Q (Ok x) p q = tt
+err_both P Q (Err e) p q = (p, q)
 
 pub gives : (a : Args) (name : List ℕ) (library : Library) (tree : Data) (o : SerializeOptions) (set wire : List ℕ) (written : Data) (writes : List Write) (text : List ℕ) → o ≡ options_of a → CanonicalIsPlain
     → ForFiles library.files library.resolves a.files (λ files. IsTranscoded name tree o files set wire written)
@@ -182,17 +204,17 @@ module _ (args : Args) (none : args.descriptor_set_in ≡ None) where
   folder_stop job disk error rose (Broken Printing) s k h = absurd s
   folder_stop job disk error rose NoMemory s k h = tt
 
-  pub folder_caused : (error : TopError) (rose : Type 0) (stop : Stop) → IsStopOf error stop
-      → IsCaused (λ e. rose × IsNamedFault (folder_files args untold).may_fail e) error → IsFileCause args rose stop
+  pub folder_caused : (error : TopError) (rose : ℕ → Type 0) (stop : Stop) → IsStopOf error stop
+      → IsCaused (λ e. rose (retries_of args + 1) × IsNamedFault (folder_files args untold).may_fail e) error → IsFileCause args rose stop
   folder_caused error rose (Words fault) s k = absurd s
   folder_caused error rose (Refused TooLong) s k = absurd s
   folder_caused error rose (Refused NotJson) s k = absurd s
   folder_caused error rose (Refused (Top line)) s k = tt
   folder_caused error rose (Broken Input) s k = absurd s
   folder_caused (top.File error) rose (Broken (Reading line)) s k =
-      let f = fault_of rose (folder_files args untold).may_fail error s.0 k in
-      let P : Option (List ℕ) → Type 0 = λ o. IsFaultLineBy o args line in
-      (f.0, subst P (sym none) (error, f.1, s.1))
+      let f = fault_of (rose (retries_of args + 1)) (folder_files args untold).may_fail error s.0 k in
+      let P : Option (List ℕ) → Type 0 = λ o. rose (openings_by o args) × IsFaultLineBy o args line in
+      subst P (sym none) (f.0, (error, f.1, s.1))
   folder_caused (top.JsonNames message key) rose (Broken (Reading line)) s k = absurd s
   folder_caused (top.WellKnownShape message) rose (Broken (Reading line)) s k = absurd s
   folder_caused (top.TypeNotFound n) rose (Broken (Reading line)) s k = absurd s
@@ -228,23 +250,23 @@ no_named kinds.NoMemory h = h
 never_faults : (rose : Type 0) (error : ErrorKind) → is_fault error ≡ true → IsCaused (λ e. rose × IsNamedFault never e) (top.File error) → ⊥
 never_faults rose error f c = no_named error (fault_of rose never error f c).1
 
-pub set_caused_by : (args : Args) (entries : List Entry) (before now : Count) (error : TopError) (rose : Type 0) (stop : Stop) → IsStopOf error stop
-    → IsCaused (FaultCause (listed_files entries) before now) error → IsFileCause args rose stop
-set_caused_by args entries before now error rose (Words fault) s k = absurd s
-set_caused_by args entries before now error rose (Refused TooLong) s k = absurd s
-set_caused_by args entries before now error rose (Refused NotJson) s k = absurd s
-set_caused_by args entries before now error rose (Refused (Top line)) s k = tt
-set_caused_by args entries before now error rose (Broken Input) s k = absurd s
-set_caused_by args entries before now (top.File error) rose (Broken (Reading line)) s k = absurd (never_faults (Rose before now) error s.0 k)
-set_caused_by args entries before now (top.JsonNames message key) rose (Broken (Reading line)) s k = absurd s
-set_caused_by args entries before now (top.WellKnownShape message) rose (Broken (Reading line)) s k = absurd s
-set_caused_by args entries before now (top.TypeNotFound n) rose (Broken (Reading line)) s k = absurd s
-set_caused_by args entries before now top.TooDeep rose (Broken (Reading line)) s k = absurd s
-set_caused_by args entries before now top.NoMemory rose (Broken (Reading line)) s k = absurd s
-set_caused_by args entries before now (top.Json e) rose (Broken (Reading line)) s k = absurd s
-set_caused_by args entries before now error rose (Broken (Writing path)) s k = absurd s
-set_caused_by args entries before now error rose (Broken Printing) s k = absurd s
-set_caused_by args entries before now error rose NoMemory s k = tt
+pub set_caused_by : (args : Args) (entries : List Entry) (times : ℕ) (before now : Count) (error : TopError) (rose : ℕ → Type 0) (stop : Stop) → IsStopOf error stop
+    → IsCaused (FaultsCause times (listed_files entries) before now) error → IsFileCause args rose stop
+set_caused_by args entries times before now error rose (Words fault) s k = absurd s
+set_caused_by args entries times before now error rose (Refused TooLong) s k = absurd s
+set_caused_by args entries times before now error rose (Refused NotJson) s k = absurd s
+set_caused_by args entries times before now error rose (Refused (Top line)) s k = tt
+set_caused_by args entries times before now error rose (Broken Input) s k = absurd s
+set_caused_by args entries times before now (top.File error) rose (Broken (Reading line)) s k = absurd (never_faults (RoseTimes times before now) error s.0 k)
+set_caused_by args entries times before now (top.JsonNames message key) rose (Broken (Reading line)) s k = absurd s
+set_caused_by args entries times before now (top.WellKnownShape message) rose (Broken (Reading line)) s k = absurd s
+set_caused_by args entries times before now (top.TypeNotFound n) rose (Broken (Reading line)) s k = absurd s
+set_caused_by args entries times before now top.TooDeep rose (Broken (Reading line)) s k = absurd s
+set_caused_by args entries times before now top.NoMemory rose (Broken (Reading line)) s k = absurd s
+set_caused_by args entries times before now (top.Json e) rose (Broken (Reading line)) s k = absurd s
+set_caused_by args entries times before now error rose (Broken (Writing path)) s k = absurd s
+set_caused_by args entries times before now error rose (Broken Printing) s k = absurd s
+set_caused_by args entries times before now error rose NoMemory s k = tt
 
 module _ (args : Args) (path : List ℕ) (some : args.descriptor_set_in ≡ Some path) where
   pub set_library : (disk : Volume) (entries : List Entry) → IsStoredSet (set_at disk path) entries
@@ -252,25 +274,25 @@ module _ (args : Args) (path : List ℕ) (some : args.descriptor_set_in ≡ Some
   set_library disk entries stored =
       let P : Option (List ℕ) → Type 0 = λ o. IsLibrary o args disk (listed_files entries) in subst P (sym some) (entries, stored, refl)
 
-  pub set_stop : (job : Job) (disk : Volume) (entries : List Entry) (before now : Count) (error : TopError) (stop : Stop) → IsStoredSet (set_at disk path) entries
-      → IsStopOf error stop → IsCaused (FaultCause (listed_files entries) before now) error → IsJobRefusal job args (listed_files entries) error
+  pub set_stop : (job : Job) (disk : Volume) (entries : List Entry) (times : ℕ) (before now : Count) (error : TopError) (stop : Stop) → IsStoredSet (set_at disk path) entries
+      → IsStopOf error stop → IsCaused (FaultsCause times (listed_files entries) before now) error → IsJobRefusal job args (listed_files entries) error
       → IsFileStop job args disk stop
-  set_stop job disk entries before now error (Words fault) i s k h = absurd s
-  set_stop job disk entries before now error (Refused TooLong) i s k h = absurd s
-  set_stop job disk entries before now error (Refused NotJson) i s k h = absurd s
-  set_stop job disk entries before now error (Refused (Top line)) i s k h =
-      inr (listed_files entries, set_library disk entries i, (error, s.0, whole_of (FaultCause (listed_files entries) before now) error k, h, s.1))
-  set_stop job disk entries before now error (Broken Input) i s k h = absurd s
-  set_stop job disk entries before now (top.File error) (Broken (Reading line)) i s k h = absurd (never_faults (Rose before now) error s.0 k)
-  set_stop job disk entries before now (top.JsonNames message key) (Broken (Reading line)) i s k h = absurd s
-  set_stop job disk entries before now (top.WellKnownShape message) (Broken (Reading line)) i s k h = absurd s
-  set_stop job disk entries before now (top.TypeNotFound n) (Broken (Reading line)) i s k h = absurd s
-  set_stop job disk entries before now top.TooDeep (Broken (Reading line)) i s k h = absurd s
-  set_stop job disk entries before now top.NoMemory (Broken (Reading line)) i s k h = absurd s
-  set_stop job disk entries before now (top.Json e) (Broken (Reading line)) i s k h = absurd s
-  set_stop job disk entries before now error (Broken (Writing to)) i s k h = absurd s
-  set_stop job disk entries before now error (Broken Printing) i s k h = absurd s
-  set_stop job disk entries before now error NoMemory i s k h = tt
+  set_stop job disk entries times before now error (Words fault) i s k h = absurd s
+  set_stop job disk entries times before now error (Refused TooLong) i s k h = absurd s
+  set_stop job disk entries times before now error (Refused NotJson) i s k h = absurd s
+  set_stop job disk entries times before now error (Refused (Top line)) i s k h =
+      inr (listed_files entries, set_library disk entries i, (error, s.0, whole_of (FaultsCause times (listed_files entries) before now) error k, h, s.1))
+  set_stop job disk entries times before now error (Broken Input) i s k h = absurd s
+  set_stop job disk entries times before now (top.File error) (Broken (Reading line)) i s k h = absurd (never_faults (RoseTimes times before now) error s.0 k)
+  set_stop job disk entries times before now (top.JsonNames message key) (Broken (Reading line)) i s k h = absurd s
+  set_stop job disk entries times before now (top.WellKnownShape message) (Broken (Reading line)) i s k h = absurd s
+  set_stop job disk entries times before now (top.TypeNotFound n) (Broken (Reading line)) i s k h = absurd s
+  set_stop job disk entries times before now top.TooDeep (Broken (Reading line)) i s k h = absurd s
+  set_stop job disk entries times before now top.NoMemory (Broken (Reading line)) i s k h = absurd s
+  set_stop job disk entries times before now (top.Json e) (Broken (Reading line)) i s k h = absurd s
+  set_stop job disk entries times before now error (Broken (Writing to)) i s k h = absurd s
+  set_stop job disk entries times before now error (Broken Printing) i s k h = absurd s
+  set_stop job disk entries times before now error NoMemory i s k h = tt
 
   -- what was read there is no set
   pub read_stop : (job : Job) (disk : Volume) (stop : Stop) → IsReadStop path (set_at disk path) stop → IsFileStop job args disk stop
@@ -284,16 +306,18 @@ module _ (args : Args) (path : List ℕ) (some : args.descriptor_set_in ≡ Some
   read_stop job disk (Broken Printing) h = absurd h
   read_stop job disk NoMemory h = tt
 
-  pub read_caused : (rose : Type 0) (stop : Stop) → IsReadCause path rose stop → IsFileCause args rose stop
-  read_caused rose (Words fault) h = absurd h
-  read_caused rose (Refused TooLong) h = absurd h
-  read_caused rose (Refused NotJson) h = absurd h
-  read_caused rose (Refused (Top line)) h = tt
-  read_caused rose (Broken Input) h = absurd h
-  read_caused rose (Broken (Reading line)) h = let P : Option (List ℕ) → Type 0 = λ o. IsFaultLineBy o args line in (h.0, subst P (sym some) h.1)
-  read_caused rose (Broken (Writing to)) h = absurd h
-  read_caused rose (Broken Printing) h = absurd h
-  read_caused rose NoMemory h = tt
+  pub read_caused : (risen : Type 0) (rose : ℕ → Type 0) (stop : Stop) → (risen → rose 1) → IsReadCause path risen stop → IsFileCause args rose stop
+  read_caused risen rose (Words fault) k h = absurd h
+  read_caused risen rose (Refused TooLong) k h = absurd h
+  read_caused risen rose (Refused NotJson) k h = absurd h
+  read_caused risen rose (Refused (Top line)) k h = tt
+  read_caused risen rose (Broken Input) k h = absurd h
+  read_caused risen rose (Broken (Reading line)) k h =
+      let P : Option (List ℕ) → Type 0 = λ o. rose (openings_by o args) × IsFaultLineBy o args line in
+      subst P (sym some) (k h.0, h.1)
+  read_caused risen rose (Broken (Writing to)) k h = absurd h
+  read_caused risen rose (Broken Printing) k h = absurd h
+  read_caused risen rose NoMemory k h = tt
 
   -- a set resolves no path
   pub set_repeats : repeats (listed_files []).resolves args.files ≡ repeats (resolves_of args) args.files
@@ -417,15 +441,15 @@ caused_then f g top.TooDeep k h = tt
 caused_then f g top.NoMemory k h = tt
 
 -- a cause of the resolver is one of the disk
-pub of_disk : {D : Type 0} (volume : D → Volume) (count : D → Count) (args : Args) (r s : Folders D) (disk later : D) (error : TopError)
+pub of_disk : {D : Type 0} (volume : D → Volume) (count : D → Count) (args : Args) (times : ℕ) (r s : Folders D) (disk later : D) (error : TopError)
     → r ≡ record { folders = folders args; disk = disk } → later ≡ s.disk
-    → IsCaused (FaultCause (standard wkt_files (volume r.disk) r.folders) (count r.disk) (count s.disk)) error
-    → IsCaused (λ e. Rose (count disk) (count later) × IsNamedFault (folder_files args untold).may_fail e) error
-of_disk volume count args r s disk later error is k h =
-    let f : ErrorKind → Type 0 = FaultCause (folder_files args (volume disk)) (count disk) (count later) in
-    let g : ErrorKind → Type 0 = λ e. Rose (count disk) (count later) × IsNamedFault (folder_files args untold).may_fail e in
+    → IsCaused (FaultsCause times (standard wkt_files (volume r.disk) r.folders) (count r.disk) (count s.disk)) error
+    → IsCaused (λ e. RoseTimes times (count disk) (count later) × IsNamedFault (folder_files args untold).may_fail e) error
+of_disk volume count args times r s disk later error is k h =
+    let f : ErrorKind → Type 0 = FaultsCause times (folder_files args (volume disk)) (count disk) (count later) in
+    let g : ErrorKind → Type 0 = λ e. RoseTimes times (count disk) (count later) × IsNamedFault (folder_files args untold).may_fail e in
     let each : (e : ErrorKind) → f e → g e = λ e c. (c.0, named_alike (volume disk) untold args e c.1) in
-    caused_then f g error each (of_counts volume count r s disk later (folders args) (λ l before after. IsCaused (FaultCause l before after) error) is k h)
+    caused_then f g error each (of_counts volume count r s disk later (folders args) (λ l before after. IsCaused (FaultsCause times l before after) error) is k h)
 
 refusal_no_fault : (error : ErrorKind) → is_fault error ≡ true → is_refusal (top.File error) ≡ true → ⊥
 refusal_no_fault error fault refusal = at (is_fault error) fault refusal

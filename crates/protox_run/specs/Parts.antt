@@ -12,9 +12,10 @@ use Rattle.protox_words.specs.Words.{Args, WordFault}
 use Rattle.protox_run.specs.Class.{limit, json_of, ForTree, Write, Refusing, Judges, Transcoded, Compiled}
 use Rattle.protox_run.specs.Class.{RefusesSet, IsWholeError, Transcoding, Generating, IsNoSet, ForLibrary, LacksSet, reads_input}
 use Rattle.protox_run.specs.Outcome.{Wrote, notes_of}
-use Rattle.protox_run.specs.Stops.{Input, Reading, Writing, Printing, IsToldFaultLine, IsFaultLine, IsWriteTo, set_line}
+use Rattle.protox_run.specs.Stops.{Input, Reading, Writing, Printing, IsToldFaultLine, IsFaultLine, IsWriteTo, openings_of, set_line}
 use Rattle.protox_run.specs.Stops.{RoseOf, Reached, StoppedAt, Untouched, Carrying, ForReady, StopsWriting, StopsPrinting}
 use Rattle.protox_run.specs.Told.{Stop, Words, Refused, Broken, NoMemory, stop_told}
+use Rattle.protox_run.specs.declared.carry.Ready.{Ready as ReadyHeld}
 use Rattle.protox_run.specs.declared.files.Job.{Job}
 use Rattle.protox_run.specs.declared.files.Job.TheVariants.{Transcode, Compile}
 use Rattle.protox_run.specs.declared.stop.Refusal.TheVariants.{TooLong, NotJson, Top}
@@ -79,6 +80,13 @@ abbrev pub RefusesJob : Job → Args → Library → List ℕ → Type 0
 RefusesJob job args library line =
     (error : TopError) × (is_refusal error ≡ true) × IsWholeError error × IsJobRefusal job args library error × (line ≡ concat (top_line error))
 
+-- what a job made is handed on, or its error is told as a stop
+abbrev pub HandsOn : Result ReadyHeld TopError → Result ReadyHeld StopHeld → Type 0
+HandsOn (Ok made) (Ok ready) = ready ≡ made
+HandsOn (Ok made) (Err stop) = ⊥
+HandsOn (Err error) (Ok ready) = ⊥
+HandsOn (Err error) (Err stop) = IsStopOf error (stop_told stop)
+
 -- the set, or the files, ended the run
 abbrev pub IsFileStop : Job → Args → Volume → Stop → Type 0
 IsFileStop job args disk (Refused (Top line)) = LacksSet args.descriptor_set_in disk line ⊎ ForLibrary args disk (λ library. RefusesJob job args library line)
@@ -120,10 +128,10 @@ IsTranscodingStop args name disk input (Broken (Reading line)) = ForTree input (
 IsTranscodingStop args name disk input NoMemory = Unit {0}
 IsTranscodingStop args name disk input stop = ⊥
 
--- a stop while files are read has the disk's count as its cause
-abbrev pub IsFileCause : Args → Type 0 → Stop → Type 0
+-- a stop while files are read has the disk's count as its cause, which rose at each opening
+abbrev pub IsFileCause : Args → (ℕ → Type 0) → Stop → Type 0
 IsFileCause args rose (Refused (Top line)) = Unit {0}
-IsFileCause args rose (Broken (Reading line)) = rose × IsFaultLine args line
+IsFileCause args rose (Broken (Reading line)) = rose (openings_of args) × IsFaultLine args line
 IsFileCause args rose NoMemory = Unit {0}
 IsFileCause args rose stop = ⊥
 
@@ -186,7 +194,7 @@ Carries writes text disk later rose refused (Err stop) out = CarryStops writes t
 
 -- ---- a run with arguments
 
-abbrev pub Caused : Args → Type 0 → Type 0 → Type 0 → Stop → Type 0
+abbrev pub Caused : Args → (ℕ → Type 0) → Type 0 → Type 0 → Stop → Type 0
 Caused args disk input out (Words fault) = ⊥
 Caused args disk input out (Refused refusal) = Unit {0}
 Caused args disk input out (Broken object) = RoseOf disk input out object args
@@ -233,10 +241,10 @@ abbrev pub HasNotes : Result Args WordFault → List ℕ → Type 0
 HasNotes (Err fault) notes = ⊥
 HasNotes (Ok args) notes = notes ≡ notes_of args
 
-abbrev pub CausedEnd : Args → Type 0 → Type 0 → Type 0 → Option Stop → Type 0
+abbrev pub CausedEnd : Args → (ℕ → Type 0) → Type 0 → Type 0 → Option Stop → Type 0
 CausedEnd args disk input out None = Unit {0}
 CausedEnd args disk input out (Some stop) = Caused args disk input out stop
 
-abbrev pub EndsFor : Result Args WordFault → Type 0 → Type 0 → Type 0 → Option Stop → Type 0
+abbrev pub EndsFor : Result Args WordFault → (ℕ → Type 0) → Type 0 → Type 0 → Option Stop → Type 0
 EndsFor (Err fault) disk input out end = IsWordEnd fault end
 EndsFor (Ok args) disk input out end = CausedEnd args disk input out end

@@ -1,6 +1,6 @@
 -- A run: what it saw and what it left, and what holds of these.
 use Rattle.std.specs.Prelude.{◌≡◌, ◌≤◌, ◌⊎◌, [], ℕ, List, Bool, IsTrue, IsFalse, Result, Ok, Err}
-use Rattle.protox_io.specs.Count.{Count, Rose}
+use Rattle.protox_io.specs.Count.{Count, Rose, RoseTimes}
 use Rattle.protox_io.specs.Disk.{Volume}
 use Rattle.protox_io.specs.Read.{Input}
 use Rattle.protox_io.specs.Sink.{Output, SinkRefuses, Appends, Says}
@@ -20,6 +20,10 @@ pub record Around (T : Type 0) : Type 0 where
 -- its count rose, or is spent
 abbrev pub Raised : {T : Type 0} → Around T → Type 0
 Raised it = Rose it.before it.after
+
+-- its count rose so often, or is spent
+abbrev pub RaisedTimes : {T : Type 0} → Around T → ℕ → Type 0
+RaisedTimes it times = RoseTimes times it.before it.after
 
 -- a sink refused a write
 abbrev pub Refuses : Around Output → Type 0
@@ -51,7 +55,7 @@ ForPrinted run P = Appends run.out.old.held run.out.new.held P
 -- why the status is 3: the count of an object rose, which the run had come to, what that leaves, and err has its line
 pub record Fails (run : Run) : Type 0 where
   pub object : Object
-  pub rose : ForArgs (args_of run.words) (RoseOf (Raised run.disk) (Raised run.input) (Raised run.out) object)
+  pub rose : ForArgs (args_of run.words) (RoseOf (RaisedTimes run.disk) (Raised run.input) (Raised run.out) object)
   pub reached : AllTell run → ForArgs (args_of run.words) (Reached run.disk.old run.input.old.left object)
   pub left : AllTell run → ForPrinted run (λ printed. LeftBy (args_of run.words) run.disk.old run.input.old.left run.disk.new printed (Refuses run.out) object)
   pub line : Tells run (error_line (object_line object))

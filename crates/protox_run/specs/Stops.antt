@@ -1,5 +1,5 @@
 -- Why a run was stopped from outside or for want of memory, and what stands then.
-use Rattle.std.specs.Prelude.{◌≡◌, ◌⊎◌, ◌∷◌, ◌++◌, [], ℕ, List, IsTrue, Option, Some, None, Result, Ok, Err, codes}
+use Rattle.std.specs.Prelude.{◌≡◌, ◌⊎◌, ◌+◌, ◌∷◌, ◌++◌, [], ℕ, List, IsTrue, Option, Some, None, Result, Ok, Err, codes}
 use Rattle.std.specs.List.{concat}
 use Rattle.protox_io.specs.Disk.{Volume, SameBut, IsOpen, untold}
 use Rattle.protox_io.specs.Paths.{disk_key}
@@ -8,7 +8,7 @@ use Rattle.protox_file_error.specs.Lines.{long_line_of}
 use Rattle.protox_file_error.specs.declared.error.ErrorKind.{ErrorKind}
 use Rattle.protox_file_sources.specs.Causes.{IsNamedFault}
 use Rattle.protox_compile.specs.Compiling.{StopsWalk}
-use Rattle.protox_words.specs.Words.{Args, WordFault}
+use Rattle.protox_words.specs.Words.{Args, WordFault, retries_of}
 use Rattle.protox_run.specs.Class.{Write, Ready, Judges, ForTree, folder_files, reads_input}
 use Rattle.protox_run.specs.Outcome.{Pieces, Wrote}
 
@@ -56,11 +56,20 @@ IsToldFaultLineBy (Some path) args disk line = line ≡ set_line path
 abbrev pub IsToldFaultLine : Args → Volume → List ℕ → Type 0
 IsToldFaultLine args disk line = IsToldFaultLineBy args.descriptor_set_in args disk line
 
--- the count of the object rose; a fault of reading says which file could not be read, and why, or that the set could not be
-abbrev pub RoseOf : Type 0 → Type 0 → Type 0 → Object → Args → Type 0
+-- how often a path of a file is opened before a fault of reading it is told; the set is read once
+abbrev pub openings_by : Option (List ℕ) → Args → ℕ
+openings_by None args = retries_of args + 1
+openings_by (Some path) args = 1
+
+abbrev pub openings_of : Args → ℕ
+openings_of args = openings_by args.descriptor_set_in args
+
+-- The count of the object rose, that of the disk so often: once for a write. A fault of reading says which file could not be read, and why, or that the set could
+-- not be.
+abbrev pub RoseOf : (ℕ → Type 0) → Type 0 → Type 0 → Object → Args → Type 0
 RoseOf disk input out Input args = input
-RoseOf disk input out (Reading line) args = disk × IsFaultLine args line
-RoseOf disk input out (Writing path) args = disk
+RoseOf disk input out (Reading line) args = disk (openings_of args) × IsFaultLine args line
+RoseOf disk input out (Writing path) args = disk 1
 RoseOf disk input out Printing args = out
 
 -- one of the paths that the writes go to

@@ -1,16 +1,16 @@
 //! What is made of the files, which come from folders or from a set.
 
-ghost use Rattle.std.specs.Prelude.{◌≡◌, ◌++◌, ◌∷◌, [], IfOk, IfErr, IsTrue};
+ghost use Rattle.std.specs.Prelude.{◌≡◌, ◌+◌, ◌++◌, ◌∷◌, [], IfOk, IfErr, IsTrue};
 ghost use Rattle.std.specs.Prelude.{string_bytes, codes, Some, None, true, false, is_some, option_map};
 ghost use Rattle.std.specs.Option.{option_copied};
 ghost use Rattle.std.specs.List.{concat};
 ghost use Rattle.serde_json.specs.View.{view};
 ghost use Rattle.serde_json.specs.Written.{has_float, compact_text};
-ghost use Rattle.protox_io.specs.Count.{Rose, Later};
+ghost use Rattle.protox_io.specs.Count.{Rose, RoseTimes, Later};
 ghost use Rattle.protox_io.specs.Disk.{Stored};
-ghost use Rattle.protox_words.specs.Words.{folders};
+ghost use Rattle.protox_words.specs.Words.{folders, retries_of};
 ghost use Rattle.protox_words.specs.Told.{args_told};
-ghost use Rattle.protox_file_sources.specs.Causes.{FaultCause};
+ghost use Rattle.protox_file_sources.specs.Causes.{FaultsCause};
 ghost use Rattle.protox_file.specs.Sets.{AreFilesIn};
 ghost use Rattle.protox_compile.specs.State.{KeepsFiles};
 ghost use Rattle.protox_compile.specs.Repeats.{repeats};
@@ -18,7 +18,7 @@ ghost use Rattle.protox_compile.specs.Sets.{listed, IsUnencodable};
 ghost use Rattle.protox_transcode.specs.Top.{IsCaused, Refuses};
 ghost use Rattle.protox_run.specs.Class.{ForLibrary, IsStoredSet, set_at, resolves_of, write_to as write_to_of, options_of as options_told, WritesSet};
 ghost use Rattle.protox_run.specs.Class.{Transcoded as IsTranscoded, Compiled};
-ghost use Rattle.protox_run.specs.Parts.{IsFileCause, IsFileStop, IsJobRefusal, IsReadCause, IsReadStop, IsSetRefusal};
+ghost use Rattle.protox_run.specs.Parts.{HandsOn, IsFileCause, IsFileStop, IsJobRefusal, IsReadCause, IsReadStop, IsSetRefusal};
 ghost use Rattle.protox_run.specs.Parts.{IsStopOf, IsStopWith, IsUnreadSet, Makes};
 ghost use Rattle.protox_run.specs.Told.{stop_told, writes_told, line_told};
 
@@ -126,7 +126,7 @@ fn transcode_tree<'w, R: FileResolver>(
     ensures repeated { IsTrue (R.library resolver).tells → IfOk result.1 (λ ready. ready.repeated ≡ repeats (R.library resolver).resolves args.now.files) }
     ensures err { IsTrue (R.library resolver).tells → IfErr result.1
         (Refuses (R.library resolver).files (R.library resolver).resolves args.now.files name.now (view tree)) }
-    ensures cause { IfErr result.1 (IsCaused (FaultCause (R.library resolver) (R.count resolver) (R.count result.0))) }
+    ensures cause { IfErr result.1 (IsCaused (FaultsCause (retries_of (args_told args.now) + 1) (R.library resolver) (R.count resolver) (R.count result.0))) }
     ensures keeps { KeepsFiles R.library R.count resolver result.0 }
 {
     let tree = InputTree::Owned(tree);
@@ -137,6 +137,7 @@ fn transcode_tree<'w, R: FileResolver>(
         &args.files,
         name,
         tree,
+        args.retries(),
         &options,
     );
     match result {
@@ -195,10 +196,11 @@ fn compile_files<'w, R: FileResolver>(
         Compiled (args_told args.now) (R.library resolver) (writes_told ready) (line_told (option_map string_bytes ready.line))) }
     ensures repeated { IsTrue (R.library resolver).tells → IfOk result.1 (λ ready. ready.repeated ≡ repeats (R.library resolver).resolves args.now.files) }
     ensures err { IsTrue (R.library resolver).tells → IfErr result.1 (IsSetRefusal (args_told args.now) (R.library resolver)) }
-    ensures cause { IfErr result.1 (IsCaused (FaultCause (R.library resolver) (R.count resolver) (R.count result.0))) }
+    ensures cause { IfErr result.1 (IsCaused (FaultsCause (retries_of (args_told args.now) + 1) (R.library resolver) (R.count resolver) (R.count result.0))) }
     ensures keeps { KeepsFiles R.library R.count resolver result.0 }
 {
-    let OpenedAll { compiler, repeated } = match open_all(alloc, resolver, &args.files) {
+    let opened = open_all(alloc, resolver, &args.files, args.retries());
+    let OpenedAll { compiler, repeated } = match opened {
         Ok(opened) => opened,
         Err((resolver, error)) => return (resolver, Err(file_error(error))),
     };
@@ -223,12 +225,26 @@ fn make<'w, R: FileResolver>(
         Makes job.entry (args_told args.now) (R.library resolver) (writes_told ready) (line_told (option_map string_bytes ready.line))) }
     ensures repeated { IsTrue (R.library resolver).tells → IfOk result.1 (λ ready. ready.repeated ≡ repeats (R.library resolver).resolves args.now.files) }
     ensures err { IsTrue (R.library resolver).tells → IfErr result.1 (IsJobRefusal job.entry (args_told args.now) (R.library resolver)) }
-    ensures cause { IfErr result.1 (IsCaused (FaultCause (R.library resolver) (R.count resolver) (R.count result.0))) }
+    ensures cause { IfErr result.1 (IsCaused (FaultsCause (retries_of (args_told args.now) + 1) (R.library resolver) (R.count resolver) (R.count result.0))) }
     ensures keeps { KeepsFiles R.library R.count resolver result.0 }
 {
     match job {
         Job::Transcode { name, tree } => transcode_tree(alloc, args, name, tree, resolver),
         Job::Compile => compile_files(alloc, args, resolver),
+    }
+}
+
+/// What a job made, or the stop of its error.
+fn or_stop<'w>(alloc: Global, made: Result<Ready<'w>, TopError>) -> Result<Ready<'w>, Stop<'w>>
+    ensures { HandsOn made.entry result }
+{
+    match made {
+        Ok(ready) => Ok(ready),
+        Err(error) => {
+            let stop = stop_of(alloc, &error);
+            drop(error);
+            Err(stop)
+        }
     }
 }
 
@@ -302,7 +318,7 @@ fn from_folders<'w, D: Disk>(
         (λ library. Makes job.entry (args_told args.now) library (writes_told ready) (line_told (option_map string_bytes ready.line)))) }
     ensures repeated { IsTrue (D.volume disk).tells → IfOk result.result (λ ready. ready.repeated ≡ repeats (resolves_of (args_told args.now)) args.now.files) }
     ensures stop { IsTrue (D.volume disk).tells → IfErr result.result (λ stop. IsFileStop job.entry (args_told args.now) (D.volume disk) (stop_told stop)) }
-    ensures cause { IfErr result.result (λ stop. IsFileCause (args_told args.now) (Rose (D.count disk) (D.count result.disk)) (stop_told stop)) }
+    ensures cause { IfErr result.result (λ stop. IsFileCause (args_told args.now) (λ times. RoseTimes times (D.count disk) (D.count result.disk)) (stop_told stop)) }
     ensures later { Later (D.count disk) (D.count result.disk) }
     ensures keeps { D.volume result.disk ≡ D.volume disk }
 {
@@ -315,18 +331,10 @@ fn from_folders<'w, D: Disk>(
             };
         }
     };
-    let (resolver, result) = make(alloc, args, job, files);
+    let (resolver, made) = make(alloc, args, job, files);
     let disk = resolver.into_disk();
-    match result {
-        Ok(ready) => Planned {
-            disk,
-            result: Ok(ready),
-        },
-        Err(error) => Planned {
-            disk,
-            result: Err(stop_of(alloc, &error)),
-        },
-    }
+    let result = or_stop(alloc, made);
+    Planned { disk, result }
 }
 
 /// What the job makes of the files of the set at the path.
@@ -342,7 +350,7 @@ fn from_set<'w, D: Disk>(
         (λ library. Makes job.entry (args_told args.now) library (writes_told ready) (line_told (option_map string_bytes ready.line)))) }
     ensures repeated { IsTrue (D.volume disk).tells → IfOk result.result (λ ready. ready.repeated ≡ repeats (resolves_of (args_told args.now)) args.now.files) }
     ensures stop { IsTrue (D.volume disk).tells → IfErr result.result (λ stop. IsFileStop job.entry (args_told args.now) (D.volume disk) (stop_told stop)) }
-    ensures cause { IfErr result.result (λ stop. IsFileCause (args_told args.now) (Rose (D.count disk) (D.count result.disk)) (stop_told stop)) }
+    ensures cause { IfErr result.result (λ stop. IsFileCause (args_told args.now) (λ times. RoseTimes times (D.count disk) (D.count result.disk)) (stop_told stop)) }
     ensures later { Later (D.count disk) (D.count result.disk) }
     ensures keeps { D.volume result.disk ≡ D.volume disk }
 {
@@ -356,18 +364,10 @@ fn from_set<'w, D: Disk>(
             };
         }
     };
-    let (files, result) = make(alloc, args, job, files);
+    let (files, made) = make(alloc, args, job, files);
     drop(files);
-    match result {
-        Ok(ready) => Planned {
-            disk,
-            result: Ok(ready),
-        },
-        Err(error) => Planned {
-            disk,
-            result: Err(stop_of(alloc, &error)),
-        },
-    }
+    let result = or_stop(alloc, made);
+    Planned { disk, result }
 }
 
 /// What the job makes of the files that the words name.
@@ -381,7 +381,7 @@ pub(crate) fn from_files<'w, D: Disk>(
         (λ library. Makes job.entry (args_told args.now) library (writes_told ready) (line_told (option_map string_bytes ready.line)))) }
     ensures repeated { IsTrue (D.volume disk).tells → IfOk result.result (λ ready. ready.repeated ≡ repeats (resolves_of (args_told args.now)) args.now.files) }
     ensures stop { IsTrue (D.volume disk).tells → IfErr result.result (λ stop. IsFileStop job.entry (args_told args.now) (D.volume disk) (stop_told stop)) }
-    ensures cause { IfErr result.result (λ stop. IsFileCause (args_told args.now) (Rose (D.count disk) (D.count result.disk)) (stop_told stop)) }
+    ensures cause { IfErr result.result (λ stop. IsFileCause (args_told args.now) (λ times. RoseTimes times (D.count disk) (D.count result.disk)) (stop_told stop)) }
     ensures later { Later (D.count disk) (D.count result.disk) }
     ensures keeps { D.volume result.disk ≡ D.volume disk }
 {

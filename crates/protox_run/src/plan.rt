@@ -2,7 +2,7 @@
 
 ghost use Rattle.std.specs.Prelude.{◌≡◌, ◌≤◌, [], IfOk, IfErr, OnOk, IsTrue, IsFalse};
 ghost use Rattle.std.specs.Prelude.{length, string_bytes, Some, option_map};
-ghost use Rattle.protox_io.specs.Count.{Rose, Later};
+ghost use Rattle.protox_io.specs.Count.{Rose, RoseTimes, Later};
 ghost use Rattle.serde_json.specs.View.{view};
 ghost use Rattle.protox_words.specs.Told.{args_told};
 ghost use Rattle.protox_compile.specs.Repeats.{repeats};
@@ -90,7 +90,7 @@ fn plan_transcoding<'w, D: Disk, S: Source>(
     ensures stop { IsTrue (D.volume disk).tells → IsTrue (S.input input.old).tells → IfErr result.result (λ stop.
         IsTranscodingStop (args_told args.now) name.now (D.volume disk) (S.input input.old).left (stop_told stop)) }
     ensures end { IsTrue (S.input input.old).tells → OnOk result.result ((S.input input.new).left ≡ []) }
-    ensures cause { IfErr result.result (λ stop. Caused (args_told args.now) (Rose (D.count disk) (D.count result.disk))
+    ensures cause { IfErr result.result (λ stop. Caused (args_told args.now) (λ times. RoseTimes times (D.count disk) (D.count result.disk))
         (Rose (S.count input.old) (S.count input.new)) ⊥ (stop_told stop)) }
     ensures later { Later (D.count disk) (D.count result.disk) }
     ensures keeps { D.volume result.disk ≡ D.volume disk }
@@ -118,7 +118,11 @@ fn generate<'w>(alloc: Global, number: u16) -> Result<Ready<'w>, Stop<'w>>
             line: Some(line),
             repeated: List::new(alloc),
         }),
-        Err(error) => Err(stop_of(alloc, &error)),
+        Err(error) => {
+            let stop = stop_of(alloc, &error);
+            drop(error);
+            Err(stop)
+        }
     }
 }
 
@@ -137,7 +141,7 @@ pub(crate) fn plan<'w, D: Disk, S: Source>(
         IfErr result.result (λ stop. PlanStops (args_told args.now) (D.volume disk) (S.input input.old).left (stop_told stop)) }
     ensures end { IsTrue (S.input input.old).tells → IsTrue (reads_input (args_told args.now)) → OnOk result.result ((S.input input.new).left ≡ []) }
     ensures unread { IsFalse (reads_input (args_told args.now)) → S.input input.new ≡ S.input input.old }
-    ensures cause { IfErr result.result (λ stop. Caused (args_told args.now) (Rose (D.count disk) (D.count result.disk))
+    ensures cause { IfErr result.result (λ stop. Caused (args_told args.now) (λ times. RoseTimes times (D.count disk) (D.count result.disk))
         (Rose (S.count input.old) (S.count input.new)) ⊥ (stop_told stop)) }
     ensures later { Later (D.count disk) (D.count result.disk) }
     ensures keeps { D.volume result.disk ≡ D.volume disk }

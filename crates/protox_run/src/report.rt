@@ -62,6 +62,12 @@ fn say_fault<E: Sink>(err: &mut E, fault: &WordFault<'_>)
             option,
             "' needs a number from 1 to 2000",
         ),
+        WordFault::NeedsRetries { option } => say_between(
+            err,
+            "option '",
+            option,
+            "' needs a number from 0 to 1000",
+        ),
         WordFault::NotAlone => say(err, "--generate stands alone"),
         WordFault::NoFile => say(err, "no file given"),
         WordFault::NeedsType { option } => say_behind(err, option, " needs --type"),

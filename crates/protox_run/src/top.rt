@@ -1,5 +1,5 @@
 ghost use Rattle.std.specs.Prelude.{◌≡◌, [], OnOk, IsTrue, IsFalse, None};
-ghost use Rattle.protox_io.specs.Count.{Rose};
+ghost use Rattle.protox_io.specs.Count.{Rose, RoseTimes};
 ghost use Rattle.protox_io.specs.Sink.{Appends, SinkRefuses};
 ghost use Rattle.protox_words.specs.Words.{args_of};
 ghost use Rattle.protox_words.specs.Told.{args_told};
@@ -57,7 +57,7 @@ fn work<'w, D: Disk, S: Source, K: Sink>(
         (Works (args_told args.now) (D.volume disk) (S.input input.old).left (D.volume result.disk)
         (Rose (D.count disk) (D.count result.disk))
         (SinkRefuses (Rose (K.count out.old) (K.count out.new)) (K.output out.new).short) (ended result.ended)) }
-    ensures cause { CausedEnd (args_told args.now) (Rose (D.count disk) (D.count result.disk))
+    ensures cause { CausedEnd (args_told args.now) (λ times. RoseTimes times (D.count disk) (D.count result.disk))
         (Rose (S.count input.old) (S.count input.new)) (Rose (K.count out.old) (K.count out.new)) (ended result.ended) }
     ensures repeated { IsTrue (D.volume disk).tells → OnOk result.ended (result.repeated ≡ repeated_of (args_told args.now)) }
     ensures end { IsTrue (S.input input.old).tells → IsTrue (reads_input (args_told args.now)) → OnOk result.ended ((S.input input.new).left ≡ []) }
@@ -98,7 +98,7 @@ fn obey<'w, D: Disk, S: Source, K: Sink>(
         (Comes (args_of words.now) (D.volume disk) (S.input input.old).left (D.volume result.disk)
         (Rose (D.count disk) (D.count result.disk))
         (SinkRefuses (Rose (K.count out.old) (K.count out.new)) (K.output out.new).short) (ended result.ended)) }
-    ensures cause { EndsFor (args_of words.now) (Rose (D.count disk) (D.count result.disk))
+    ensures cause { EndsFor (args_of words.now) (λ times. RoseTimes times (D.count disk) (D.count result.disk))
         (Rose (S.count input.old) (S.count input.new)) (Rose (K.count out.old) (K.count out.new)) (ended result.ended) }
     ensures notes { IsTrue (D.volume disk).tells → OnOk result.ended (HasNotes (args_of words.now) (notes_told result.notes)) }
     ensures read { IsTrue (S.input input.old).tells → ReadsInput (args_of words.now) (S.input input.old) (S.input input.new) (ended result.ended ≡ None) }
@@ -138,8 +138,8 @@ fn obey<'w, D: Disk, S: Source, K: Sink>(
 /// The whole program: reads the words, the input and the files, writes the set and the wire bytes, and prints the tree.
 /// What out and err hold is what this call appended.
 ///
-/// The words are `[-I PATH]* [-o PATH] [--include_imports] [--include_source_info] [--descriptor_set_in PATH] [--type NAME [--wire PATH]
-/// [--json_int64_numbers] [--json_enum_numbers] [--json_proto_names] [--json_defaults]] FILE+`, or `--generate N`.
+/// The words are `[-I PATH]* [-o PATH] [--include_imports] [--include_source_info] [--descriptor_set_in PATH] [--retries N]
+/// [--type NAME [--wire PATH] [--json_int64_numbers] [--json_enum_numbers] [--json_proto_names] [--json_defaults]] FILE+`, or `--generate N`.
 /// Without `--type` the files are compiled, and their set is written with `-o`. With `--type` the input is read as JSON of a
 /// message of that type; the set, with all imports and source information, is written with `-o` and the wire bytes are
 /// written with `--wire`, and the message is printed as JSON: canonical, but for what the four flags change. `--generate N` transcodes a tree over N files in
@@ -147,6 +147,9 @@ fn obey<'w, D: Disk, S: Source, K: Sink>(
 ///
 /// With `--descriptor_set_in` the files come from the descriptor set at its path, and from nowhere else; it is read behind the input and
 /// before any file.
+///
+/// With `--retries N` a path of a file whose opening meets a fault of the disk, or want of memory, is opened again, at most N times. The set is read
+/// once, and each write is tried once.
 ///
 /// With status 0 err has a note for each path whose name an earlier path has, which is compiled once.
 ///

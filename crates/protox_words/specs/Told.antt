@@ -11,7 +11,7 @@ use Rattle.protox_words.specs.declared.options.Given.{Given as GivenHeld}
 use Rattle.protox_words.specs.declared.scan.Place.{Place}
 use Rattle.protox_words.specs.declared.scan.Place.TheVariants.{Options, Value, Files}
 use Rattle.protox_words.specs.Words.{Args, JsonFlags, Given, Scan, Reading, Wanting, Filing, Faulty}
-use Rattle.protox_words.specs.Words.{WordFault, Unknown, Twice, NeedsValue, TakesNoValue, NeedsNumber, NotAlone, NoFile, NeedsType, ExcludesInclude}
+use Rattle.protox_words.specs.Words.{WordFault, Unknown, Twice, NeedsValue, TakesNoValue, NeedsNumber, NeedsRetries, NotAlone, NoFile, NeedsType, ExcludesInclude}
 
 -- the flags with the bytes of the first
 abbrev pub json_told : FlagsHeld → JsonFlags
@@ -31,6 +31,7 @@ args_told a = record {
   include_imports = a.include_imports;
   include_source_info = a.include_source_info;
   descriptor_set_in = option_copied a.descriptor_set_in;
+  retries = a.retries;
   type_name = option_copied a.type_name;
   wire = option_copied a.wire;
   json = json_told a.json;
@@ -45,6 +46,7 @@ fault_told (faults.Twice option) = Twice option.now
 fault_told (faults.NeedsValue option) = NeedsValue option.now
 fault_told (faults.TakesNoValue option) = TakesNoValue option.now
 fault_told (faults.NeedsNumber option) = NeedsNumber option.now
+fault_told (faults.NeedsRetries option) = NeedsRetries option.now
 fault_told faults.NotAlone = NotAlone
 fault_told faults.NoFile = NoFile
 fault_told (faults.NeedsType option) = NeedsType option.now

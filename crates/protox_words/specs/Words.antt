@@ -1,10 +1,11 @@
 -- The words of the command line (the conventions of protoc's command line; POSIX, "Utility Syntax Guidelines").
-use Rattle.std.specs.Prelude.{ℕ, ◌+◌, ◌-◌, ◌*◌, ◌==◌, ◌&&◌, not, nat_lt, List, [], ◌∷◌, ◌++◌, take, drop, length, position}
+use Rattle.std.specs.Prelude.{ℕ, ◌+◌, ◌-◌, ◌*◌, ◌==◌, ◌&&◌, ◌||◌, not, nat_lt, List, [], ◌∷◌, ◌++◌, take, drop, length, position}
 use Rattle.std.specs.Prelude.{Bool, true, false, Option, Some, None, is_some, option_map, Result, Ok, Err, codes, if◌then◌else◌}
 use Rattle.std.specs.List.{fold, list_all, concat, before_first}
+use Rattle.std.specs.Option.{unwrap_or}
 use Rattle.std.specs.Str.{bytes_eq}
 use Rattle.protox_words.specs.declared.options.Flag.{Flag}
-use Rattle.protox_words.specs.declared.options.Flag.TheVariants.{Include, Output, IncludeImports, IncludeSourceInfo, DescriptorSetIn}
+use Rattle.protox_words.specs.declared.options.Flag.TheVariants.{Include, Output, IncludeImports, IncludeSourceInfo, DescriptorSetIn, Retries}
 use Rattle.protox_words.specs.declared.options.Flag.TheVariants.{TypeName, Wire, Generate, Json}
 use Rattle.protox_words.specs.declared.json.JsonFlag.{JsonFlag}
 use Rattle.protox_words.specs.declared.json.JsonFlag.TheVariants.{Int64Numbers, EnumNumbers, ProtoNames, Defaults}
@@ -17,27 +18,29 @@ pub record JsonFlags : Type 0 where
   pub proto_names : Bool
   pub defaults : Bool
 
--- what the words ask for: folders, the path of the set, what the set includes, the path of a set that files come from, a type, the path of the wire
--- bytes, how the JSON is written, the number of a schema to generate, and files
+-- what the words ask for: folders, the path of the set, what the set includes, the path of a set that files come from, how often a path is opened again,
+-- a type, the path of the wire bytes, how the JSON is written, the number of a schema to generate, and files
 pub record Args : Type 0 where
   pub includes : List (List ℕ)
   pub output : Option (List ℕ)
   pub include_imports : Bool
   pub include_source_info : Bool
   pub descriptor_set_in : Option (List ℕ)
+  pub retries : Option ℕ
   pub type_name : Option (List ℕ)
   pub wire : Option (List ℕ)
   pub json : JsonFlags
   pub generate : Option ℕ
   pub files : List (List ℕ)
 
--- why words are refused; the first five name a word, the last four are of all of them
+-- why words are refused; the first six name a word, the last four are of all of them
 pub data WordFault : Type 0 where
   Unknown : List ℕ → WordFault
   Twice : List ℕ → WordFault
   NeedsValue : List ℕ → WordFault
   TakesNoValue : List ℕ → WordFault
   NeedsNumber : List ℕ → WordFault
+  NeedsRetries : List ℕ → WordFault
   NotAlone : WordFault
   NoFile : WordFault
   NeedsType : List ℕ → WordFault
@@ -54,6 +57,7 @@ nothing = record {
   include_imports = false;
   include_source_info = false;
   descriptor_set_in = None;
+  retries = None;
   type_name = None;
   wire = None;
   json = no_json_flags;
@@ -72,6 +76,7 @@ long_spellings =
     ∷ (codes "--include_imports", IncludeImports) ∷ (codes "--include-imports", IncludeImports)
     ∷ (codes "--include_source_info", IncludeSourceInfo) ∷ (codes "--include-source-info", IncludeSourceInfo)
     ∷ (codes "--descriptor_set_in", DescriptorSetIn) ∷ (codes "--descriptor-set-in", DescriptorSetIn)
+    ∷ (codes "--retries", Retries)
     ∷ (codes "--type", TypeName) ∷ (codes "--wire", Wire) ∷ (codes "--generate", Generate)
     ∷ (codes "--json_int64_numbers", Json Int64Numbers) ∷ (codes "--json_enum_numbers", Json EnumNumbers)
     ∷ (codes "--json_proto_names", Json ProtoNames) ∷ (codes "--json_defaults", Json Defaults) ∷ []
@@ -141,6 +146,7 @@ is_given Output a = is_some a.output
 is_given IncludeImports a = a.include_imports
 is_given IncludeSourceInfo a = a.include_source_info
 is_given DescriptorSetIn a = is_some a.descriptor_set_in
+is_given Retries a = is_some a.retries
 is_given TypeName a = is_some a.type_name
 is_given Wire a = is_some a.wire
 is_given Generate a = is_some a.generate
@@ -165,6 +171,13 @@ is_count text =
 abbrev pub count_of : List ℕ → Option ℕ
 count_of text = if is_count text then Some (digits_value text) else None
 
+-- `0` itself, or a count up to 1,000
+abbrev pub is_retries : List ℕ → Bool
+is_retries text = bytes_eq text (codes "0") || (is_count text && nat_lt (digits_value text) 1001)
+
+abbrev pub retries_in : List ℕ → Option ℕ
+retries_in text = if is_retries text then Some (digits_value text) else None
+
 -- where the reading of words stands: between options, before the value of an option as written, behind `--`, or at a fault
 pub data Scan : Type 0 where
   Reading : Args → Scan
@@ -178,6 +191,10 @@ with_file word a = record a { files = a.files ++ word ∷ [] }
 abbrev pub counted : List ℕ → Option ℕ → Args → Scan
 counted written None a = Faulty (NeedsNumber written)
 counted written (Some n) a = Reading (record a { generate = Some n })
+
+abbrev pub retried : List ℕ → Option ℕ → Args → Scan
+retried written None a = Faulty (NeedsRetries written)
+retried written (Some n) a = Reading (record a { retries = Some n })
 
 -- the first flag stays the first
 abbrev pub first_of : Option (List ℕ) → List ℕ → Option (List ℕ)
@@ -198,6 +215,7 @@ set Output written value a = Reading (record a { output = Some value })
 set IncludeImports written value a = Reading (record a { include_imports = true })
 set IncludeSourceInfo written value a = Reading (record a { include_source_info = true })
 set DescriptorSetIn written value a = Reading (record a { descriptor_set_in = Some value })
+set Retries written value a = retried written (retries_in value) a
 set TypeName written value a = Reading (record a { type_name = Some value })
 set Wire written value a = Reading (record a { wire = Some value })
 set (Json flag) written value a = Reading (record a { json = with_json flag written a.json })
@@ -249,7 +267,7 @@ step (Faulty fault) word = Faulty fault
 abbrev pub is_alone : Args → Bool
 is_alone a =
     (length a.includes == 0) && not (is_some a.output) && not a.include_imports && not a.include_source_info && not (is_some a.descriptor_set_in)
-    && not (is_some a.type_name) && not (is_some a.wire) && not (is_some a.json.first) && (length a.files == 0)
+    && not (is_some a.retries) && not (is_some a.type_name) && not (is_some a.wire) && not (is_some a.json.first) && (length a.files == 0)
 
 -- the flag of the JSON that stands without `--type`, if there is one: the first
 abbrev pub flag_without_type : Args → Option (List ℕ)
@@ -285,6 +303,10 @@ folders_among includes = if length includes == 0 then codes "." ∷ [] else incl
 abbrev pub folders : Args → List (List ℕ)
 folders a = folders_among a.includes
 
+-- how often a path is opened again where the host refuses it
+abbrev pub retries_of : Args → ℕ
+retries_of a = unwrap_or a.retries 0
+
 -- the line of a fault, as the pieces that stand in it one after another
 abbrev pub fault_pieces : WordFault → List (List ℕ)
 fault_pieces (Unknown word) = codes "unknown option '" ∷ word ∷ codes "'" ∷ []
@@ -292,6 +314,7 @@ fault_pieces (Twice option) = codes "option '" ∷ option ∷ codes "' given twi
 fault_pieces (NeedsValue option) = codes "option '" ∷ option ∷ codes "' needs a value" ∷ []
 fault_pieces (TakesNoValue option) = codes "option '" ∷ option ∷ codes "' takes no value" ∷ []
 fault_pieces (NeedsNumber option) = codes "option '" ∷ option ∷ codes "' needs a number from 1 to 2000" ∷ []
+fault_pieces (NeedsRetries option) = codes "option '" ∷ option ∷ codes "' needs a number from 0 to 1000" ∷ []
 fault_pieces NotAlone = codes "--generate stands alone" ∷ []
 fault_pieces NoFile = codes "no file given" ∷ []
 fault_pieces (NeedsType option) = option ∷ codes " needs --type" ∷ []

@@ -1,6 +1,6 @@
 ghost use Rattle.std.specs.Prelude.{◌≡◌, ◌++◌, ◌∷◌, [], IfOk, OnOk, option_map};
 ghost use Rattle.std.specs.Option.{option_copied};
-ghost use Rattle.protox_words.specs.Words.{nothing, folders as folders_of, folders_among};
+ghost use Rattle.protox_words.specs.Words.{nothing, folders as folders_of, folders_among, retries_of};
 ghost use Rattle.protox_words.specs.Words.{fault_in as fault_in_of, is_alone as is_alone_of, flag_without_type};
 ghost use Rattle.protox_words.specs.Told.{args_told, fault_told};
 
@@ -24,6 +24,8 @@ pub struct Args<'w> {
     pub include_source_info: bool,
     /// The path of the set that the files come from, in place of folders.
     pub descriptor_set_in: Option<&'w str>,
+    /// How often a path is opened again where the host refuses it, from 0 to 1000.
+    pub retries: Option<u16>,
     /// The name of the type of a message on the input.
     pub type_name: Option<&'w str>,
     /// The path that the wire bytes of the message are written to.
@@ -47,6 +49,7 @@ impl<'w> Args<'w> {
             include_imports: false,
             include_source_info: false,
             descriptor_set_in: None,
+            retries: None,
             type_name: None,
             wire: None,
             json: JsonFlags::new(),
@@ -64,6 +67,16 @@ impl<'w> Args<'w> {
         Ok(folders)
     }
 
+    /// How often a path is opened again where the host refuses it: never where nothing is said of it.
+    pub fn retries(&self) -> u32
+        ensures { result ≡ retries_of (args_told self.now) }
+    {
+        match self.retries {
+            Some(retries) => u32::from(retries),
+            None => 0,
+        }
+    }
+
     /// Whether nothing but `--generate` was given.
     fn is_alone(&self) -> bool
         ensures { result ≡ is_alone_of (args_told self.now) }
@@ -73,6 +86,7 @@ impl<'w> Args<'w> {
             && !self.include_imports
             && !self.include_source_info
             && self.descriptor_set_in.is_none()
+            && self.retries.is_none()
             && self.type_name.is_none()
             && self.wire.is_none()
             && self.json.first.is_none()

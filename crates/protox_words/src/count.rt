@@ -1,5 +1,5 @@
 ghost use Rattle.std.specs.Prelude.{◌≡◌};
-ghost use Rattle.protox_words.specs.Words.{count_of as count_in};
+ghost use Rattle.protox_words.specs.Words.{count_of as count_in, retries_in as retries_among};
 
 /// The greatest number of a schema to generate.
 const GREATEST: u16 = 2000;
@@ -23,4 +23,20 @@ pub(crate) fn count_of(text: &str) -> Option<u16>
         }
     }
     Some(number)
+}
+
+/// The greatest number of retries.
+const MOST_RETRIES: u16 = 1000;
+
+/// The number from 0 to 1000 that the text is, as `0` itself or as one to four digits of which the first is not zero.
+pub(crate) fn retries_in(text: &str) -> Option<u16>
+    ensures { result ≡ retries_among text.now }
+{
+    if text == "0" {
+        return Some(0);
+    }
+    match count_of(text) {
+        Some(retries) if retries <= MOST_RETRIES => Some(retries),
+        _ => None,
+    }
 }

@@ -34,6 +34,11 @@ pub enum WordFault<'w> {
         /// The option.
         option: &'w str,
     },
+    /// The value of an option is no number from 0 to 1000, or is written otherwise than by its digits.
+    NeedsRetries {
+        /// The option.
+        option: &'w str,
+    },
     /// Another option, or a file, stands beside `--generate`.
     NotAlone,
     /// There is no file.
@@ -66,6 +71,9 @@ impl WordFault<'_> {
             }
             WordFault::NeedsNumber { option } => {
                 between(alloc, "option '", option, "' needs a number from 1 to 2000")
+            }
+            WordFault::NeedsRetries { option } => {
+                between(alloc, "option '", option, "' needs a number from 0 to 1000")
             }
             WordFault::NotAlone => Text::joined(alloc, &["--generate stands alone"]),
             WordFault::NoFile => Text::joined(alloc, &["no file given"]),

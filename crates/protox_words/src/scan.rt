@@ -4,7 +4,7 @@ ghost use Rattle.protox_words.specs.Words.{with_file, judged, judged_scan};
 ghost use Rattle.protox_words.specs.Told.{args_told, fault_told, given_told, scan_at, scan_of, Leads};
 
 use crate::args::{Args, add};
-use crate::count::count_of;
+use crate::count::{count_of, retries_in};
 use crate::fault::{WordFault, WordsError};
 use crate::options::{Flag, Given, option_in};
 use std::alloc::Global;
@@ -45,6 +45,10 @@ fn set<'w>(
         Flag::IncludeImports => args.include_imports = true,
         Flag::IncludeSourceInfo => args.include_source_info = true,
         Flag::DescriptorSetIn => args.descriptor_set_in = Some(value),
+        Flag::Retries => match retries_in(value) {
+            Some(retries) => args.retries = Some(retries),
+            None => return Err(WordsError::Fault(WordFault::NeedsRetries { option: written })),
+        },
         Flag::TypeName => args.type_name = Some(value),
         Flag::Wire => args.wire = Some(value),
         Flag::Json(flag) => args.json.add(flag, written),

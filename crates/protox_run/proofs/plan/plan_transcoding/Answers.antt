@@ -1,4 +1,6 @@
+use Rattle.std.proofs.Common.{ℕ}
 use Rattle.serde_json.specs.View.{view}
+use Rattle.protox_io.specs.Count.{Rose, RoseTimes}
 use Rattle.protox_words.specs.Told.{args_told}
 use Rattle.protox_run.specs.Told.{stop_told}
 use Rattle.protox_run.specs.declared.files.Job.TheVariants as jobs
@@ -20,11 +22,17 @@ returns-in-Ok-clause-stop g c disk input =
     (c.from_files.ensures.stop disk)
 
 pub returns-in-Ok-clause-cause : goal.returns-in-Ok-clause-cause
-returns-in-Ok-clause-cause g c = err_then c.from_files.result.result (λ stop h. of_files (args_told c.args.args.now) _ _ _ (stop_told stop) h) c.from_files.ensures.cause
+returns-in-Ok-clause-cause g c =
+    err_then c.from_files.result.result
+    (λ stop h. of_files (args_told c.args.args.now) (λ times. RoseTimes times (g.D.Disk.count c.args.disk) (g.D.Disk.count c.from_files.result.disk))
+    (Rose (g.S.Source.count c.args.input.now) (g.S.Source.count c.read_tree.new.input)) ⊥ (stop_told stop) h)
+    c.from_files.ensures.cause
 
 pub returns-in-Err-clause-stop : goal.returns-in-Err-clause-stop
 returns-in-Err-clause-stop g c disk input =
     input_judged (args_told c.args.args.now) c.args.name.now (g.D.Disk.volume c.args.disk) (g.S.Source.input c.args.input.now).left (stop_told c.in-Err.stop) (c.in-Err.ensures.stop input)
 
 pub returns-in-Err-clause-cause : goal.returns-in-Err-clause-cause
-returns-in-Err-clause-cause g c = of_input (args_told c.args.args.now) _ _ _ (stop_told c.in-Err.stop) c.in-Err.ensures.cause
+returns-in-Err-clause-cause g c =
+    of_input (args_told c.args.args.now) (Rose (g.S.Source.count c.args.input.now) (g.S.Source.count c.read_tree.new.input))
+    (λ times. RoseTimes times (g.D.Disk.count c.args.disk) (g.D.Disk.count c.args.disk)) ⊥ (stop_told c.in-Err.stop) c.in-Err.ensures.cause

@@ -15,6 +15,9 @@ returns-in-TakesNoValue-clause-said g c = rw c.in-TakesNoValue.is c.say_between-
 pub returns-in-NeedsNumber-clause-said : goal.returns-in-NeedsNumber-clause-said
 returns-in-NeedsNumber-clause-said g c = rw c.in-NeedsNumber.is c.say_between-in-NeedsNumber.ensures.said
 
+pub returns-in-NeedsRetries-clause-said : goal.returns-in-NeedsRetries-clause-said
+returns-in-NeedsRetries-clause-said g c = rw c.in-NeedsRetries.is c.say_between-in-NeedsRetries.ensures.said
+
 pub returns-in-NeedsType-clause-said : goal.returns-in-NeedsType-clause-said
 returns-in-NeedsType-clause-said g c = rw c.in-NeedsType.is c.say_behind.ensures.said
 
