@@ -8,6 +8,7 @@ mod disks;
 mod errors;
 mod files;
 mod located;
+mod orders;
 mod over;
 mod paths;
 mod resolvers;
@@ -65,6 +66,8 @@ fn tell<R: Files + AllocGlobal>(rt: &R, row: &Row, word: &str, told: &mut Told) 
         "walk" => walk::of_memory(rt.alloc(), row, told),
         "walk over one" => untold::walk_over_one(rt.alloc(), row, told),
         "walk over none" => untold::walk_over_none(rt.alloc(), row, told),
+        "walk over a script" => untold::walk_over_script(rt.alloc(), row, told),
+        "orders" => orders::of_paths(rt.alloc(), row, told),
         "resolver" => resolvers::of_memory(rt.alloc(), row, told),
         "walk over folders" => walk::over_folders(rt.alloc(), row, told),
         "walk over a set" => walk::over_set(rt.alloc(), row, told),

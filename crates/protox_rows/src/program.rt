@@ -4,11 +4,14 @@
 //! a file of too many bytes:
 //!
 //! - `run`: words, input, which object fails (`disk`, `input`, `out` or `err`; or none), the number of its call that fails,
-//!   and the files. The answer is status, output, error output and the files `w` and `s` in hexadecimal digits, `-` where one is
-//!   absent.
+//!   of the disk maybe several with commas between them, and the files. The answer is status, output, error output and the files
+//!   `w` and `s` in hexadecimal digits, `-` where one is absent.
 //! - `set`: names of files, input, a type's name, and the files. The answer is the set of the files in hexadecimal digits.
 //! - `repeated`: the same. The answer is the JSON array of the indices of the paths that are given again.
 //! - `written`: the same. The answer is the text of the tree under options that are all other than the default ones.
+//! - `retried`: names of files, input, a type's name, how often each name is opened again where that meets a fault, the numbers of the
+//!   opens that fail with commas between them, and the files. The answer is the wire bytes in hexadecimal digits and the canonical
+//!   text, or what is refused.
 //! - `deep`: a type's name, and files, each by its name and how many messages stand in one another there. The answer is `ok`, or
 //!   what is refused.
 //! - `built-in`: names of built-in files, input and a type's name. The answer is the wire bytes in hexadecimal digits and the
@@ -18,6 +21,7 @@
 mod built_in;
 mod deep;
 mod objects;
+mod retries;
 mod runs;
 mod sets;
 
@@ -30,6 +34,7 @@ pub(crate) fn answer(alloc: Global, row: &Row, word: &str) -> Result<String, Sto
     match word {
         "run" => Ok(runs::run(alloc, row)?),
         "set" | "repeated" | "written" => Ok(sets::set(alloc, row, word)?),
+        "retried" => Ok(retries::retried(alloc, row)?),
         "deep" => Ok(deep::deep(alloc, row)?),
         "built-in" => Ok(built_in::built_in(alloc, row)?),
         "from set" => Ok(built_in::from_set(alloc, row)?),

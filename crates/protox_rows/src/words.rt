@@ -37,9 +37,14 @@ fn add_switch(line: &mut String, option: &str, is_given: bool) -> Result<(), All
     Ok(())
 }
 
-fn add_count(alloc: Global, line: &mut String, count: Option<u16>) -> Result<(), AllocError> {
+fn add_count(
+    alloc: Global,
+    line: &mut String,
+    option: &str,
+    count: Option<u16>,
+) -> Result<(), AllocError> {
     match count {
-        Some(count) => line.push_str(format!(in alloc; " --generate {count}")?.as_str()),
+        Some(count) => line.push_str(format!(in alloc; "{option} {count}")?.as_str()),
         None => Ok(()),
     }
 }
@@ -60,10 +65,11 @@ fn add_args(alloc: Global, line: &mut String, args: &Args<'_>) -> Result<(), NoM
     add_switch(line, " --include_imports", args.include_imports)?;
     add_switch(line, " --include_source_info", args.include_source_info)?;
     add_value(line, " --descriptor_set_in", args.descriptor_set_in)?;
+    add_count(alloc, line, " --retries", args.retries)?;
     add_value(line, " --type", args.type_name)?;
     add_value(line, " --wire", args.wire)?;
     add_json(line, &args.json)?;
-    add_count(alloc, line, args.generate)?;
+    add_count(alloc, line, " --generate", args.generate)?;
     add_texts(line, "", &args.files)?;
     line.push_str(" |")?;
     add_texts(line, "", &args.folders(alloc)?)?;

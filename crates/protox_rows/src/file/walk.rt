@@ -98,7 +98,7 @@ fn word_of(report: Opened) -> &'static str {
     }
 }
 
-/// Opens the path of a step, or its paths, and gives the word of the answer.
+/// Opens the path of a step, as often as it says more, or its paths, and gives the word of the answer.
 fn opened<R: FileResolver>(
     alloc: Global,
     compiler: &mut Compiler<R>,
@@ -107,6 +107,10 @@ fn opened<R: FileResolver>(
     if step.word == "each" {
         open_each(alloc, compiler, step.text)?;
         return Ok("ok");
+    }
+    if step.word == "retry" {
+        let report = compiler.open_retry(step.text, small_number(step.name))?;
+        return Ok(word_of(report));
     }
     let report = compiler.open_file(step.text)?;
     Ok(if step.word == "report" {
@@ -228,7 +232,9 @@ fn take<R: FileResolver>(
     told: &mut Told,
 ) {
     match step.word {
-        "open" | "each" | "report" | "count" | "import" => open(alloc, compiler, step, told),
+        "open" | "each" | "report" | "retry" | "count" | "import" => {
+            open(alloc, compiler, step, told);
+        }
         "limit" => set_limit(compiler, step),
         "has" => told.say(if compiler.is_compiled(step.text) {
             "yes"

@@ -27,7 +27,7 @@ fn done_told(alloc: Global, done: &Transcoded) -> Result<String, Stop> {
 }
 
 /// The same, or the line of what is refused.
-fn told(alloc: Global, came: &Result<Transcoded, TopError>) -> Result<String, Stop> {
+pub(crate) fn told(alloc: Global, came: &Result<Transcoded, TopError>) -> Result<String, Stop> {
     match came {
         Ok(done) => done_told(alloc, done),
         Err(error) => line(alloc, error),

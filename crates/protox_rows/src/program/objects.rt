@@ -5,7 +5,7 @@ use pbx_json::SerializeOptions;
 use pbx_wire::{Blob, NoMemory, Text, Texts};
 use protox_file_sources::FileResolver;
 use protox_io::{MemoryDisk, MemorySink, MemorySource};
-use protox_transcode::{TopError, Transcoded, compile_and_transcode};
+use protox_transcode::{TopError, Transcoded, compile_and_transcode, compile_and_transcode_retry};
 use serde_json::Value;
 use std::alloc::Global;
 use std::mem::drop;
@@ -50,6 +50,19 @@ pub(crate) fn came_of<R: FileResolver + Drop>(
     compile_and_transcode(alloc, files, paths, type_name, tree, options).result
 }
 
+/// The same under the default options, where each path is opened again, at most so many times, as long as opening it meets a fault.
+pub(crate) fn came_again<R: FileResolver + Drop>(
+    alloc: Global,
+    files: R,
+    paths: &Texts,
+    type_name: &str,
+    tree: &Value,
+    tries: u32,
+) -> Result<Transcoded, TopError> {
+    let options = SerializeOptions::default();
+    compile_and_transcode_retry(alloc, files, paths, type_name, tree, tries, &options).result
+}
+
 /// The line of what is refused.
 pub(crate) fn line(alloc: Global, error: &TopError) -> Result<String, Stop> {
     let line = error.line(alloc)?;
@@ -82,15 +95,23 @@ fn put(disk: &mut MemoryDisk, name: &str, source: &[u8]) -> Result<(), NoMemory>
     }
 }
 
-/// Puts the files of the row, and lists the call that fails.
+/// Lists the calls of the disk that fail, if the row has it fail.
+fn list_failing(disk: &mut MemoryDisk, row: &Row) -> Result<(), NoMemory> {
+    if row.text(FAILING) != "disk" {
+        return Ok(());
+    }
+    for call in row.text(CALL).split(',') {
+        disk.fail_at(call.parse::<u64>().unwrap_or(0))?;
+    }
+    Ok(())
+}
+
+/// Puts the files of the row, and lists the calls that fail.
 fn fill(disk: &mut MemoryDisk, row: &Row) -> Result<(), NoMemory> {
     for at in (FILES..row.len()).step_by(2) {
         put(disk, row.text(at), row.bytes(at.saturating_add(1)))?;
     }
-    match failing_call(row, "disk") {
-        Some(call) => disk.fail_at(call),
-        None => Ok(()),
-    }
+    list_failing(disk, row)
 }
 
 /// The disk with the files of the row.

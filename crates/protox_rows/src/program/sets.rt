@@ -18,9 +18,9 @@ const TYPE: usize = 2;
 
 const FILES: usize = 3;
 
-/// Puts the files of the row.
-fn fill(files: &mut MemoryResolver, row: &Row) -> Result<(), NoMemory> {
-    for at in (FILES..row.len()).step_by(2) {
+/// Puts the files of the row, which stand from that field on.
+pub(crate) fn fill(files: &mut MemoryResolver, row: &Row, from: usize) -> Result<(), NoMemory> {
+    for at in (from..row.len()).step_by(2) {
         files.put(row.text(at), row.text(at.saturating_add(1)))?;
     }
     Ok(())
@@ -28,7 +28,7 @@ fn fill(files: &mut MemoryResolver, row: &Row) -> Result<(), NoMemory> {
 
 fn resolver(alloc: Global, row: &Row) -> Result<MemoryResolver, NoMemory> {
     let mut files = MemoryResolver::new(alloc);
-    if let Err(error) = fill(&mut files, row) {
+    if let Err(error) = fill(&mut files, row, FILES) {
         drop(files);
         return Err(error);
     }
