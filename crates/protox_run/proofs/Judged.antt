@@ -35,6 +35,7 @@ use Rattle.protox_transcode.specs.declared.error.TopError.TheVariants as top
 use Rattle.protox_compile.proofs.Standard.{of_counts}
 use Rattle.protox_transcode.proofs.Determined.{no_fault}
 use Rattle.protox_transcode.proofs.Judged.{compiling_caused}
+use Rattle.protox_transcode.proofs.Tries.{caused_then}
 use Rattle.protox_generate.specs.Summary.{RefusesNumber}
 use Rattle.protox_words.specs.Words.{Args, folders, retries_of}
 use Rattle.protox_run.specs.Class.{limit, json_of, folder_files, set_at, IsStoredSet, IsLibrary, LacksSet, options_of, Write, Refusing, write_to, Ending, Transcoded, RefusedWith, IsWholeError, RefusesSet, RefusedSet, set_of, Task, Generate, Transcode, Compile, task, ComesTo, Judges, is_transcode, reads_input, repeated_by, repeated_of, resolves_by, resolves_of}
@@ -413,32 +414,6 @@ folder_repeats args disk none =
     let P : Option (List ℕ) → Type 0 = λ o. repeats (folder_files args disk).resolves args.files ≡ repeats (resolves_by o args) args.files in
     subst P (sym none)
     (repeats_alike (folder_files args disk).resolves (folder_files args untold).resolves (same_resolves disk untold (folders args) (pooled wkt_files ∷ [])) args.files)
-
--- one cause gives another
-caused_then : (f g : ErrorKind → Type 0) (error : TopError) → ((e : ErrorKind) → f e → g e) → IsCaused f error → IsCaused g error
-caused_then f g (top.File (kinds.OpenFile name path words)) k h = k _ h
-caused_then f g (top.File (kinds.Custom text is_io)) k h = k _ h
-caused_then f g (top.File (kinds.Parse x)) k h = h
-caused_then f g (top.File (kinds.Check x)) k h = h
-caused_then f g (top.File (kinds.FileTooLarge name)) k h = tt
-caused_then f g (top.File (kinds.FileInvalidUtf8 name)) k h = tt
-caused_then f g (top.File (kinds.FileNotFound name)) k h = tt
-caused_then f g (top.File (kinds.ImportNotFound file index place name)) k h = tt
-caused_then f g (top.File (kinds.CircularImport name cycle)) k h = tt
-caused_then f g (top.File (kinds.FileNotIncluded path)) k h = tt
-caused_then f g (top.File (kinds.FileShadowed name path shadow)) k h = tt
-caused_then f g (top.File (kinds.DuplicateImport file index place name)) k h = tt
-caused_then f g (top.File (kinds.ImportEscapes file index place name)) k h = tt
-caused_then f g (top.File (kinds.NameMismatch asked declared)) k h = tt
-caused_then f g (top.File (kinds.FileLimit n)) k h = tt
-caused_then f g (top.File (kinds.Undecodable file)) k h = tt
-caused_then f g (top.File kinds.NoMemory) k h = absurd h
-caused_then f g (top.JsonNames message key) k h = tt
-caused_then f g (top.WellKnownShape message) k h = tt
-caused_then f g (top.TypeNotFound n) k h = tt
-caused_then f g (top.Json e) k h = h
-caused_then f g top.TooDeep k h = tt
-caused_then f g top.NoMemory k h = tt
 
 -- a cause of the resolver is one of the disk
 pub of_disk : {D : Type 0} (volume : D → Volume) (count : D → Count) (args : Args) (times : ℕ) (r s : Folders D) (disk later : D) (error : TopError)

@@ -64,8 +64,8 @@ openings_by (Some path) args = 1
 abbrev pub openings_of : Args → ℕ
 openings_of args = openings_by args.descriptor_set_in args
 
--- The count of the object rose, that of the disk so often: once for a write. A fault of reading says which file could not be read, and why, or that the set could
--- not be.
+-- The count of the object rose, that of the disk so often: once for a write. A fault of reading says which file could not be read, and why,
+-- or that the set could not be.
 abbrev pub RoseOf : (ℕ → Type 0) → Type 0 → Type 0 → Object → Args → Type 0
 RoseOf disk input out Input args = input
 RoseOf disk input out (Reading line) args = disk (openings_of args) × IsFaultLine args line

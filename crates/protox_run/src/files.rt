@@ -318,7 +318,8 @@ fn from_folders<'w, D: Disk>(
         (λ library. Makes job.entry (args_told args.now) library (writes_told ready) (line_told (option_map string_bytes ready.line)))) }
     ensures repeated { IsTrue (D.volume disk).tells → IfOk result.result (λ ready. ready.repeated ≡ repeats (resolves_of (args_told args.now)) args.now.files) }
     ensures stop { IsTrue (D.volume disk).tells → IfErr result.result (λ stop. IsFileStop job.entry (args_told args.now) (D.volume disk) (stop_told stop)) }
-    ensures cause { IfErr result.result (λ stop. IsFileCause (args_told args.now) (λ times. RoseTimes times (D.count disk) (D.count result.disk)) (stop_told stop)) }
+    ensures cause { IfErr result.result
+        (λ stop. IsFileCause (args_told args.now) (λ times. RoseTimes times (D.count disk) (D.count result.disk)) (stop_told stop)) }
     ensures later { Later (D.count disk) (D.count result.disk) }
     ensures keeps { D.volume result.disk ≡ D.volume disk }
 {
@@ -350,7 +351,8 @@ fn from_set<'w, D: Disk>(
         (λ library. Makes job.entry (args_told args.now) library (writes_told ready) (line_told (option_map string_bytes ready.line)))) }
     ensures repeated { IsTrue (D.volume disk).tells → IfOk result.result (λ ready. ready.repeated ≡ repeats (resolves_of (args_told args.now)) args.now.files) }
     ensures stop { IsTrue (D.volume disk).tells → IfErr result.result (λ stop. IsFileStop job.entry (args_told args.now) (D.volume disk) (stop_told stop)) }
-    ensures cause { IfErr result.result (λ stop. IsFileCause (args_told args.now) (λ times. RoseTimes times (D.count disk) (D.count result.disk)) (stop_told stop)) }
+    ensures cause { IfErr result.result
+        (λ stop. IsFileCause (args_told args.now) (λ times. RoseTimes times (D.count disk) (D.count result.disk)) (stop_told stop)) }
     ensures later { Later (D.count disk) (D.count result.disk) }
     ensures keeps { D.volume result.disk ≡ D.volume disk }
 {
@@ -381,7 +383,8 @@ pub(crate) fn from_files<'w, D: Disk>(
         (λ library. Makes job.entry (args_told args.now) library (writes_told ready) (line_told (option_map string_bytes ready.line)))) }
     ensures repeated { IsTrue (D.volume disk).tells → IfOk result.result (λ ready. ready.repeated ≡ repeats (resolves_of (args_told args.now)) args.now.files) }
     ensures stop { IsTrue (D.volume disk).tells → IfErr result.result (λ stop. IsFileStop job.entry (args_told args.now) (D.volume disk) (stop_told stop)) }
-    ensures cause { IfErr result.result (λ stop. IsFileCause (args_told args.now) (λ times. RoseTimes times (D.count disk) (D.count result.disk)) (stop_told stop)) }
+    ensures cause { IfErr result.result
+        (λ stop. IsFileCause (args_told args.now) (λ times. RoseTimes times (D.count disk) (D.count result.disk)) (stop_told stop)) }
     ensures later { Later (D.count disk) (D.count result.disk) }
     ensures keeps { D.volume result.disk ≡ D.volume disk }
 {
