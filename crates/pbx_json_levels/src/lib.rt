@@ -4,4 +4,4 @@
 mod types;
 mod walk;
 
-pub use walk::fits;
+pub use walk::{fits, fits_by};

@@ -208,9 +208,30 @@ pub fn fits(
 ) -> Result<bool, NoMemory>
     ensures { IfOk result (λ yes. yes ≡ fits_of schema.now place (content_of contents.now)) }
 {
+    fits_by(
+        &mut TypeNames::new(alloc, schema),
+        alloc,
+        schema,
+        place,
+        contents,
+    )
+}
+
+/// `fits` by the types of the schema that were looked up before, for callers that ask of many messages. Types that a payload asks for
+/// are kept for the next one.
+pub fn fits_by(
+    types: &mut TypeNames,
+    alloc: Global,
+    schema: &Schema,
+    place: usize,
+    contents: &Contents,
+) -> Result<bool, NoMemory>
+    requires { AreTypesIn schema.now types.old }
+    ensures fit { IfOk result (λ yes. yes ≡ fits_of schema.now place (content_of contents.now)) }
+    ensures known { AreTypesIn schema.now types.new }
+{
     if depth(contents) > LEVELS {
         return Ok(false);
     }
-    let mut types = TypeNames::new(alloc, schema);
-    contents_fit(contents, alloc, schema, &mut types, place, DEEPEST)
+    contents_fit(contents, alloc, schema, types, place, DEEPEST)
 }

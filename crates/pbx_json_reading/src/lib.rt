@@ -25,7 +25,7 @@ pub(crate) use forms::{read_own, skips_keys};
 pub(crate) use holders::{Holder, Outer, Own, Packing, hold};
 pub(crate) use keys::read_key;
 pub(crate) use payload::{is_type_key, is_value_key, pack, payload_found};
-pub use read::read_content;
+pub use read::{read_content, read_content_by};
 pub(crate) use scalars::read_scalar;
 pub(crate) use state::{ObjectState, contents_with};
 pub(crate) use steps::{add_entry, add_value, map_held, note_at};

@@ -503,15 +503,42 @@ pub fn read_content(
     ensures refused { IfErr result (λ e. (e.kind ≡ OutOfMemory) ⊎ (content_for schema.now place (not options.now.deny_unknown_fields)
         (view tree.now) ≡ None)) }
 {
+    read_content_by(
+        &mut SchemaNames::new(alloc, schema),
+        alloc,
+        schema,
+        place,
+        tree,
+        options,
+    )
+}
+
+/// `read_content` by the names of the schema that were looked up before, for callers that read many trees. Names that the tree asks
+/// for are kept for the next one.
+pub fn read_content_by(
+    names: &mut SchemaNames,
+    alloc: Global,
+    schema: &Schema,
+    place: usize,
+    tree: &Value,
+    options: &DeserializeOptions,
+) -> Result<Contents, JsonError>
+    requires { AreNamesIn schema.now names.old }
+    ensures stands { IfOk result (λ c. Stands schema.now place (not options.now.deny_unknown_fields) (view tree.now) (content_of c)) }
+    ensures fault { IfErr result (λ e. (e.kind ≡ OutOfMemory) ⊎ FirstJsonFault schema.now place (not options.now.deny_unknown_fields)
+        (view tree.now) e.place e.kind) }
+    ensures refused { IfErr result (λ e. (e.kind ≡ OutOfMemory) ⊎ (content_for schema.now place (not options.now.deny_unknown_fields)
+        (view tree.now) ≡ None)) }
+    ensures names { AreNamesIn schema.now names.new }
+{
     // What the proof cites: a schema is proper, and what the answers are.
     schema.shape();
     fault_is_first();
     message_is_told();
-    let mut names = SchemaNames::new(alloc, schema);
     let reading = Reading {
         alloc,
         schema,
         allow: !options.deny_unknown_fields,
     };
-    read_message(&reading, &mut names, LEVELS, place, tree)
+    read_message(&reading, names, LEVELS, place, tree)
 }

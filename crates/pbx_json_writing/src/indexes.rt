@@ -15,14 +15,14 @@ use std::alloc::Global;
 
 /// Values of enums by their numbers, and message types by their URLs, of those that were asked for.
 #[derive(Drop)]
-pub(crate) struct Indexes {
+pub struct Indexes {
     enums: EnumIndexes,
     types: TypeNames,
 }
 
 impl Indexes {
     /// Nothing was asked for yet; takes no memory.
-    pub(crate) fn new(alloc: Global, schema: &Schema) -> Indexes
+    pub fn new(alloc: Global, schema: &Schema) -> Indexes
         ensures { AreIndexes schema.now result }
     {
         Indexes {

@@ -338,13 +338,39 @@ pub fn write_content(
     ensures fault { IsSound schema.now place (content_of content.now)
         → IfErr result (λ e. (e.kind ≡ fault.NoMemory) ⊎ WriteFault schema.now place (content_of content.now) options.now e.place e.kind) }
 {
-    let mut indexes = Indexes::new(alloc, schema);
+    write_content_by(
+        &mut Indexes::new(alloc, schema),
+        alloc,
+        schema,
+        place,
+        content,
+        options,
+    )
+}
+
+/// `write_content` by what was looked up of the schema before, for callers that write many messages. What a content asks for is kept
+/// for the next one.
+pub fn write_content_by(
+    indexes: &mut Indexes,
+    alloc: Global,
+    schema: &Schema,
+    place: usize,
+    content: &Contents,
+    options: &SerializeOptions,
+) -> Result<Value, JsonError>
+    requires { AreIndexes schema.now indexes.old }
+    ensures written { IfOk result (λ tree. canonical schema.now place (content_of content.now) options.now ≡ Some (view tree)) }
+    ensures refused { IfErr result (λ e. (e.kind ≡ fault.NoMemory) ⊎ (canonical schema.now place (content_of content.now) options.now ≡ None)) }
+    ensures fault { IsSound schema.now place (content_of content.now)
+        → IfErr result (λ e. (e.kind ≡ fault.NoMemory) ⊎ WriteFault schema.now place (content_of content.now) options.now e.place e.kind) }
+    ensures known { AreIndexes schema.now indexes.new }
+{
     match message_tree(
         content,
         alloc,
         schema,
         options,
-        &mut indexes,
+        indexes,
         Kind::Message(place),
         DEEPEST,
     ) {

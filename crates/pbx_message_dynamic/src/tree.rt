@@ -3,21 +3,24 @@
 ghost use Rattle.std.specs.Prelude.{◌≡◌, IfOk, IfErr};
 ghost use Rattle.serde_json.specs.View.{view};
 ghost use Rattle.pbx_json_meaning.specs.Fits.{fits};
+ghost use Rattle.pbx_json_schema.specs.Index.{AreNamesIn, AreTypesIn};
+ghost use Rattle.pbx_link_meaning.specs.Shapes.{shape_of};
 ghost use Rattle.pbx_message_dynamic.specs.Message.{shape_in, place_in};
 ghost use Rattle.pbx_message_dynamic.specs.Trees.{IsRead, IsReadFault, IsUnread, IsWritten, IsWriteFault, IsUnwritten};
 
 use crate::message::DynamicMessage;
 use pbx_json_laws::{shapes_are_well_named, stands_sound, values_have_texts};
-use pbx_json_levels::fits as content_fits;
+use pbx_json_levels::fits_by;
 use pbx_json_meaning::{DeserializeOptions, JsonError, JsonKind, Place, SerializeOptions};
-use pbx_json_reading::read_content;
+use pbx_json_reading::read_content_by;
+use pbx_json_schema::{SchemaNames, TypeNames};
 use pbx_json_writing::write_content;
 use pbx_link::MessageDescriptor;
 use pbx_wire::NoMemory;
 use serde_json::Value;
 use std::alloc::Global;
 
-fn no_memory(alloc: Global) -> JsonError
+pub(crate) fn no_memory(alloc: Global) -> JsonError
     ensures { result.kind ≡ JsonKind.NoMemory }
 {
     JsonError {
@@ -40,6 +43,28 @@ impl DynamicMessage {
         ensures fault { IfErr result (IsReadFault desc options.now (view tree.now)) }
         ensures refused { IfErr result (IsUnread desc options.now (view tree.now)) }
     {
+        let Ok(schema) = desc.schema() else {
+            return Err(no_memory(alloc));
+        };
+        let mut names = SchemaNames::new(alloc, schema.as_ref());
+        DynamicMessage::from_tree_by(&mut names, alloc, desc, tree, options)
+    }
+
+    /// `from_tree` by the names of the pool's types that were looked up before; those that the tree asks for are kept for the next one.
+    pub(crate) fn from_tree_by(
+        names: &mut SchemaNames,
+        alloc: Global,
+        desc: MessageDescriptor,
+        tree: &Value,
+        options: &DeserializeOptions,
+    ) -> Result<DynamicMessage, JsonError>
+        requires { AreNamesIn (shape_of desc.pool) names.old }
+        ensures of { IfOk result (λ m. m.of ≡ desc) }
+        ensures read { IfOk result (λ m. IsRead desc options.now (view tree.now) m.content) }
+        ensures fault { IfErr result (IsReadFault desc options.now (view tree.now)) }
+        ensures refused { IfErr result (IsUnread desc options.now (view tree.now)) }
+        ensures names { AreNamesIn (shape_of desc.pool) names.new }
+    {
         // What the tree stands for is a content that the message may hold.
         stands_sound();
         values_have_texts(tree);
@@ -50,7 +75,7 @@ impl DynamicMessage {
         };
         let _proper = schema.as_ref().shape();
         let place = desc.place(schema.as_ref());
-        match read_content(alloc, schema.as_ref(), place, tree, options) {
+        match read_content_by(names, alloc, schema.as_ref(), place, tree, options) {
             Ok(content) => match DynamicMessage::with_tree(alloc, desc, content) {
                 Some(message) => Ok(message),
                 None => Err(no_memory(alloc)),
@@ -81,7 +106,22 @@ impl DynamicMessage {
         ensures { IfOk result (λ yes. yes ≡ fits (shape_in self.now) (place_in self.now) self.now.content) }
     {
         let schema = self.desc.schema()?;
+        let mut types = TypeNames::new(alloc, schema.as_ref());
+        self.fits_levels_by(&mut types, alloc)
+    }
+
+    /// `fits_levels` by the types of the pool that were looked up before; those that a payload asks for are kept for the next message.
+    pub(crate) fn fits_levels_by(
+        &self,
+        types: &mut TypeNames,
+        alloc: Global,
+    ) -> Result<bool, NoMemory>
+        requires { AreTypesIn (shape_in self.now) types.old }
+        ensures fit { IfOk result (λ yes. yes ≡ fits (shape_in self.now) (place_in self.now) self.now.content) }
+        ensures known { AreTypesIn (shape_in self.now) types.new }
+    {
+        let schema = self.desc.schema()?;
         let place = self.desc.place(schema.as_ref());
-        content_fits(alloc, schema.as_ref(), place, &self.tree)
+        fits_by(types, alloc, schema.as_ref(), place, &self.tree)
     }
 }

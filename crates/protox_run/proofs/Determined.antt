@@ -17,6 +17,7 @@ use Rattle.protox_compile_walk.specs.Laws.{ClosesOnce}
 use Rattle.protox_compile.specs.State.{most_files}
 use Rattle.protox_compile.specs.Sets.{IsUndecodable, AreDecodable}
 use Rattle.protox_compile.specs.Compiling.{Compiles}
+use Rattle.protox_transcode.specs.Json.{json_of}
 use Rattle.protox_transcode.specs.Top.{ForFiles, IsTranscoded, Refuses}
 use Rattle.protox_transcode.proofs.Determined.{accepted_decided, accepted_alone, decodable, files_once, refuses_not, same_files}
 use Rattle.protox_transcode.specs.Top.{is_refusal}
@@ -27,7 +28,7 @@ use Rattle.protox_generate.specs.Files.{generated}
 use Rattle.protox_generate.specs.Summary.{ForTreeOf, RefusesNumber, summary}
 use Rattle.serde_json.specs.Read.{read as read_text}
 use Rattle.protox_words.specs.Words.{Args}
-use Rattle.protox_run.specs.Class.{limit, json_of, IsLibrary, LacksSet, IsStoredSet, IsNoSet, set_at, RefusedWith, RefusedSet, Transcoded, Compiled, options_of, Write, write_to, Ready, Refusing, Transcoding, Compiling, WritesSet, set_of, Generated, Generating, Task, Generate, Transcode, Compile, task, ComesTo, Judges}
+use Rattle.protox_run.specs.Class.{limit, IsLibrary, LacksSet, IsStoredSet, IsNoSet, set_at, RefusedWith, RefusedSet, Transcoded, Compiled, options_of, Write, write_to, Ready, Refusing, Transcoding, Compiling, WritesSet, set_of, Generated, Generating, Task, Generate, Transcode, Compile, task, ComesTo, Judges}
 use Rattle.protox_run.specs.Laws.{NoSetAlone}
 use Rattle.protox_run.specs.declared.stop.Refusal.{Refusal}
 use Rattle.protox_run.specs.declared.stop.Refusal.TheVariants.{TooLong, NotJson, Top}

@@ -29,6 +29,7 @@ use Rattle.protox_compile_walk.specs.Opening.{Accepted, closure}
 use Rattle.protox_compile.specs.State.{most_files}
 use Rattle.protox_compile.specs.Sets.{IsUndecodable, IsUnencodable}
 use Rattle.protox_compile.specs.Compiling.{StopsWalk, StopsCompiling, HasCompilingCause}
+use Rattle.protox_transcode.specs.Json.{json_of}
 use Rattle.protox_transcode.specs.Top.{ForFiles, IsCaused, IsTranscoded, Refuses, RefusesFiles, is_fault, is_memory, is_refusal, of_error}
 use Rattle.protox_transcode.specs.declared.error.TopError.{TopError}
 use Rattle.protox_transcode.specs.declared.error.TopError.TheVariants as top
@@ -38,7 +39,7 @@ use Rattle.protox_transcode.proofs.Judged.{compiling_caused}
 use Rattle.protox_transcode.proofs.Tries.{caused_then}
 use Rattle.protox_generate.specs.Summary.{RefusesNumber}
 use Rattle.protox_words.specs.Words.{Args, folders, retries_of}
-use Rattle.protox_run.specs.Class.{limit, json_of, folder_files, set_at, IsStoredSet, IsLibrary, LacksSet, options_of, Write, Refusing, write_to, Ending, Transcoded, RefusedWith, IsWholeError, RefusesSet, RefusedSet, set_of, Task, Generate, Transcode, Compile, task, ComesTo, Judges, is_transcode, reads_input, repeated_by, repeated_of, resolves_by, resolves_of}
+use Rattle.protox_run.specs.Class.{limit, folder_files, set_at, IsStoredSet, IsLibrary, LacksSet, options_of, Write, Refusing, write_to, Ending, Transcoded, RefusedWith, IsWholeError, RefusesSet, RefusedSet, set_of, Task, Generate, Transcode, Compile, task, ComesTo, Judges, is_transcode, reads_input, repeated_by, repeated_of, resolves_by, resolves_of}
 use Rattle.protox_run.specs.Stops.{Input, Reading, Writing, Printing, IsFaultLineBy, IsToldFaultLineBy, openings_by}
 use Rattle.protox_run.specs.Parts.{IsInputStop, IsStopOf, IsTranscodingStop, IsSetRefusal, IsJobRefusal, RefusesJob, HandsOn, IsFileStop, IsFileCause, IsReadStop, IsReadCause, IsGeneratedStop, PlanStops}
 use Rattle.protox_run.specs.declared.files.Job.{Job}

@@ -1,4 +1,3 @@
-pub mod Json
 pub mod Causes
 pub mod Endings
 pub mod Judged

@@ -1,9 +1,7 @@
 -- What arguments, a disk and an input come to: what is written and printed, or the first refusal.
-use Rattle.std.specs.Prelude.{◌≡◌, ◌⊎◌, ◌≤◌, ◌<◌, ◌∷◌, ◌++◌, [], ℕ, List, length, Bool, true, false, not, Option, Some, None, is_some, codes, if◌then◌else◌}
+use Rattle.std.specs.Prelude.{◌≡◌, ◌⊎◌, ◌≤◌, ◌<◌, ◌∷◌, ◌++◌, [], ℕ, List, length, Bool, true, false, not, Option, Some, None, is_some, codes}
 use Rattle.std.specs.List.{concat}
-use Rattle.std.specs.Str.{is_utf8}
 use Rattle.serde_json.specs.Data.{Data}
-use Rattle.serde_json.specs.Read.{read as read_text}
 use Rattle.serde_json.specs.Written.{compact_text}
 use Rattle.pbx_desc_encoding.specs.Sets.{set_meaning_of}
 use Rattle.pbx_desc_records.specs.declared.file.FileDescriptorProto.{FileDescriptorProto}
@@ -24,6 +22,7 @@ use Rattle.protox_compile_walk.specs.Walk.{Done}
 use Rattle.protox_compile.specs.Repeats.{repeats}
 use Rattle.protox_compile.specs.Sets.{listed, IsSet, AreDecodable, IsUndecodable}
 use Rattle.protox_compile.specs.Compiling.{Compiles, StopsWalk}
+use Rattle.protox_transcode.specs.Json.{json_of}
 use Rattle.protox_transcode.specs.Top.{ForFiles, IsTranscoded, Refuses, is_fault, is_refusal, top_line}
 use Rattle.protox_transcode.specs.declared.error.TopError.{TopError}
 use Rattle.protox_transcode.specs.declared.error.TopError.TheVariants as top
@@ -85,10 +84,6 @@ options_of a = record {
   use_proto_field_name = a.json.proto_names;
   skip_default_fields = not a.json.defaults;
 }
-
--- the tree of a JSON text in UTF-8 (RFC 8259), nested at most 127 deep
-abbrev pub json_of : List ℕ → Option Data
-json_of input = if is_utf8 input then read_text input else None
 
 -- the input is a JSON text of this tree
 abbrev pub ForTree : List ℕ → (Data → Type 0) → Type 0

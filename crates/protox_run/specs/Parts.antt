@@ -5,11 +5,12 @@ use Rattle.serde_json.specs.View.{view}
 use Rattle.protox_io.specs.Disk.{Volume, Held}
 use Rattle.protox_file_error.specs.Lines.{long_line_of}
 use Rattle.protox_file_sources.specs.Library.{Library}
+use Rattle.protox_transcode.specs.Json.{json_of}
 use Rattle.protox_transcode.specs.Top.{Refuses, is_fault, is_refusal, top_line}
 use Rattle.protox_transcode.specs.declared.error.TopError.{TopError}
 use Rattle.protox_transcode.specs.declared.error.TopError.TheVariants as top
 use Rattle.protox_words.specs.Words.{Args, WordFault}
-use Rattle.protox_run.specs.Class.{limit, json_of, ForTree, Write, Refusing, Judges, Transcoded, Compiled}
+use Rattle.protox_run.specs.Class.{limit, ForTree, Write, Refusing, Judges, Transcoded, Compiled}
 use Rattle.protox_run.specs.Class.{RefusesSet, IsWholeError, Transcoding, Generating, IsNoSet, ForLibrary, LacksSet, reads_input}
 use Rattle.protox_run.specs.Outcome.{Wrote, notes_of}
 use Rattle.protox_run.specs.Stops.{Input, Reading, Writing, Printing, IsToldFaultLine, IsFaultLine, IsWriteTo, openings_of, set_line}

@@ -6,7 +6,8 @@ ghost use Rattle.protox_io.specs.Count.{Rose, RoseTimes, Later};
 ghost use Rattle.serde_json.specs.View.{view};
 ghost use Rattle.protox_words.specs.Told.{args_told};
 ghost use Rattle.protox_compile.specs.Repeats.{repeats};
-ghost use Rattle.protox_run.specs.Class.{limit, json_of, reads_input, repeated_of, resolves_of};
+ghost use Rattle.protox_transcode.specs.Json.{json_of};
+ghost use Rattle.protox_run.specs.Class.{limit, reads_input, repeated_of, resolves_of};
 ghost use Rattle.protox_run.specs.Class.{Ready as IsReady, Transcoding, Generated, Judges};
 ghost use Rattle.protox_run.specs.Parts.{IsJsonStop, IsInputStop, IsInputCause, IsTranscodingStop, IsGeneratedStop, PlanStops, Caused};
 ghost use Rattle.protox_run.specs.Told.{stop_told, writes_told, line_told, Lasts};
@@ -17,6 +18,7 @@ use crate::stop::{Object, Refusal, Stop};
 use pbx_wire::{Blob, List};
 use protox_generate::transcode_generated;
 use protox_io::{Disk, ReadFault, Source, read_to_end};
+use protox_transcode::read_json_text;
 use protox_words::Args;
 use serde_json::Value;
 use std::alloc::Global;
@@ -44,15 +46,10 @@ fn read_json<'w>(alloc: Global, input: &[u8]) -> Result<Value, Stop<'w>>
     ensures ok { IfOk result (λ tree. json_of input.now ≡ Some (view tree)) }
     ensures stop { IfErr result (λ stop. IsJsonStop input.now (stop_told stop)) }
 {
-    match Value::from_slice(alloc, input) {
-        Ok(tree) => Ok(tree),
-        Err(error) => {
-            if error.is_memory() {
-                Err(Stop::NoMemory)
-            } else {
-                Err(Stop::Refused(Refusal::NotJson))
-            }
-        }
+    match read_json_text(alloc, input) {
+        Ok(Some(tree)) => Ok(tree),
+        Ok(None) => Err(Stop::Refused(Refusal::NotJson)),
+        Err(_) => Err(Stop::NoMemory),
     }
 }
 

@@ -5,3 +5,4 @@ pub mod Determined
 pub mod Refused
 pub mod Again
 pub mod Tries
+pub mod JsonText

@@ -1,12 +1,19 @@
--- The line of a fault of a tree.
-use Rattle.std.specs.Prelude.{ℕ, List, [], ◌∷◌, ◌++◌, codes}
+-- The tree of a JSON text, and the line of a fault of a tree.
+use Rattle.std.specs.Prelude.{ℕ, List, [], ◌∷◌, ◌++◌, codes, Option, None, if◌then◌else◌}
 use Rattle.std.specs.List.{flat_map}
 use Rattle.std.specs.Fmt.{decimal}
+use Rattle.std.specs.Str.{is_utf8}
+use Rattle.serde_json.specs.Data.{Data}
+use Rattle.serde_json.specs.Read.{read as read_text}
 use Rattle.pbx_json_meaning.specs.declared.error.JsonError.{JsonError}
 use Rattle.pbx_json_meaning.specs.declared.kind.JsonKind.{JsonKind}
 use Rattle.pbx_json_meaning.specs.declared.kind.JsonKind.TheVariants as kind
 use Rattle.pbx_json_meaning.specs.declared.place.Step.{Step}
 use Rattle.pbx_json_meaning.specs.declared.place.Step.TheVariants.{Key, Index}
+
+-- the tree of a JSON text in UTF-8 (RFC 8259), nested at most 127 deep
+abbrev pub json_of : List ℕ → Option Data
+json_of input = if is_utf8 input then read_text input else None
 
 -- what is wrong at the place
 abbrev pub kind_text : JsonKind → List ℕ

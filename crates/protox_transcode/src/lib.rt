@@ -6,11 +6,14 @@ mod input_tree;
 mod json_line;
 mod laws;
 mod set;
+mod text;
 mod transcode;
 
 pub use error::{TopError, file_error};
 pub use input_tree::InputTree;
 pub use laws::{refused_is_determined, transcoded_is_determined, transcodes_again};
+pub use text::read_json_text;
 pub use transcode::{
-    Attempt, Transcoded, compile_and_transcode, compile_and_transcode_retry, transcode_files,
+    Attempt, Transcoded, check_clear, compile_and_transcode, compile_and_transcode_retry,
+    transcode_files,
 };

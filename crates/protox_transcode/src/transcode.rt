@@ -142,7 +142,9 @@ fn transcode_as(
 }
 
 /// Refuses a pool of which a message's JSON has a key with two meanings, or a message of a well-known name has not its shape.
-fn check_clear(alloc: Global, pool: &DescriptorPool) -> Result<(), TopError>
+///
+/// The errors are `JsonNames`, `WellKnownShape` and `NoMemory`.
+pub fn check_clear(alloc: Global, pool: &DescriptorPool) -> Result<(), TopError>
     ensures ok { OnOk result (IsClear (shape_of pool.now)) }
     ensures err { IfErr result (IsNotClear pool.now) }
 {

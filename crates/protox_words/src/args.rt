@@ -24,7 +24,7 @@ pub struct Args<'w> {
     pub include_source_info: bool,
     /// The path of the set that the files come from, in place of folders.
     pub descriptor_set_in: Option<&'w str>,
-    /// How often a path is opened again where the host refuses it, from 0 to 1000.
+    /// How often a path is opened again where a fault of the disk, or want of memory, ended its opening, from 0 to 1000.
     pub retries: Option<u16>,
     /// The name of the type of a message on the input.
     pub type_name: Option<&'w str>,
@@ -67,7 +67,7 @@ impl<'w> Args<'w> {
         Ok(folders)
     }
 
-    /// How often a path is opened again where the host refuses it: never where nothing is said of it.
+    /// How often a path is opened again where a fault of the disk, or want of memory, ended its opening: never where nothing is said of it.
     pub fn retries(&self) -> u32
         ensures { result ≡ retries_of (args_told self.now) }
     {

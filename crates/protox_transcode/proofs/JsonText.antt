@@ -4,7 +4,7 @@ use Rattle.std.specs.Str.{IsUtf8, is_utf8}
 use Rattle.std.proofs.lemmas.Str.{is_utf8-from_IsUtf8, IsUtf8-from_is_utf8}
 use Rattle.serde_json.specs.Data.{Data}
 use Rattle.serde_json.specs.Read.{read as read_text}
-use Rattle.protox_run.specs.Class.{json_of}
+use Rattle.protox_transcode.specs.Json.{json_of}
 
 pub json_some : (input : List ℕ) (d : Data) → IsUtf8 input → read_text input ≡ Some d → json_of input ≡ Some d
 json_some input d u h = rw (is_utf8-from_IsUtf8 input u) h

@@ -3,7 +3,7 @@ use Rattle.serde_json.specs.View.{view}
 use Rattle.pbx_json_reading.proofs.Members.{told_content, told_nothing, told_first}
 use Rattle.pbx_json_reading.proofs.Answered.{ok_told, err_told}
 use Rattle.pbx_content_codec.specs.View.{content_of}
-use Rattle.pbx_json_reading.proofs.read.read_content.Goals as goal
+use Rattle.pbx_json_reading.proofs.read.read_content_by.Goals as goal
 
 pub returns-clause-stands : goal.returns-clause-stands
 returns-clause-stands c =
