@@ -10,5 +10,6 @@ mod stop;
 mod top;
 
 pub use laws::{done_is_determined, stopped_run_leaves};
+pub use report::say;
 pub use stop::Refusal;
 pub use top::{Ran, run};

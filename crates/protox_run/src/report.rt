@@ -14,9 +14,9 @@ use pbx_wire::Text;
 use protox_io::{Sink, SinkError, write_line};
 use protox_words::WordFault;
 
-/// Writes the line of an error; a refused write ends it.
+/// Writes `error: `, the line, with invisible characters as escapes, and a line feed. A refused write ends it; it takes no memory.
 #[tactic(auto, unfolding(crate::specs::Outcome::error_line))]
-fn say<E: Sink>(err: &mut E, line: &str)
+pub fn say<E: Sink>(err: &mut E, line: &str)
     ensures said { Says (E.output err.old).tells (SinkRefuses (Rose (E.count err.old) (E.count err.new)) (E.output err.new).short) (E.output err.old).held
         (E.output err.new).held (error_line (line.now ∷ [])) }
     ensures lasts { Lasts (E.output err.old).tells (E.output err.new).tells (E.count err.old) (E.count err.new) }

@@ -65,8 +65,8 @@ fn place_text(alloc: Global, steps: &[Step]) -> Result<String, NoMemory>
     Ok(place)
 }
 
-/// The place of the fault, and what is wrong there.
-pub(crate) fn json_line(alloc: Global, error: &JsonError) -> Result<Text, NoMemory>
+/// The place of the fault, and what is wrong there, in one line where no key in it has a line feed. The only error is want of memory.
+pub fn json_line(alloc: Global, error: &JsonError) -> Result<Text, NoMemory>
     ensures { IfOk result (λ line. line ≡ concat (json_line_of error.now)) }
 {
     let place = place_text(alloc, error.place.as_slice())?;
