@@ -5,7 +5,7 @@ ghost use Rattle.std.specs.List.{concat};
 ghost use Rattle.protox_file_error.specs.Errors.{IsWhole};
 ghost use Rattle.protox_transcode.specs.Top.{top_line, is_refusal, is_fault, is_memory, of_error, of_json, of_names};
 
-use crate::json_line::json_line;
+use crate::json_fault::json_line;
 use pbx_json::{JsonError, JsonKind, NameFault};
 use pbx_wire::{NoMemory, Text};
 use protox_file_sources::{Error, ErrorKind};

@@ -3,7 +3,7 @@
 
 mod error;
 mod input_tree;
-mod json_line;
+mod json_fault;
 mod laws;
 mod set;
 mod text;
@@ -11,7 +11,7 @@ mod transcode;
 
 pub use error::{TopError, file_error};
 pub use input_tree::InputTree;
-pub use json_line::json_line;
+pub use json_fault::json_line;
 pub use laws::{refused_is_determined, transcoded_is_determined, transcodes_again};
 pub use text::read_json_text;
 pub use transcode::{
