@@ -1,0 +1,11 @@
+pub mod Items
+pub mod Told
+pub mod Cutting
+pub mod Writing
+pub mod Lines
+pub mod Pieces
+pub mod Shown
+pub mod LineLaws
+pub mod Records
+pub mod RecordLaws
+pub mod Laws
