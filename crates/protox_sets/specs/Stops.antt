@@ -26,7 +26,8 @@ IsSetStop disk path (Refused line) = IsRefusedSet disk path line
 IsSetStop disk path (Broken line) = line ≡ unread_line path
 IsSetStop disk path NoMemory = Unit {0}
 
--- what failed has a cause, and nothing else has
-abbrev pub IsStopCause : Type 0 → Stop → Type 0
-IsStopCause rose (Broken line) = rose
-IsStopCause rose stop = Unit {0}
+-- reading a set at the path failed, by this cause, and the line says so; words are no cause
+abbrev pub IsStopCause : List ℕ → Type 0 → Stop → Type 0
+IsStopCause path rose (Broken line) = rose × (line ≡ unread_line path)
+IsStopCause path rose Usage = ⊥
+IsStopCause path rose stop = Unit {0}

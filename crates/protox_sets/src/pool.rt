@@ -73,7 +73,7 @@ fn pool_of(alloc: Global, path: &str, bytes: &[u8]) -> Result<DescriptorPool, St
 pub fn read_pool<D: Disk>(alloc: Global, disk: &mut D, path: &str) -> Result<DescriptorPool, Stop>
     ensures pool { IsTrue (D.volume disk.old).tells → IfOk result (HasPool (D.volume disk.old) path.now) }
     ensures stop { IsTrue (D.volume disk.old).tells → IfErr result (IsSetStop (D.volume disk.old) path.now) }
-    ensures cause { IfErr result (IsStopCause (Rose (D.count disk.old) (D.count disk.new))) }
+    ensures cause { IfErr result (IsStopCause path.now (Rose (D.count disk.old) (D.count disk.new))) }
     ensures later { Later (D.count disk.old) (D.count disk.new) }
     ensures keeps { D.volume disk.new ≡ D.volume disk.old }
 {
